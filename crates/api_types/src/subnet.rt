@@ -1,0 +1,95 @@
+ghost use Rattle.std.specs.Prelude.{◌≡◌};
+
+use crate::id::Id;
+use crate::table::Keyed;
+use net_addr::{Addr4, Copies, OutOfMemory, Prefix4, Same, Seq, Spans, Text};
+use std::alloc::Global;
+
+/// A static route: what is sent to the destination goes by the next hop.
+#[derive(Clone, Copy, Debug, PartialEq, Eq)]
+pub struct Hop {
+    pub destination: Prefix4,
+    pub next: Addr4,
+}
+
+/// Static routes in a row.
+pub type Routes = Seq<Hop>;
+
+impl Copies for Hop {
+    fn copy(&self, _alloc: Global) -> Result<Hop, OutOfMemory> {
+        Ok(*self)
+    }
+}
+
+impl Same for Hop {
+    fn is_same(&self, other: &Hop) -> bool {
+        *self == *other
+    }
+}
+
+/// A subnet of a network.
+#[derive(Drop)]
+pub struct SubnetRow {
+    pub id: Id,
+    /// The name of the project that owns it.
+    pub project: Text,
+    pub network: Id,
+    /// At most 255 characters.
+    pub name: Text,
+    /// At most 255 characters.
+    pub description: Text,
+    /// Of length 1 to 30.
+    pub prefix: Prefix4,
+    /// The default gateway that its ports are told.
+    pub gateway: Option<Addr4>,
+    /// The addresses that are given without being asked for, at most 20 spans.
+    pub pools: Spans,
+    /// Whether its addresses are leased by DHCP.
+    pub dhcp: bool,
+    /// At most 5 name servers.
+    pub dns: Seq<Addr4>,
+    /// At most 20 routes that its ports are told.
+    pub host_routes: Routes,
+}
+
+impl Copies for SubnetRow {
+    fn copy(&self, alloc: Global) -> Result<SubnetRow, OutOfMemory> {
+        Ok(SubnetRow {
+            id: self.id,
+            project: self.project.copy(alloc)?,
+            network: self.network,
+            name: self.name.copy(alloc)?,
+            description: self.description.copy(alloc)?,
+            prefix: self.prefix,
+            gateway: self.gateway,
+            pools: self.pools.copy(alloc)?,
+            dhcp: self.dhcp,
+            dns: self.dns.copy(alloc)?,
+            host_routes: self.host_routes.copy(alloc)?,
+        })
+    }
+}
+
+impl Same for SubnetRow {
+    fn is_same(&self, other: &SubnetRow) -> bool {
+        self.id == other.id
+            && self.project.is_same(&other.project)
+            && self.network == other.network
+            && self.name.is_same(&other.name)
+            && self.description.is_same(&other.description)
+            && self.prefix == other.prefix
+            && self.gateway.is_same(&other.gateway)
+            && self.pools.is_same(&other.pools)
+            && self.dhcp == other.dhcp
+            && self.dns.is_same(&other.dns)
+            && self.host_routes.is_same(&other.host_routes)
+    }
+}
+
+impl Keyed for SubnetRow {
+    ghost id_of = { λ r. r.id };
+
+    fn id(&self) -> Id {
+        self.id
+    }
+}

@@ -1,0 +1,113 @@
+ghost use Rattle.std.specs.Prelude.{◌≡◌, ◌<◌, ◌≤◌, None, [], ◌∷◌, ◌++◌, length, slice_get, slice_set, insert, remove, option_copied, IfOk, OnOk, OnErr};
+ghost use Rattle.api_types.specs.Ident.{Ident};
+ghost use Rattle.api_types.specs.Table.{row_of, HaveOwnIds};
+
+use crate::id::Id;
+use indexmap::IndexMap;
+use net_addr::{Copies, OutOfMemory};
+use std::alloc::Global;
+use std::marker::Model;
+
+/// A row with an id of its own.
+pub trait Keyed: Copies {
+    ghost id_of: { Self → Ident };
+
+    /// The id by which the row is found.
+    fn id(&self) -> Id
+        ensures { result ≡ id_of self.now };
+}
+
+/// The rows of one kind. Contracts see them as a list in order of creation.
+#[derive(Drop)]
+pub struct Table<R: Keyed> {
+    by_id: IndexMap<Id, R>,
+}
+
+impl<R: Keyed> Model for Table<R> {
+    ghost use Rattle.std.specs.Prelude.{◌≡◌, List};
+    ghost use Rattle.indexmap.specs.IndexMap.{values};
+    ghost use Rattle.api_types.specs.Table.{entries_of};
+
+    ghost Value = { List R };
+
+    ghost view = { λ t. values t.by_id };
+
+    ghost invariant = { λ t. t.by_id.entries ≡ entries_of R.id_of (values t.by_id) };
+}
+
+impl<R: Keyed> Table<R> {
+    /// A table without rows.
+    pub fn new(alloc: Global) -> Table<R>
+        ensures { result ≡ [] }
+    {
+        Table {
+            by_id: IndexMap::new(alloc),
+        }
+    }
+
+    /// The rows, in order of creation.
+    pub fn rows(&self) -> &[R]
+        ensures rows { result.now ≡ self.now }
+        ensures own_ids { HaveOwnIds R.id_of self.now }
+    {
+        self.by_id.as_slice().values().as_slice()
+    }
+
+    /// The row with this id. Its cost is the same however many rows there are.
+    pub fn get(&self, id: Id) -> Option<&R>
+        ensures { option_copied result ≡ row_of R.id_of id self.now }
+    {
+        self.by_id.get(&id)
+    }
+
+    /// Adds a row with a new id, last, or leaves all as it is.
+    pub(crate) fn push(&mut self, row: R) -> Result<(), OutOfMemory>
+        requires { row_of R.id_of (R.id_of row) self.old ≡ None }
+        ensures ok { OnOk result (self.new ≡ self.old ++ row ∷ []) }
+        ensures err { OnErr result (self.new ≡ self.old) }
+    {
+        self.by_id.insert(row.id(), row)?;
+        Ok(())
+    }
+
+    /// Adds a row with a new id at a place, or leaves all as it is. Its cost grows with the rows
+    /// behind it.
+    pub(crate) fn insert(&mut self, place: usize, row: R) -> Result<(), OutOfMemory>
+        requires within { place ≤ length self.old }
+        requires new_id { row_of R.id_of (R.id_of row) self.old ≡ None }
+        ensures ok { OnOk result (self.new ≡ insert self.old place row) }
+        ensures err { OnErr result (self.new ≡ self.old) }
+    {
+        self.by_id.shift_insert(place, row.id(), row)?;
+        Ok(())
+    }
+
+    /// Puts a row in the place of one with the same id.
+    pub(crate) fn set(&mut self, place: usize, row: R)
+        requires within { place < length self.old }
+        requires same_id { (r : R) → slice_get self.old place ≡ Some r → R.id_of row ≡ R.id_of r }
+        ensures { self.new ≡ slice_set self.old place row }
+    {
+        if let Some(value) = self.by_id.get_index_mut(place) {
+            *value = row;
+        }
+    }
+
+    /// Takes the row at a place out. The rest closes up, at a cost that grows with it.
+    pub(crate) fn remove(&mut self, place: usize)
+        requires { place < length self.old }
+        ensures { self.new ≡ remove self.old place }
+    {
+        let _ = self.by_id.shift_remove_index(place);
+    }
+}
+
+impl<R: Keyed> Copies for Table<R> {
+    fn copy(&self, alloc: Global) -> Result<Table<R>, OutOfMemory> {
+        let mut copied = Table::new(alloc);
+        for row in self.rows() {
+            copied.push(row.copy(alloc)?)?;
+        }
+        Ok(copied)
+    }
+}
