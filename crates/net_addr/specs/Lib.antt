@@ -1,1 +1,3 @@
+pub mod Macs
 pub mod Prefixes
+pub mod Spans

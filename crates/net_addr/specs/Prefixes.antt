@@ -1,5 +1,5 @@
 -- Prefixes of IPv4 addresses, which are numbers of 32 bits (RFC 4632; RFC 4291 says the same of 128).
-use Rattle.std.specs.Prelude.{◌≡◌, ℕ, ◌-◌, ◌/◌, ◌%◌, ◌^◌, ◌≤◌}
+use Rattle.std.specs.Prelude.{◌≡◌, ℕ, ◌+◌, ◌-◌, ◌*◌, ◌/◌, ◌%◌, ◌^◌, ◌≤◌, ◌==◌, ◌&&◌, ◌||◌, not, Bool}
 
 -- an address and a length, as written
 pub record Written : Type 0 where
@@ -23,3 +23,31 @@ IsPrefix p = (p.len ≤ 32) × (p.base % 2 ^ (32 - p.len) ≡ 0)
 -- x and the base have equal quotients by 2^(32 - length)
 abbrev pub Contains : Prefix → ℕ → Type 0
 Contains p x = x / 2 ^ (32 - p.len) ≡ p.base / 2 ^ (32 - p.len)
+
+-- whether `Contains` holds
+unfoldable pub contains : Prefix → ℕ → Bool
+contains p x = (x / 2 ^ (32 - p.len)) == (p.base / 2 ^ (32 - p.len))
+
+-- the least address of a prefix
+abbrev pub first_address : Prefix → ℕ
+first_address p = p.base
+
+-- the greatest address of a prefix
+unfoldable pub last_address : Prefix → ℕ
+last_address p = p.base + (2 ^ (32 - p.len) - 1)
+
+-- whether x is a host address: the prefix contains it, and it is neither the least nor the greatest
+unfoldable pub is_host_of : Prefix → ℕ → Bool
+is_host_of p x = contains p x && not (x == first_address p) && not (x == last_address p)
+
+-- whether one of the two has the other's base, which is where some address is in both
+unfoldable pub overlaps : Prefix → Prefix → Bool
+overlaps p q = contains p q.base || contains q p.base
+
+-- the address with its bits behind the length cleared
+unfoldable pub prefix_of : Written → Prefix
+prefix_of w = record { base = (w.addr / 2 ^ (32 - w.len)) * 2 ^ (32 - w.len); len = w.len }
+
+-- whether the bits behind the length are zero
+unfoldable pub is_exact : Written → Bool
+is_exact w = (w.addr % 2 ^ (32 - w.len)) == 0

@@ -8,6 +8,7 @@
 mod address;
 mod equal;
 mod memory;
+mod prefix;
 mod seq;
 mod text;
 
