@@ -101,6 +101,7 @@ new_again {R} part id_of now item row came old gone = by (option_and_then part i
     none_left : (o : Option Row) → is_some o ≡ false → option_and_then part o ≡ None
     none_left None e = refl
     none_left (Some x) e = cc
+
     by : (b a : Option R) → b ≡ Some row → a ≡ None → FitsAt id_of came.rows item.place b a → now ≡ edited_at came.rows item.place b a → row_of id_of (id_of row) now ≡ None
     by None a e f fits is = cc
     by (Some x) (Some y) e f fits is = cc

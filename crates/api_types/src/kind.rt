@@ -1,3 +1,6 @@
+ghost use Rattle.std.specs.Prelude.{◌≡◌};
+ghost use Rattle.api_types.specs.Titles.{title_of};
+
 use crate::floating::FloatingRow;
 use crate::group::{GroupRow, RuleRow};
 use crate::network::NetworkRow;
@@ -33,4 +36,23 @@ pub enum Row {
     Router(RouterRow),
     Floating(FloatingRow),
     Policy(PolicyRow),
+}
+
+impl Kind {
+    /// The word by which messages name a row of this kind.
+    pub fn title(self) -> &'static str
+        ensures { result.now ≡ title_of self }
+    {
+        match self {
+            Kind::Project => "Project",
+            Kind::Network => "Network",
+            Kind::Subnet => "Subnet",
+            Kind::Port => "Port",
+            Kind::Group => "SecurityGroup",
+            Kind::Rule => "SecurityGroupRule",
+            Kind::Router => "Router",
+            Kind::Floating => "FloatingIP",
+            Kind::Policy => "RbacPolicy",
+        }
+    }
 }

@@ -29,9 +29,7 @@ impl Copies for ProjectRow {
 
 impl Same for ProjectRow {
     fn is_same(&self, other: &ProjectRow) -> bool {
-        self.name.is_same(&other.name)
-            && self.ordinal == other.ordinal
-            && self.count == other.count
+        self.name.is_same(&other.name) && self.ordinal == other.ordinal && self.count == other.count
     }
 }
 

@@ -6,5 +6,5 @@ use Rattle.api_types.proofs.rows.Rows.undo_items.Given as goal
 abbrev pub invariant-loop-i : goal.invariant-loop-i
 invariant-loop-i l = record {
   came : CameBy l.self (take (length l.items - l.i) l.items);
-  leads : before l.self (take (length l.items - l.i) l.items) ≡ before l.fn.self l.items
+  leads : before l.self (take (length l.items - l.i) l.items) ≡ before l.fn.self l.items;
 }

@@ -10,14 +10,14 @@ pub shift_insert-requires-clause-below_len : goal.shift_insert-requires-clause-b
 shift_insert-requires-clause-below_len g c = λ h.
     let before = c.self.invariant ∙ ap (entries_of g.R.Keyed.id_of) c.self.view_is in
     let free : get ident_eq c.self.inside.by_id c.id.result ≡ None =
-      ap (lookup (ident_eq c.id.result)) before ∙ lookup-entries_of g.R.Keyed.id_of (ident_eq c.id.result) _ ∙ ap (λ i. row_of g.R.Keyed.id_of i c.args.self.now) c.id.ensures ∙ c.requires.new_id in
+    ap (lookup (ident_eq c.id.result)) before ∙ lookup-entries_of g.R.Keyed.id_of (ident_eq c.id.result) _ ∙ ap (λ i. row_of g.R.Keyed.id_of i c.args.self.now) c.id.ensures ∙ c.requires.new_id in
     absurd (true≢false (sym h ∙ ap is_some free))
 
 now_kept : (g : _) (c : goal.Joined-branch-2 g) → c.shift_insert.new.self.entries ≡ entries_of g.R.Keyed.id_of (insert c.args.self.now c.args.place c.args.row)
 now_kept g c =
     let before = c.self.invariant ∙ ap (entries_of g.R.Keyed.id_of) c.self.view_is in
     let free : get ident_eq c.self.inside.by_id c.id.result ≡ None =
-      ap (lookup (ident_eq c.id.result)) before ∙ lookup-entries_of g.R.Keyed.id_of (ident_eq c.id.result) _ ∙ ap (λ i. row_of g.R.Keyed.id_of i c.args.self.now) c.id.ensures ∙ c.requires.new_id in
+    ap (lookup (ident_eq c.id.result)) before ∙ lookup-entries_of g.R.Keyed.id_of (ident_eq c.id.result) _ ∙ ap (λ i. row_of g.R.Keyed.id_of i c.args.self.now) c.id.ensures ∙ c.requires.new_id in
     c.in_ok-shift_insert.ensures.entries ∙ put_back_at ident_eq c.self.inside.by_id _ _ c.args.place free ∙ (λ j. insert (before j) c.args.place (c.id.ensures j, c.args.row)) ∙ insert-entries_of g.R.Keyed.id_of _ c.args.place c.args.row
 
 pub invariant_of-self-2 : goal.invariant_of-self-2
