@@ -32,12 +32,16 @@ is_ethertype _ _ = false
 abbrev pub prefix_eq : Prefix → Prefix → Bool
 prefix_eq p q = (p.base == q.base) && (p.len == q.len)
 
+-- whether what a rule says of packets is the same
+abbrev pub same_match : RuleRow → RuleRow → Bool
+same_match a b =
+    option_eq (λ x y. x == y) a.protocol b.protocol && option_eq (λ x y. x == y) a.low b.low && option_eq (λ x y. x == y) a.high b.high
+    && option_eq prefix_eq a.remote_prefix b.remote_prefix && option_eq ident_eq a.remote_group b.remote_group
+
 -- two rules are equal where all parts but id and description are equal
 abbrev pub same_rule : RuleRow → RuleRow → Bool
 same_rule a b =
-    ident_eq a.group b.group && bytes_eq a.project b.project && is_direction a.direction b.direction && is_ethertype a.ethertype b.ethertype
-    && option_eq (λ x y. x == y) a.protocol b.protocol && option_eq (λ x y. x == y) a.low b.low && option_eq (λ x y. x == y) a.high b.high
-    && option_eq prefix_eq a.remote_prefix b.remote_prefix && option_eq ident_eq a.remote_group b.remote_group
+    ident_eq a.group b.group && (bytes_eq a.project b.project && (is_direction a.direction b.direction && (is_ethertype a.ethertype b.ethertype && same_match a b)))
 
 abbrev pub rules_clash : RuleRow → RuleRow → Bool
 rules_clash a b = not (ident_eq a.id b.id) && same_rule a b

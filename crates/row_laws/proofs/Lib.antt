@@ -1,0 +1,9 @@
+pub mod ListLemmas
+pub mod NameLemmas
+pub mod IdLemmas
+pub mod NetworkPushed
+pub mod RulePushed
+pub mod CountRaised
+pub mod ProjectRegistered
+pub mod DrawnKept
+pub mod NetworkCreated

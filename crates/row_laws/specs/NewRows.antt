@@ -1,0 +1,62 @@
+-- Rows with one more, last in the list of its kind, and what has to hold of it.
+use Rattle.std.specs.Prelude.{◌≡◌, ◌<◌, List, [], ◌∷◌, ◌++◌, true, false, length, count_by}
+use Rattle.api_types.specs.Lists.{Each, if_some}
+use Rattle.api_types.specs.RowLists.{RowLists}
+use Rattle.api_types.specs.Consistent.Numbered.{times_in, is_drawn}
+use Rattle.api_types.specs.Consistent.Named.{is_registered}
+use Rattle.api_types.specs.Consistent.InForm.{is_segment, is_group_of}
+use Rattle.api_types.specs.Consistent.Segments.{same_segment, most_networks}
+use Rattle.api_types.specs.Consistent.Groups.{same_rule}
+use Rattle.api_types.specs.declared.network.NetworkRow.{NetworkRow}
+use Rattle.api_types.specs.declared.network.Segment.{Segment}
+use Rattle.api_types.specs.declared.subnet.SubnetRow.{SubnetRow}
+use Rattle.api_types.specs.declared.port.PortRow.{PortRow}
+use Rattle.api_types.specs.declared.group.GroupRow.{GroupRow}
+use Rattle.api_types.specs.declared.group.RuleRow.{RuleRow}
+use Rattle.api_types.specs.declared.router.RouterRow.{RouterRow}
+use Rattle.api_types.specs.declared.floating.FloatingRow.{FloatingRow}
+use Rattle.api_types.specs.declared.policy.PolicyRow.{PolicyRow}
+
+abbrev pub with_network : RowLists → NetworkRow → RowLists
+with_network rows r = record rows { networks = rows.networks ++ r ∷ [] }
+
+abbrev pub with_subnet : RowLists → SubnetRow → RowLists
+with_subnet rows r = record rows { subnets = rows.subnets ++ r ∷ [] }
+
+abbrev pub with_port : RowLists → PortRow → RowLists
+with_port rows r = record rows { ports = rows.ports ++ r ∷ [] }
+
+abbrev pub with_group : RowLists → GroupRow → RowLists
+with_group rows r = record rows { groups = rows.groups ++ r ∷ [] }
+
+abbrev pub with_rule : RowLists → RuleRow → RowLists
+with_rule rows r = record rows { rules = rows.rules ++ r ∷ [] }
+
+abbrev pub with_router : RowLists → RouterRow → RowLists
+with_router rows r = record rows { routers = rows.routers ++ r ∷ [] }
+
+abbrev pub with_floating : RowLists → FloatingRow → RowLists
+with_floating rows r = record rows { floatings = rows.floatings ++ r ∷ [] }
+
+abbrev pub with_policy : RowLists → PolicyRow → RowLists
+with_policy rows r = record rows { policies = rows.policies ++ r ∷ [] }
+
+-- a segment that no network has
+abbrev pub IsAlone : List NetworkRow → Segment → Type 0
+IsAlone networks own = (segment : Segment) → same_segment segment own ≡ true → count_by (λ n. same_segment segment n.segment) networks ≡ 0
+
+pub record IsNewNetwork (rows : RowLists) (n : NetworkRow) : Type 0 where
+  pub fresh : times_in rows n.id ≡ 0
+  pub drawn : is_drawn rows.projects n.id ≡ true
+  pub project : is_registered rows.projects n.project ≡ true
+  pub segment : is_segment n.segment ≡ true
+  pub alone : IsAlone rows.networks n.segment
+  pub few : length rows.networks < most_networks
+
+pub record IsNewRule (rows : RowLists) (r : RuleRow) : Type 0 where
+  pub fresh : times_in rows r.id ≡ 0
+  pub drawn : is_drawn rows.projects r.id ≡ true
+  pub project : is_registered rows.projects r.project ≡ true
+  pub group : is_group_of rows.groups r.project r.group ≡ true
+  pub remote : if_some (is_group_of rows.groups r.project) r.remote_group ≡ true
+  pub unlike : Each (λ q. (same_rule q r ≡ false) × (same_rule r q ≡ false)) rows.rules
