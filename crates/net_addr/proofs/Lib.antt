@@ -1,1 +1,4 @@
 pub mod PrefixLemmas
+pub mod PrintLemmas
+pub mod ReadingLemmas
+pub mod SpellingLemmas

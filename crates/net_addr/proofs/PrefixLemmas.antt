@@ -1,13 +1,13 @@
 -- What the prefix calls need of quotients by a power of two.
-use Rattle.std.proofs.Common.{◌≡◌, ℕ, suc, ◌+◌, ◌-◌, ◌*◌, ◌/◌, ◌%◌, ◌^◌, ◌<◌, ◌≤◌, ◌⊎◌, inl, inr, Bool, true, false, not, ◌&&◌, ◌||◌, ◌==◌, nat_lt, nat_le, max, Decides, refl, arith, sym, subst, ap, ◌∙◌}
+use Rattle.std.proofs.Common.{◌≡◌, ℕ, suc, ◌+◌, ◌-◌, ◌*◌, ◌/◌, ◌%◌, ◌^◌, ◌<◌, ◌≤◌, ◌⊎◌, inl, inr, true, false, max, Decides, arith, sym, subst, ap, ◌∙◌}
 use Rattle.std.proofs.Math.Nat.{mod-lt, mul-le-mul_right, mul-mod_left, le_of_lt}
 use Rattle.std.proofs.lemmas.Nat.{pow_pos}
-use Rattle.std.proofs.Math.Pow.{shr_lt, split, high, ones_lt, suc_ones, shl_lt, shr-shr, pow-add}
+use Rattle.std.proofs.Math.Pow.{shr_lt, split, high, ones_lt, shr-shr, pow-add}
 use Rattle.std.proofs.Math.Pow.{pow_mono}
 use Rattle.std.proofs.lemmas.Bool.{cases_lt}
-use Rattle.std.proofs.lemmas.Bool.Decides.{Decides-eqb, Decides-and, Decides-not, Decides-like, Decides-ltb, same_from_decides, nat_tests}
-use Rattle.net_addr.specs.Prefixes.{Prefix, Span, IsPrefix, Contains, contains, first_address, last_address, is_host_of, overlaps}
-use Rattle.net_addr.specs.Spans.{is_within, are_apart}
+use Rattle.std.proofs.lemmas.Bool.Decides.{Decides-eqb, Decides-and, Decides-not, Decides-like, same_from_decides, nat_tests}
+use Rattle.net_addr.specs.Prefixes.{Prefix, Span, IsPrefix, Contains, contains, last_address, is_host_of}
+use Rattle.net_addr.specs.Spans.{is_within}
 
 -- a base without bits below k is its quotient times 2^k
 pub whole : (base k : ℕ) → base % 2 ^ k ≡ 0 → base ≡ (base / 2 ^ k) * 2 ^ k

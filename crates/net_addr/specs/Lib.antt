@@ -1,3 +1,5 @@
 pub mod Macs
 pub mod Prefixes
+pub mod Reading
 pub mod Spans
+pub mod Spelling

@@ -1,5 +1,5 @@
-use Rattle.std.proofs.Common.{◌≡◌, ℕ, ◌+◌, ◌≤◌, ap, subst, arith}
-use Rattle.net_addr.specs.Prefixes.{Prefix, IsPrefix, last_address}
+use Rattle.std.proofs.Common.{◌≡◌, ap, subst, arith}
+use Rattle.net_addr.specs.Prefixes.{Prefix, IsPrefix}
 use Rattle.net_addr.proofs.PrefixLemmas.{hosts_room, hosts_within, no_hosts}
 use Rattle.net_addr.proofs.address.Prefix4.hosts.Goals as goal
 

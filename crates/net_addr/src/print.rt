@@ -1,0 +1,75 @@
+ghost use Rattle.std.specs.Prelude.{◌≡◌, IfOk};
+ghost use Rattle.net_addr.specs.Spelling.{SpellsAddress, SpellsMac, SpellsCidr, address_text, mac_text, prefix_text};
+
+use crate::address::{Addr4, Mac, Prefix4};
+use crate::memory::OutOfMemory;
+use crate::text::Text;
+use std::alloc::Global;
+
+impl Addr4 {
+    /// The four bytes in decimal with dots between them, which `Addr4::read` reads back.
+    #[tactic(auto, unfolding(crate::specs::Spelling::address_text))]
+    pub fn print(self, alloc: Global) -> Result<Text, OutOfMemory>
+        ensures text { IfOk result (λ t. t ≡ address_text self) }
+        ensures spelled { IfOk result (λ t. SpellsAddress t self) }
+    {
+        let [a, b, c, d] = self.0.to_be_bytes();
+        Ok(Text::from_string(format!(in alloc; "{a}.{b}.{c}.{d}")?))
+    }
+}
+
+impl Mac {
+    /// The six bytes in lower-case hexadecimal digits with colons between them, which `Mac::read`
+    /// reads back.
+    #[tactic(auto, using(std::proofs::lemmas::Fmt::hex_byte), unfolding(crate::specs::Spelling::mac_text))]
+    pub fn print(self, alloc: Global) -> Result<Text, OutOfMemory>
+        ensures text { IfOk result (λ t. t ≡ mac_text self) }
+        ensures spelled { IfOk result (λ t. SpellsMac t self) }
+    {
+        let [_, _, a, b, c, d, e, f] = self.0.to_be_bytes();
+        let text = format!(in alloc; "{a:02x}:{b:02x}:{c:02x}:{d:02x}:{e:02x}:{f:02x}")?;
+        Ok(Text::from_string(text))
+    }
+}
+
+impl Prefix4 {
+    /// The base, `/` and the length, which `Cidr::read` reads back.
+    #[tactic(auto, unfolding(crate::specs::Spelling::prefix_text))]
+    pub fn print(self, alloc: Global) -> Result<Text, OutOfMemory>
+        ensures text { IfOk result (λ t. t ≡ prefix_text self) }
+        ensures spelled { IfOk result (λ t. SpellsCidr t (record { addr = self.base; len = self.len })) }
+    {
+        let base = self.base.print(alloc)?;
+        let text = format!(in alloc; "{}/{}", base.as_str(), self.len)?;
+        Ok(Text::from_string(text))
+    }
+}
+
+#[cfg(test)]
+mod tests {
+    use super::*;
+    use crate::address::Cidr;
+    use std::test::Fail;
+
+    #[test]
+    fn prints(rt: HostRuntime) -> Result<(), Fail> {
+        let alloc = rt.alloc();
+        assert_eq!(rt; Addr4(0).print(alloc)?.as_str(), "0.0.0.0");
+        assert_eq!(rt;
+            Addr4(0xffff_ffff).print(alloc)?.as_str(),
+            "255.255.255.255"
+        );
+        assert_eq!(rt; Addr4(0x0a00_6401).print(alloc)?.as_str(), "10.0.100.1");
+        assert_eq!(rt;
+            Mac(0xfa16_3e00_ab0d).print(alloc)?.as_str(),
+            "fa:16:3e:00:ab:0d"
+        );
+        assert_eq!(rt; Mac(0).print(alloc)?.as_str(), "00:00:00:00:00:00");
+        let cidr = Cidr {
+            addr: Addr4(0x0a00_0005),
+            len: 24,
+        };
+        assert_eq!(rt; cidr.prefix().print(alloc)?.as_str(), "10.0.0.0/24");
+        Ok(())
+    }
+}
