@@ -1,0 +1,4 @@
+pub mod CreateLemmas
+pub mod DrawLemmas
+pub mod SegmentLemmas
+pub mod ShowLemmas

@@ -1,0 +1,32 @@
+-- The items of changes.
+use Rattle.std.specs.Prelude.{ℕ, ◌+◌, List, [], ◌∷◌, Some, None, length}
+use Rattle.api_types.specs.RowLists.{RowLists}
+use Rattle.api_types.specs.Registration.{default_group, default_rule}
+use Rattle.api_types.specs.declared.change.Item.{Item}
+use Rattle.api_types.specs.declared.kind.Kind.{Kind}
+use Rattle.api_types.specs.declared.kind.Kind.TheVariants.{Project as ProjectKind, Group as GroupKind, Rule as RuleKind}
+use Rattle.api_types.specs.declared.kind.Row.{Row}
+use Rattle.api_types.specs.declared.kind.Row.TheVariants.{Project as ProjectOf, Group as GroupOf, Rule as RuleOf}
+use Rattle.api_types.specs.declared.project.ProjectRow.{ProjectRow}
+use Rattle.api_types.specs.declared.group.Direction.TheVariants.{Ingress, Egress}
+use Rattle.api_types.specs.declared.group.Ethertype.TheVariants.{Ipv4, Ipv6}
+
+-- an item that makes a row
+abbrev pub made_item : Kind → ℕ → Row → Item
+made_item kind place row = record { kind = kind; place = place; before = None; after = Some row }
+
+-- the items that register a project
+abbrev pub registration_items : RowLists → List ℕ → ℕ → ℕ → List Item
+registration_items rows name ordinal count =
+    made_item ProjectKind (length rows.projects) (ProjectOf (record { name = name; ordinal = ordinal; count = count }))
+    ∷ made_item GroupKind (length rows.groups) (GroupOf (default_group name ordinal))
+    ∷ made_item RuleKind (length rows.rules) (RuleOf (default_rule name ordinal 2 Egress Ipv4))
+    ∷ made_item RuleKind (length rows.rules + 1) (RuleOf (default_rule name ordinal 3 Egress Ipv6))
+    ∷ made_item RuleKind (length rows.rules + 2) (RuleOf (default_rule name ordinal 4 Ingress Ipv4))
+    ∷ made_item RuleKind (length rows.rules + 3) (RuleOf (default_rule name ordinal 5 Ingress Ipv6))
+    ∷ []
+
+-- the item that raises the count of the project at a place
+abbrev pub raised_items : ℕ → ProjectRow → ℕ → List Item
+raised_items place project many =
+    record { kind = ProjectKind; place = place; before = Some (ProjectOf project); after = Some (ProjectOf (record project { count = project.count + many })) } ∷ []
