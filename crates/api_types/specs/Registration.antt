@@ -28,18 +28,18 @@ default_remote Egress ordinal = None
 
 abbrev pub default_rule : List ℕ → ℕ → ℕ → Direction → Ethertype → RuleRow
 default_rule name ordinal count direction ethertype = record {
-    id = ident ordinal count;
-    project = name;
-    group = ident ordinal 1;
-    description = [];
-    direction = direction;
-    ethertype = ethertype;
-    protocol = None;
-    low = None;
-    high = None;
-    remote_prefix = None;
-    remote_group = default_remote direction ordinal;
-  }
+  id = ident ordinal count;
+  project = name;
+  group = ident ordinal 1;
+  description = [];
+  direction = direction;
+  ethertype = ethertype;
+  protocol = None;
+  low = None;
+  high = None;
+  remote_prefix = None;
+  remote_group = default_remote direction ordinal;
+}
 
 -- its rules take the counts 2 to 5: out by IPv4 and IPv6, then in by IPv4 and IPv6
 abbrev pub default_rules : List ℕ → ℕ → List RuleRow
@@ -50,10 +50,10 @@ default_rules name ordinal =
 -- the rows with a new project of this ordinal, for which so many ids were drawn, and its group
 abbrev pub with_project : RowLists → List ℕ → ℕ → ℕ → RowLists
 with_project rows name ordinal count = record rows {
-    projects = rows.projects ++ record { name = name; ordinal = ordinal; count = count } ∷ [];
-    groups = rows.groups ++ default_group name ordinal ∷ [];
-    rules = rows.rules ++ default_rules name ordinal;
-  }
+  projects = rows.projects ++ record { name = name; ordinal = ordinal; count = count } ∷ [];
+  groups = rows.groups ++ default_group name ordinal ∷ [];
+  rules = rows.rules ++ default_rules name ordinal;
+}
 
 -- the rows with another count of the project at a place
 abbrev pub with_count : RowLists → ℕ → ProjectRow → ℕ → RowLists

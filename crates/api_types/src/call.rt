@@ -45,7 +45,6 @@ pub enum InterfaceBy {
 }
 
 /// A call of the Networking API.
-#[derive(Drop)]
 pub enum Call {
     List {
         kind: Kind,
@@ -75,4 +74,22 @@ pub enum Call {
         router: IdText,
         by: InterfaceBy,
     },
+}
+
+impl Drop for Call {
+    fn drop(self) {
+        match self {
+            Call::List { kind: _, query: _ } => {}
+            Call::Show {
+                kind: _,
+                name: _,
+                fields: _,
+            } => {}
+            Call::Create { form: _ } => {}
+            Call::Update { name: _, form: _ } => {}
+            Call::Delete { kind: _, name: _ } => {}
+            Call::AddInterface { router: _, by: _ } => {}
+            Call::RemoveInterface { router: _, by: _ } => {}
+        }
+    }
 }

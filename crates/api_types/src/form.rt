@@ -173,7 +173,6 @@ pub struct PolicyForm {
 }
 
 /// The attributes of a row of some kind.
-#[derive(Drop)]
 pub enum Form {
     Network(NetworkForm),
     Subnet(SubnetForm),
@@ -183,4 +182,19 @@ pub enum Form {
     Router(RouterForm),
     Floating(FloatingForm),
     Policy(PolicyForm),
+}
+
+impl Drop for Form {
+    fn drop(self) {
+        match self {
+            Form::Network(_) => {}
+            Form::Subnet(_) => {}
+            Form::Port(_) => {}
+            Form::Group(_) => {}
+            Form::Rule(_) => {}
+            Form::Router(_) => {}
+            Form::Floating(_) => {}
+            Form::Policy(_) => {}
+        }
+    }
 }

@@ -25,7 +25,6 @@ pub enum Kind {
 }
 
 /// A row of any kind.
-#[derive(Drop)]
 pub enum Row {
     Project(ProjectRow),
     Network(NetworkRow),
@@ -36,6 +35,24 @@ pub enum Row {
     Router(RouterRow),
     Floating(FloatingRow),
     Policy(PolicyRow),
+}
+
+// One call in place of the drops of nine rows at each exit of a function that owns one: a check of
+// such a function takes a fraction of the time. So it is with `Form` and `Call`.
+impl Drop for Row {
+    fn drop(self) {
+        match self {
+            Row::Project(_) => {}
+            Row::Network(_) => {}
+            Row::Subnet(_) => {}
+            Row::Port(_) => {}
+            Row::Group(_) => {}
+            Row::Rule(_) => {}
+            Row::Router(_) => {}
+            Row::Floating(_) => {}
+            Row::Policy(_) => {}
+        }
+    }
 }
 
 impl Kind {
