@@ -1,0 +1,9 @@
+mod DefaultRules
+mod EmptyFile
+mod HostRules
+mod Kept
+mod KeyRules
+mod NoDocument
+mod SettingsRules
+mod TextCounts
+mod TextLemmas

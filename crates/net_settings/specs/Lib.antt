@@ -1,0 +1,12 @@
+pub mod Defaults
+pub mod Document
+pub mod Drivers
+pub mod Hosts
+pub mod Names
+pub mod Numbers
+pub mod Quotas
+pub mod Refusals
+pub mod Rules
+pub mod Settings
+pub mod Texts
+pub mod Unknown
