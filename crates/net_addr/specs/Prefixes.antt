@@ -1,5 +1,5 @@
 -- Prefixes of IPv4 addresses, which are numbers of 32 bits (RFC 4632; RFC 4291 says the same of 128).
-use Rattle.std.specs.Prelude.{◌≡◌, ℕ, ◌+◌, ◌-◌, ◌*◌, ◌/◌, ◌%◌, ◌^◌, ◌≤◌, ◌==◌, ◌&&◌, ◌||◌, not, Bool}
+use Rattle.std.specs.Prelude.{◌≡◌, ℕ, ◌+◌, ◌-◌, ◌*◌, ◌/◌, ◌%◌, ◌^◌, ◌≤◌, ◌==◌, ◌&&◌, ◌||◌, not, Bool, nat_lt, if◌then◌else◌, Option, Some, None}
 
 -- an address and a length, as written
 pub record Written : Type 0 where
@@ -39,6 +39,10 @@ last_address p = p.base + (2 ^ (32 - p.len) - 1)
 -- whether x is a host address: the prefix contains it, and it is neither the least nor the greatest
 unfoldable pub is_host_of : Prefix → ℕ → Bool
 is_host_of p x = contains p x && not (x == first_address p) && not (x == last_address p)
+
+-- the first and the last host address, where there are any, which is at lengths to 30
+unfoldable pub host_addresses : Prefix → Option Span
+host_addresses p = if nat_lt 30 p.len then None else Some (record { first = first_address p + 1; last = last_address p - 1 })
 
 -- whether one of the two has the other's base, which is where some address is in both
 unfoldable pub overlaps : Prefix → Prefix → Bool

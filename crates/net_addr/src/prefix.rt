@@ -1,6 +1,6 @@
 ghost use Rattle.std.specs.Prelude.{◌≡◌, ◌↔◌, ℕ, ◌+◌, ◌-◌, ◌*◌, ◌/◌, ◌^◌, ◌<◌, ◌≤◌, IsTrue, MatchOption, false, true};
 ghost use Rattle.net_addr.specs.Macs.{is_unicast};
-ghost use Rattle.net_addr.specs.Prefixes.{Contains, contains, first_address, last_address, is_host_of, overlaps, prefix_of, is_exact};
+ghost use Rattle.net_addr.specs.Prefixes.{Contains, contains, first_address, last_address, host_addresses, is_host_of, overlaps, prefix_of, is_exact};
 ghost use Rattle.net_addr.specs.Spans.{is_within, are_apart};
 
 use crate::address::{Addr4, Cidr, Mac, Prefix4, Span4};
@@ -54,8 +54,7 @@ impl Addr4 {
 // The addresses between two.
 fn between(low: Addr4, high: Addr4) -> Span4
     requires { low + 2 ≤ high }
-    ensures first { result.first ≡ low + 1 }
-    ensures last { result.last + 1 ≡ high }
+    ensures { result ≡ record { first = low + 1; last = high - 1 } }
 {
     Span4 {
         first: Addr4(low.number() + 1),
@@ -136,8 +135,10 @@ impl Prefix4 {
     }
 
     /// The host addresses, or None where there are none, which is at lengths 31 and 32.
+    #[tactic(auto, unfolding(crate::specs::Prefixes::host_addresses))]
     pub fn hosts(self) -> Option<Span4>
-        ensures { MatchOption result ((x : ℕ) → is_host_of self x ≡ false) (λ s. (x : ℕ) → is_host_of self x ≡ is_within s x) }
+        ensures word { result ≡ host_addresses self }
+        ensures meaning { MatchOption result ((x : ℕ) → is_host_of self x ≡ false) (λ s. (x : ℕ) → is_host_of self x ≡ is_within s x) }
     {
         if self.len > 30 {
             return None;

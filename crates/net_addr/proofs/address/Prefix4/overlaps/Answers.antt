@@ -13,7 +13,7 @@ returns-else-contains-clause-meaning c =
       λ t. (c.self.inside.base, omega arith, subst (λ (b : ℕ). Contains p b) pb refl, m.0 t),
       λ w.
           elim (shared p q w.0 w.2 w.3) [
-            | inl h ↦ absurd (cc (c.if-contains.false, c.if-contains.ensures.meaning.1 (subst (λ (b : ℕ). Contains p b) qb h)))
+            | inl h ↦ absurd (cc (c.if-contains.ensures.meaning.1 (subst (λ (b : ℕ). Contains p b) qb h)))
             | inr h ↦ m.1 (subst (λ (b : ℕ). Contains q b) pb h)
           ],
     )
