@@ -1,10 +1,10 @@
 -- Changes of rows of all kinds, put in one item after the other and taken back.
-use Rattle.std.proofs.Common.{◌≡◌, ℕ, zero, suc, ◌+◌, ◌-◌, ◌<◌, List, [], ◌∷◌, ◌++◌, Option, Some, None, length, take, slice_get, get_or, arith, refl, ap, sym, ◌∙◌, subst, option_and_then}
+use Rattle.std.proofs.Common.{◌≡◌, ℕ, suc, ◌+◌, ◌-◌, ◌<◌, List, [], ◌∷◌, ◌++◌, Option, length, take, get_or, arith, refl, ap, sym, ◌∙◌, subst, option_and_then}
 use Rattle.std.proofs.Math.Seq.{take-suc}
 use Rattle.api_types.specs.Ident.{Ident}
 use Rattle.api_types.specs.Table.{HaveOwnIds}
 use Rattle.api_types.specs.Parts.{project_of, network_of, subnet_of, port_of, group_of, rule_of, router_of, floating_of, policy_of}
-use Rattle.api_types.specs.Edits.{edited, unedited, FitsTable, CameFrom}
+use Rattle.api_types.specs.Edits.{edited, unedited, FitsTable}
 use Rattle.api_types.specs.RowLists.{RowLists}
 use Rattle.api_types.specs.Rows.{project_id, after, before, after_item, before_item, after_of_kind, before_of_kind, Fits, FitsItem, FitsOfKind, AreTables, CameOfKind, CameByItem, CameBy}
 use Rattle.api_types.specs.declared.change.Item.{Item}

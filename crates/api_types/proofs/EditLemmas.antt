@@ -1,6 +1,6 @@
 -- Edits of lists of rows with ids of their own, and edits taken back.
-use Rattle.std.proofs.Common.{◌≡◌, ℕ, zero, suc, ◌+◌, ◌<◌, ◌≤◌, List, [], ◌∷◌, ◌++◌, Bool, true, false, cond, Option, None, Some, length, map, slice_get, slice_set, insert, remove, refl, ap, sym, ◌∙◌, subst, arith, true≢false}
-use Rattle.std.specs.Prelude.{find, option_and_then, is_some}
+use Rattle.std.proofs.Common.{◌≡◌, ℕ, zero, suc, List, [], ◌∷◌, ◌++◌, Bool, true, false, cond, Option, None, Some, length, map, slice_get, slice_set, insert, remove, refl, ap, sym, ◌∙◌, subst, arith}
+use Rattle.std.specs.Prelude.{option_and_then, is_some}
 use Rattle.std.specs.List.{IsDistinct, AllByRecursion}
 use Rattle.api_types.specs.Ident.{Ident}
 use Rattle.api_types.specs.Table.{row_of, ident_eq, HaveOwnIds}

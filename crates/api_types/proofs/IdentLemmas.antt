@@ -1,8 +1,8 @@
 -- The numbers of an id, read back from its sixteen bytes.
-use Rattle.std.proofs.Common.{◌≡◌, ℕ, ◌+◌, ◌*◌, ◌/◌, ◌%◌, ◌^◌, ◌<◌, List, arith, rules, refl, ap, sym, ◌∙◌}
-use Rattle.std.specs.Prelude.{if◌then◌else◌, length, None, Some, Option, Bool, true, false, ◌&&◌, ◌==◌}
-use Rattle.std.proofs.Common.{◌⊎◌, inl, inr, ◌≤◌}
-use Rattle.std.specs.Int.{w128, to_be_bytes, from_be_bytes}
+use Rattle.std.proofs.Common.{◌≡◌, ℕ, ◌+◌, ◌*◌, ◌/◌, ◌%◌, ◌^◌, ◌<◌, List, arith, refl, ap, sym, ◌∙◌}
+use Rattle.std.specs.Prelude.{if◌then◌else◌, length, None, Some, Bool, true, false, ◌&&◌, ◌==◌}
+use Rattle.std.proofs.Common.{◌⊎◌, inl, inr}
+use Rattle.std.specs.Int.{w128, from_be_bytes}
 use Rattle.uuid.proofs.OrderLemmas.{from_be_bytes-to_be_bytes_16}
 use Rattle.uuid.specs.Text.{parsed, parsed_hyphenated, parsed_simple, digits_of, has_hyphens, hyphenated_text, lower}
 use Rattle.std.proofs.lemmas.Bool.Decides.{nat_tests}

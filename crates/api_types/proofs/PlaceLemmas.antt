@@ -1,11 +1,11 @@
 -- A new entry of an ordered map, moved from the end to its place.
-use Rattle.std.proofs.Common.{◌≡◌, ℕ, ◌-◌, Bool, List, [], ◌∷◌, ◌++◌, length, ◌≤◌, ◌<◌, ◌+◌, insert, remove, Option, Some, None, arith, refl, sym, ap, ◌∙◌, slice_get, take, drop, get_or}
+use Rattle.std.proofs.Common.{◌≡◌, ℕ, ◌-◌, Bool, List, [], ◌∷◌, ◌++◌, length, insert, remove, Some, None, arith, refl, ap, ◌∙◌, slice_get}
 use Rattle.std.specs.Option.{option_map_or}
 use Rattle.std.proofs.lemmas.List.{append-nil, length-append}
 use Rattle.std.proofs.lemmas.List.Edits.{remove-append_right}
 use Rattle.std.proofs.lemmas.Option.{slice_get-get_or}
 use Rattle.std.proofs.Math.Seq.{get_or-append_seam}
-use Rattle.indexmap.specs.IndexMap.{IndexMap, get, insert_entry, insert_index, move_index, keys}
+use Rattle.indexmap.specs.IndexMap.{IndexMap, get, insert_entry, insert_index, move_index}
 use Rattle.indexmap.proofs.CallerLemmas.{insert_entry-new}
 use Rattle.indexmap.proofs.MapLemmas.{or_len-absent, absent_from_lookup}
 

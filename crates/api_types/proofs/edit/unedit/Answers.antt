@@ -1,6 +1,5 @@
-use Rattle.std.proofs.Common.{◌≡◌, ◌∙◌, ap, sym, subst, Some, None}
-use Rattle.std.specs.Prelude.{option_and_then, is_some, false}
-use Rattle.api_types.specs.Table.{row_of}
+use Rattle.std.proofs.Common.{◌∙◌, ap, sym, Some}
+use Rattle.std.specs.Prelude.{option_and_then}
 use Rattle.api_types.proofs.EditLemmas.{new_again}
 use Rattle.api_types.proofs.edit.unedit.Goals as goal
 

@@ -1,7 +1,7 @@
 use Rattle.std.proofs.Common.{◌≡◌, ap, sym, ◌∙◌, subst, IfOk, Result, Ok, Err, Some, List, ℕ}
 use Rattle.uuid.specs.Text.{hyphenated_text, lower}
 use Rattle.net_addr.specs.declared.memory.OutOfMemory.{OutOfMemory}
-use Rattle.api_types.specs.Ident.{Ident, ident_text, uuid_bytes, Spells, IsDrawable}
+use Rattle.api_types.specs.Ident.{ident_text, Spells}
 use Rattle.api_types.proofs.IdentLemmas.{printed_spells}
 use Rattle.api_types.proofs.id.Id.print.Goals as goal
 

@@ -1,4 +1,4 @@
-use Rattle.std.proofs.Common.{◌≡◌, List, ℕ, sym, ◌∙◌, ap, true≢false, Some, ◌⊎◌, inl, inr}
+use Rattle.std.proofs.Common.{◌≡◌, List, ℕ, sym, ◌∙◌, true≢false, Some, ◌⊎◌, inl, inr}
 use Rattle.std.proofs.lemmas.Slice.Eq.{bytes_eq-Decides}
 use Rattle.api_types.specs.Ident.{Ident, Spells, uuid_bytes}
 use Rattle.uuid.specs.Text.{parsed}

@@ -1,6 +1,5 @@
-use Rattle.std.proofs.Common.{◌≡◌, ◌∙◌, ap, sym}
-use Rattle.api_types.specs.RowLists.{RowLists}
-use Rattle.api_types.specs.Rows.{Fits, after, before}
+use Rattle.std.proofs.Common.{◌∙◌, ap}
+use Rattle.api_types.specs.Rows.{before}
 use Rattle.api_types.proofs.ChangeLemmas.{change_undone}
 use Rattle.api_types.proofs.rows.Rows.undo_change.Goals as goal
 

@@ -1,5 +1,5 @@
-use Rattle.std.proofs.Common.{◌≡◌, ◌∙◌, ap, sym, subst, ◌+◌, ◌-◌, ◌++◌, ◌∷◌, [], length, take}
-use Rattle.api_types.specs.Rows.{CameBy, CameByItem, before, before_item}
+use Rattle.std.proofs.Common.{◌∙◌, ap, sym, subst, ◌+◌, ◌-◌, length, take}
+use Rattle.api_types.specs.Rows.{CameBy, before}
 use Rattle.api_types.proofs.ChangeLemmas.{step_back, last_of, Back}
 use Rattle.api_types.proofs.rows.Rows.undo_items.Goals as goal
 

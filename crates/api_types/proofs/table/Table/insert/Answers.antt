@@ -1,6 +1,6 @@
-use Rattle.std.proofs.Common.{◌≡◌, ◌∙◌, ap, sym, insert, None, false, true, true≢false, is_some}
+use Rattle.std.proofs.Common.{◌≡◌, ◌∙◌, ap, sym, insert, None, true≢false, is_some}
 use Rattle.std.specs.Map.{lookup}
-use Rattle.indexmap.specs.IndexMap.{get, insert_entry, insert_index, move_index}
+use Rattle.indexmap.specs.IndexMap.{get}
 use Rattle.api_types.specs.Table.{entries_of, row_of, ident_eq}
 use Rattle.api_types.proofs.TableLemmas.{insert-entries_of, lookup-entries_of, kept, seen}
 use Rattle.api_types.proofs.PlaceLemmas.{put_back_at}
