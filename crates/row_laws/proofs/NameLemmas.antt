@@ -1,15 +1,16 @@
--- Ids that are the same, and names that lead nowhere.
-use Rattle.std.proofs.Common.{◌≡◌, ℕ, zero, suc, List, [], ◌∷◌, Bool, true, false, Option, Some, None, refl, ap, sym, ◌∙◌, subst}
-use Rattle.std.specs.Prelude.{◌==◌, ◌&&◌, ◌||◌, not, codes}
+-- Ids that are the same, names that lead nowhere, and tests that imply one another.
+use Rattle.std.proofs.Common.{◌≡◌, ◌≤◌, ◌++◌, ℕ, zero, suc, List, [], ◌∷◌, Bool, true, false, cond, Option, Some, None, slice_get, slice_set, refl, ap, sym, ◌∙◌, subst, arith}
+use Rattle.std.specs.Prelude.{◌==◌, ◌&&◌, ◌||◌, not, codes, count_by, filter}
 use Rattle.std.specs.List.{list_any, list_all}
 use Rattle.std.proofs.lemmas.Bool.Decides.{Decides-eqb}
+use Rattle.std.proofs.lemmas.List.Sums.{sum_by_push}
 use Rattle.std.proofs.lemmas.Slice.Eq.{bytes_eq-Decides}
 use Rattle.std.specs.Str.{bytes_eq}
 use Rattle.api_types.specs.Ident.{Ident}
 use Rattle.api_types.specs.Table.{ident_eq}
-use Rattle.api_types.specs.Lists.{Each, Pass, stands, if_some}
+use Rattle.api_types.specs.Lists.{Each, Pass, stands, if_some, is_some_so}
 use Rattle.api_types.specs.Owners.{is_dhcp, is_interface, is_gateway, is_floating}
-use Rattle.row_laws.proofs.ListLemmas.{and_both, both_and, false_true, none_some, some_equal}
+use Rattle.row_laws.proofs.ListLemmas.{and_both, both_and, false_true, none_some, some_equal, each-push, each-set, each-filter, sum-set_same, sum-filter-le}
 
 pub ident_same : (a b : Ident) → ident_eq a b ≡ true → a ≡ b
 ident_same a b h =
@@ -114,3 +115,52 @@ both_if (Some x) p q r w h g = w x h g
 pub and_fails : (a b : Bool) → b ≡ false → a && b ≡ false
 and_fails true b h = h
 and_fails false b h = refl
+
+pub first_fails : (a b : Bool) → a ≡ false → a && b ≡ false
+first_fails a b h = ap (λ c. c && b) h
+
+-- what has to hold where a test passes, which it does
+pub must : (a b : Bool) → a ≡ true → not a || b ≡ true → b ≡ true
+must a b e h = sym (ap (λ c. not c || b) e) ∙ h
+
+pub is_some_so-weaker : {X : Type 0} (p q : X → Bool) (o : Option X) → ((x : X) → p x ≡ true → q x ≡ true) → is_some_so p o ≡ true → is_some_so q o ≡ true
+is_some_so-weaker p q None w h = false_true _ h
+is_some_so-weaker p q (Some x) w h = w x h
+
+-- a test of all items of a list, from each item and to it
+
+pub at-all : {X : Type 0} (p : X → Bool) (xs : List X) → Each (λ x. p x ≡ true) xs → list_all p xs ≡ true
+at-all p [] each = refl
+at-all p (x ∷ xs) each = both_and (p x) (list_all p xs) (each 0 x refl) (at-all p xs (λ k y at. each (suc k) y at))
+
+pub push-all : {X : Type 0} (p : X → Bool) (xs : List X) (x : X) → list_all p xs ≡ true → p x ≡ true → list_all p (xs ++ x ∷ []) ≡ true
+push-all p xs x all new = at-all p (xs ++ x ∷ []) (each-push (λ y. p y ≡ true) xs x (all-at p xs all) new)
+
+pub set-all : {X : Type 0} (p : X → Bool) (xs : List X) (i : ℕ) (x : X) → list_all p xs ≡ true → p x ≡ true → list_all p (slice_set xs i x) ≡ true
+set-all p xs i x all new = at-all p (slice_set xs i x) (each-set (λ y. p y ≡ true) xs i x (all-at p xs all) new)
+
+pub filter-all_of : {X : Type 0} (keep p : X → Bool) (xs : List X) → list_all p xs ≡ true → list_all p (filter keep xs) ≡ true
+filter-all_of keep p xs all = at-all p (filter keep xs) (each-filter keep (λ y. p y ≡ true) (λ y. p y ≡ true) xs (λ y kept h. h) (all-at p xs all))
+
+pub any-agree : {X : Type 0} (p q : X → Bool) (xs : List X) → ((x : X) → p x ≡ q x) → list_any p xs ≡ list_any q xs
+any-agree p q [] e = refl
+any-agree p q (x ∷ xs) e = λ j. e x j || any-agree p q xs e j
+
+-- a count leaves out a row that doesn't pass, and one that is put in the place of another such
+pub count-push : {X : Type 0} (test : X → Bool) (xs : List X) (x : X) → test x ≡ false → count_by test (xs ++ x ∷ []) ≡ count_by test xs
+count-push test xs x h =
+    let push = sum_by_push (λ y. cond {A = ℕ} (test y) 1 0) xs x in
+    let zero : cond {A = ℕ} (test x) 1 0 ≡ 0 = ap (λ (b : Bool). cond {A = ℕ} b 1 0) h in
+    omega (arith, push, zero)
+
+pub count-set : {X : Type 0} (test : X → Bool) (xs : List X) (i : ℕ) (old new : X) → slice_get xs i ≡ Some old → test new ≡ test old → count_by test (slice_set xs i new) ≡ count_by test xs
+count-set test xs i old new at same = sum-set_same (λ y. cond {A = ℕ} (test y) 1 0) xs i old new at (ap (λ (b : Bool). cond {A = ℕ} b 1 0) same)
+
+-- rows that are kept are counted no more often
+pub count-filter : {X : Type 0} (keep test : X → Bool) (xs : List X) (n : ℕ) → count_by test xs ≤ n → count_by test (filter keep xs) ≤ n
+count-filter keep test xs n most = omega (arith, most, sum-filter-le keep (λ y. cond {A = ℕ} (test y) 1 0) xs)
+
+-- with what is there at hand
+pub if_some-weaker_at : {X : Type 0} (p q : X → Bool) (o : Option X) → ((x : X) → o ≡ Some x → p x ≡ true → q x ≡ true) → if_some p o ≡ true → if_some q o ≡ true
+if_some-weaker_at p q None w h = refl
+if_some-weaker_at p q (Some x) w h = w x refl h

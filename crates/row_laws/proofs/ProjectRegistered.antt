@@ -1,37 +1,32 @@
 -- A project that is registered, with its default group and its four rules, keeps rows consistent.
-use Rattle.std.proofs.Common.{◌≡◌, ℕ, ◌+◌, ◌<◌, ◌≤◌, ◌^◌, List, [], ◌∷◌, ◌++◌, Bool, true, false, cond, length, refl, ap, sym, ◌∙◌, arith, subst}
-use Rattle.std.specs.Prelude.{◌==◌, ◌&&◌, count_by, nat_le}
+use Rattle.std.proofs.Common.{◌≡◌, ◌+◌, ◌<◌, ◌≤◌, ◌^◌, ◌++◌, ◌∷◌, ◌∙◌, ℕ, [], List, Bool, true, false, cond, length, refl, ap, sym, arith, subst}
+use Rattle.std.specs.Prelude.{◌==◌, ◌&&◌, nat_le}
 use Rattle.std.specs.Str.{bytes_eq}
-use Rattle.std.proofs.lemmas.Bool.Decides.{nat_tests}
-use Rattle.std.proofs.lemmas.List.Sums.{sum_by_push}
-use Rattle.std.proofs.lemmas.Option.{slice_get_within}
 use Rattle.api_types.specs.Ident.{Ident}
 use Rattle.api_types.specs.Table.{ident_eq}
+use Rattle.api_types.proofs.TableLemmas.{ident_eq-sym}
 use Rattle.api_types.specs.RowLists.{RowLists}
 use Rattle.api_types.specs.Lists.{Each, if_some}
-use Rattle.api_types.specs.Registration.{ident, is_named, default_group, default_remote, default_rule, with_project}
 use Rattle.api_types.specs.Consistent.{IsConsistent}
-use Rattle.api_types.specs.Consistent.Numbered.{AreOrdered, is_drawn, times_in, ProjectsDiffer, AreDrawn, AreNumbered}
-use Rattle.api_types.specs.Consistent.Named.{is_group, is_registered, serves, GroupsStand, ProjectsStand}
-use Rattle.api_types.specs.Consistent.InForm.{is_group_of, AreInForm}
-use Rattle.api_types.specs.Consistent.Groups.{is_default_of, is_direction, is_ethertype, same_match, same_rule, GroupsServe}
+use Rattle.api_types.specs.Consistent.Numbered.{is_drawn, times_in, AreOrdered, ProjectsDiffer, AreDrawn, AreNumbered}
+use Rattle.api_types.specs.Consistent.Named.{is_group, is_registered, serves, ProjectsStand}
+use Rattle.api_types.specs.Consistent.InForm.{is_group_of}
+use Rattle.api_types.specs.Consistent.Groups.{is_direction, is_ethertype, same_match, same_rule}
 use Rattle.api_types.specs.declared.project.ProjectRow.{ProjectRow}
-use Rattle.api_types.specs.declared.network.NetworkRow.{NetworkRow}
-use Rattle.api_types.specs.declared.subnet.SubnetRow.{SubnetRow}
-use Rattle.api_types.specs.declared.port.PortRow.{PortRow}
-use Rattle.api_types.specs.declared.group.GroupRow.{GroupRow}
 use Rattle.api_types.specs.declared.group.RuleRow.{RuleRow}
+use Rattle.std.proofs.lemmas.Bool.Decides.{nat_tests}
+use Rattle.std.proofs.lemmas.Option.{slice_get_within}
+use Rattle.api_types.specs.Registration.{ident, is_named, default_group, default_remote, default_rule, with_project}
 use Rattle.api_types.specs.declared.group.Direction.{Direction}
 use Rattle.api_types.specs.declared.group.Direction.TheVariants.{Ingress, Egress}
 use Rattle.api_types.specs.declared.group.Ethertype.{Ethertype}
 use Rattle.api_types.specs.declared.group.Ethertype.TheVariants.{Ipv4, Ipv6}
-use Rattle.api_types.specs.declared.router.RouterRow.{RouterRow}
-use Rattle.api_types.proofs.TableLemmas.{ident_eq-sym}
 use Rattle.row_laws.specs.NewRows.{with_rule, IsNewRule}
-use Rattle.row_laws.proofs.ListLemmas.{at_push, each-push, at-any, any-grows, any-last, any-none, none-any, count-none, once-push, none-counted, both_and}
-use Rattle.row_laws.proofs.NameLemmas.{ident_itself, bytes_itself, bytes_same, by_test, if_some-weaker, all-weaker, fails_by, and_fails, unnamed}
-use Rattle.row_laws.proofs.IdLemmas.{ids-push, fresh-push, times-group, times-rule, undrawn_absent}
 use Rattle.row_laws.proofs.RulePushed.{rule_pushed}
+use Rattle.row_laws.proofs.GroupPushed.{groups_stand, in_form, groups_serve, defaults_more}
+use Rattle.row_laws.proofs.ListLemmas.{both_and, at_push, each-push, any-grows, any-last, any-none, none-any, count-none, once-push, none-counted}
+use Rattle.row_laws.proofs.NameLemmas.{ident_itself, bytes_itself, bytes_same, by_test, unnamed, and_fails}
+use Rattle.row_laws.proofs.IdLemmas.{ids-push, fresh-push, undrawn_absent, times-group, times-rule}
 
 ordinal_of : (o c i n : ℕ) → (o == i) && (nat_le 1 n && nat_le n c) ≡ true → o ≡ i
 ordinal_of o c i n h = grind (arith, nat_tests)
@@ -74,70 +69,6 @@ module _ (projects : List ProjectRow) (p : ProjectRow) (next : p.ordinal ≡ len
     names = λ name. once-push (is_named name) projects p (c.names name) (λ mine.
         count-none (is_named name) projects (subst (λ x. Each (λ q. is_named x q ≡ false) projects) (bytes_same p.name name mine) (none-any (is_named p.name) projects unknown)));
   }
-
--- one more group
-module _ (groups : List GroupRow) (g : GroupRow) where
-  still : (i : Ident) → is_group groups i ≡ true → is_group (groups ++ g ∷ []) i ≡ true
-  still i h = any-grows (λ r. ident_eq i r.id) groups g h
-
-  still_of : (project : List ℕ) (i : Ident) → is_group_of groups project i ≡ true → is_group_of (groups ++ g ∷ []) project i ≡ true
-  still_of project i h = any-grows (λ r. ident_eq i r.id && bytes_eq r.project project) groups g h
-
-  pub groups_stand : {ports : List PortRow} {rules : List RuleRow} → GroupsStand groups ports rules → GroupsStand (groups ++ g ∷ []) ports rules
-  groups_stand c = record {
-    of_ports = λ k q h. all-weaker (is_group groups) (is_group (groups ++ g ∷ [])) q.groups still (c.of_ports k q h);
-    of_rules = λ k r h. still r.group (c.of_rules k r h);
-    of_remotes = λ k r h. if_some-weaker _ _ r.remote_group still (c.of_remotes k r h);
-  }
-
-  pub in_form : {networks : List NetworkRow} {subnets : List SubnetRow} {ports : List PortRow} {rules : List RuleRow} {routers : List RouterRow}
-      → AreInForm networks subnets ports groups rules routers → AreInForm networks subnets ports (groups ++ g ∷ []) rules routers
-  in_form c = record {
-    segments = c.segments;
-    subnet_owners = c.subnet_owners;
-    subnet_forms = c.subnet_forms;
-    dhcp_owners = c.dhcp_owners;
-    port_forms = c.port_forms;
-    rule_owners = λ k r h. still_of r.project r.group (c.rule_owners k r h);
-    routes = c.routes;
-  }
-
-  -- what a group more does to the count of default groups
-  counted : (name : List ℕ) (n : ℕ) → count_by (is_default_of name) groups + cond {A = ℕ} (is_default_of name g) 1 0 ≡ n → count_by (is_default_of name) (groups ++ g ∷ []) ≡ n
-  counted name n h = sum_by_push (λ r. cond {A = ℕ} (is_default_of name r) 1 0) groups g ∙ h
-
-  pub groups_serve : {projects : List ProjectRow} {ports : List PortRow} {rules : List RuleRow} (more : List ProjectRow)
-      → Each (λ p. count_by (is_default_of p.name) (groups ++ g ∷ []) ≡ 1) more
-      → GroupsServe projects ports groups rules → GroupsServe more ports (groups ++ g ∷ []) rules
-  groups_serve more defaults c = record {
-    defaults = defaults;
-    of_ports = λ k q h. all-weaker (is_group_of groups q.project) (is_group_of (groups ++ g ∷ []) q.project) q.groups (still_of q.project) (c.of_ports k q h);
-    bare = c.bare;
-    remotes = λ k r h. if_some-weaker _ _ r.remote_group (still_of r.project) (c.remotes k r h);
-    apart = c.apart;
-  }
-
-  -- a group that is no default group leaves each project its one
-  pub defaults_still : (projects : List ProjectRow) → g.is_default ≡ false → Each (λ p. count_by (is_default_of p.name) groups ≡ 1) projects
-      → Each (λ p. count_by (is_default_of p.name) (groups ++ g ∷ []) ≡ 1) projects
-  defaults_still projects plain c k p at = counted p.name 1
-      (let zero : cond {A = ℕ} (is_default_of p.name g) 1 0 ≡ 0 = ap (λ (b : Bool). cond {A = ℕ} (b && bytes_eq g.project p.name) 1 0) plain in omega (arith, zero, c k p at))
-
-  -- the default group of a new project is its one, and no other's
-  pub defaults_more : (projects : List ProjectRow) (p : ProjectRow) → g.is_default ≡ true → g.project ≡ p.name → is_registered projects p.name ≡ false
-      → Each (λ r. is_registered projects r.project ≡ true) groups
-      → Each (λ q. count_by (is_default_of q.name) groups ≡ 1) projects → Each (λ q. count_by (is_default_of q.name) (groups ++ g ∷ []) ≡ 1) (projects ++ p ∷ [])
-  defaults_more projects p default project unknown owners c = each-push (λ q. count_by (is_default_of q.name) (groups ++ g ∷ []) ≡ 1) projects p
-      (λ k q at. counted q.name 1
-      (let away : is_default_of q.name g ≡ false = and_fails g.is_default (bytes_eq g.project q.name) (ap (λ n. bytes_eq n q.name) project
-      ∙ fails_by (bytes_eq p.name q.name) (is_registered projects p.name) (λ h. at-any (is_named p.name) projects k q at (subst (λ n. bytes_eq q.name n ≡ true) (sym (bytes_same p.name q.name h)) (bytes_itself q.name))) unknown) in
-      let zero : cond {A = ℕ} (is_default_of q.name g) 1 0 ≡ 0 = ap (λ (b : Bool). cond {A = ℕ} b 1 0) away in
-      omega (arith, zero, c k q at)))
-      (counted p.name 1
-      (let zeros : count_by (is_default_of p.name) groups ≡ 0 = count-none (is_default_of p.name) groups (λ k r at. and_fails r.is_default (bytes_eq r.project p.name)
-      (fails_by (bytes_eq r.project p.name) (is_registered projects p.name) (λ h. subst (λ n. is_registered projects n ≡ true) (bytes_same r.project p.name h) (owners k r at)) unknown)) in
-      let one : cond {A = ℕ} (is_default_of p.name g) 1 0 ≡ 1 = ap (λ (b : Bool). cond {A = ℕ} b 1 0) (both_and g.is_default (bytes_eq g.project p.name) default (ap (λ n. bytes_eq n p.name) project ∙ bytes_itself p.name)) in
-      omega (arith, zeros, one)))
 
 -- the project and its group, without its rules
 module _ (rows : RowLists) (name : List ℕ) (count : ℕ) where

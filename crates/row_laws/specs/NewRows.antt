@@ -1,12 +1,18 @@
 -- Rows with one more, last in the list of its kind, and what has to hold of it.
-use Rattle.std.specs.Prelude.{◌≡◌, ◌<◌, List, [], ◌∷◌, ◌++◌, true, false, length, count_by}
-use Rattle.api_types.specs.Lists.{Each, if_some}
+use Rattle.std.specs.Prelude.{◌≡◌, ◌+◌, ◌<◌, ◌≤◌, ◌++◌, ◌∷◌, ℕ, [], List, true, false, length, sum_by}
+use Rattle.std.specs.Prelude.{◌&&◌, ◌||◌, count_by}
+use Rattle.std.specs.List.{list_all}
 use Rattle.api_types.specs.RowLists.{RowLists}
-use Rattle.api_types.specs.Consistent.Numbered.{times_in, is_drawn}
-use Rattle.api_types.specs.Consistent.Named.{is_registered}
-use Rattle.api_types.specs.Consistent.InForm.{is_segment, is_group_of}
+use Rattle.api_types.specs.Lists.{Each, if_some, is_empty}
+use Rattle.api_types.specs.Owners.{is_interface, is_gateway, is_dhcp}
+use Rattle.api_types.specs.Consistent.Numbered.{is_drawn, times_in}
+use Rattle.api_types.specs.Consistent.Named.{is_network, is_registered, names_subnet}
+use Rattle.api_types.specs.Consistent.InForm.{is_segment, is_group_of, is_port_form}
+use Rattle.api_types.specs.Consistent.HeldOnce.{has_mac, holds_times}
+use Rattle.api_types.specs.Consistent.Hosts.{is_host_in}
 use Rattle.api_types.specs.Consistent.Segments.{same_segment, most_networks}
 use Rattle.api_types.specs.Consistent.Groups.{same_rule}
+use Rattle.api_types.specs.Consistent.Access.{may_be_there}
 use Rattle.api_types.specs.declared.network.NetworkRow.{NetworkRow}
 use Rattle.api_types.specs.declared.network.Segment.{Segment}
 use Rattle.api_types.specs.declared.subnet.SubnetRow.{SubnetRow}
@@ -60,3 +66,28 @@ pub record IsNewRule (rows : RowLists) (r : RuleRow) : Type 0 where
   pub group : is_group_of rows.groups r.project r.group ≡ true
   pub remote : if_some (is_group_of rows.groups r.project) r.remote_group ≡ true
   pub unlike : Each (λ q. (same_rule q r ≡ false) × (same_rule r q ≡ false)) rows.rules
+
+-- a port of a project that is no router's and no DHCP port
+pub record IsNewPort (rows : RowLists) (p : PortRow) : Type 0 where
+  pub fresh : times_in rows p.id ≡ 0
+  pub drawn : is_drawn rows.projects p.id ≡ true
+  pub network : is_network rows.networks p.network ≡ true
+  pub project : is_registered rows.projects p.project ≡ true
+  pub no_interface : is_interface p.owner ≡ false
+  pub no_gateway : is_gateway p.owner ≡ false
+  pub no_dhcp : is_dhcp p.owner ≡ false
+  pub form : is_port_form p ≡ true
+  pub mac : count_by (has_mac p.network p.mac) rows.ports ≡ 0
+  pub addresses : (x : ℕ) → sum_by (holds_times p.network x) rows.ports + holds_times p.network x p ≤ 1
+  pub subnets : list_all (names_subnet rows.subnets p) p.fixed ≡ true
+  pub hosts : list_all (is_host_in rows.subnets) p.fixed ≡ true
+  pub groups : list_all (is_group_of rows.groups p.project) p.groups ≡ true
+  pub bare : p.secured || (is_empty p.groups && is_empty p.pairs) ≡ true
+  pub allowed : may_be_there rows.networks rows.policies p ≡ true
+
+-- a group that is no default group
+pub record IsNewGroup (rows : RowLists) (g : GroupRow) : Type 0 where
+  pub fresh : times_in rows g.id ≡ 0
+  pub drawn : is_drawn rows.projects g.id ≡ true
+  pub project : is_registered rows.projects g.project ≡ true
+  pub plain : g.is_default ≡ false
