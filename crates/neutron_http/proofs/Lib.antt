@@ -1,0 +1,3 @@
+pub mod ReplyCodes
+pub mod ReplyLines
+pub mod ReplyHead
