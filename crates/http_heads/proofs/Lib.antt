@@ -1,0 +1,10 @@
+pub mod LineFeeds
+pub mod Blanks
+pub mod Extends
+pub mod Unique
+pub mod JudgeLemmas
+pub mod Prefixes
+pub mod NamedLemmas
+pub mod PartLemmas
+pub mod HeadLemmas
+pub mod ReadLemmas

@@ -1,0 +1,13 @@
+use Rattle.std.proofs.Common.{◌≡◌, ◌≤◌, take, length, [], false}
+use Rattle.std.specs.Prelude.{map}
+use Rattle.std.specs.List.{list_any}
+use Rattle.httparse.specs.Spans.{header_bytes}
+use Rattle.http_heads.specs.Fields.{values}
+use Rattle.http_heads.specs.Words.{has_word, blank_of}
+use Rattle.http_heads.proofs.field_list.count_named.Given as goal
+
+abbrev pub invariant-loop-field : goal.invariant-loop-field
+invariant-loop-field l = record {
+  found : l.found ≡ length (values l.name (map (header_bytes l.prefix) (take l.field-index l.fields)));
+  few : l.found ≤ l.field-index;
+}

@@ -1,0 +1,6 @@
+pub mod Lines
+pub mod Words
+pub mod Fields
+pub mod Heads
+pub mod Parts
+pub mod Read

@@ -1,0 +1,77 @@
+//! Reading the head of a request from the bytes that have come.
+ghost use Rattle.std.specs.Prelude.{◌≡◌, ℕ, ◌≤◌, ◌<◌, length, take, true};
+ghost use Rattle.http_heads.specs.Heads.{Judgement, Decides};
+ghost use Rattle.http_heads.specs.Read.{IsHeadRead, IsReadAs, IsNumbered};
+
+use crate::HEAD_LIMIT;
+use crate::judging::{Judged, judge_at};
+use crate::whole::read_whole;
+use httparse::spans::EMPTY_HEADER_SPAN;
+
+/// A part of the bytes: from `start` on, up to and without `end`.
+#[derive(Clone, Copy, Debug, PartialEq, Eq)]
+pub struct Part {
+    pub start: usize,
+    pub end: usize,
+}
+
+/// Where the parts of a head stand in the bytes, and what its fields say of the caller.
+#[derive(Clone, Copy, Debug, PartialEq, Eq)]
+pub struct HeadParts {
+    pub method: Part,
+    /// The target up to the first question mark.
+    pub path: Part,
+    /// What is behind the first question mark, or nothing.
+    pub query: Part,
+    /// The value of `X-Project-Id`, where there is exactly one such field.
+    pub project: Option<Part>,
+    /// Whether `X-Roles` lists `admin`.
+    pub admin: bool,
+}
+
+/// What the bytes say.
+#[derive(Clone, Copy, Debug, PartialEq, Eq)]
+pub enum HeadRead {
+    /// Nothing yet: more bytes are awaited.
+    More,
+    /// A whole head that nothing is wrong with. Its body may still be to come.
+    Head {
+        /// How many bytes the body has.
+        length: u64,
+        /// Where the body begins.
+        body: usize,
+        /// Whether the connection ends behind the reply.
+        close: bool,
+        parts: HeadParts,
+    },
+    /// 1: no head. 2: more than 16,384 bytes or 64 fields. 3: a body of more than 65,536 bytes.
+    /// 4: a POST or PUT without a length, or a transfer coding.
+    Refused(u8),
+}
+
+/// What the first prefix that says something says of the bytes that have come.
+///
+/// A prefix is judged where it ends with a line feed or has 16,384 bytes; `ended` tells that no more
+/// bytes come. It takes no memory and copies nothing. Each judged prefix is read from its front, so
+/// a call costs at most the number of lines (66) times their bytes (16,384).
+pub fn read_head(buffer: &[u8], ended: bool) -> HeadRead
+    requires { ended ≡ true → 0 < length buffer.now }
+    ensures is { IsHeadRead buffer.now ended result }
+    ensures only { (judgement : Judgement) → Decides buffer.now judgement → IsReadAs buffer.now judgement result }
+    ensures number { IsNumbered result }
+{
+    let mut fields = [EMPTY_HEADER_SPAN; 65];
+    for at in 0..buffer.len().min(HEAD_LIMIT) {
+        match judge_at(buffer, at, &mut fields) {
+            Judged::Open => {}
+            Judged::Wrong => return HeadRead::Refused(1),
+            Judged::Large => return HeadRead::Refused(2),
+            Judged::Whole(spans) => return read_whole(&buffer[..at + 1], &fields, spans),
+        }
+    }
+    if ended {
+        HeadRead::Refused(1)
+    } else {
+        HeadRead::More
+    }
+}

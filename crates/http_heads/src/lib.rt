@@ -1,0 +1,24 @@
+//! Heads of requests, read from bytes that come in pieces (RFC 9112).
+//!
+//! `read_head` looks at the bytes that have come and tells a whole head with its parts, a refusal, or
+//! that more is awaited. It stands on `httparse`, whose grammar its definitions cite. It promises that
+//! the first prefix that says something decides, and that what is decided stays decided, whatever
+//! follows. It takes no memory and copies nothing.
+#![tactic(auto)]
+
+mod field_list;
+mod head;
+mod judging;
+mod laws;
+mod line_count;
+mod values;
+mod whole;
+
+pub use head::{HeadParts, HeadRead, Part, read_head};
+pub use laws::head_laws;
+
+/// The most bytes of a head.
+pub const HEAD_LIMIT: usize = 16384;
+
+#[cfg(test)]
+mod tests;

@@ -1,0 +1,179 @@
+use super::*;
+use std::alloc::Global;
+use std::test::Fail;
+
+// The number of a refusal, 0 for a whole head, 9 where more is awaited.
+fn answer(bytes: &[u8], ended: bool) -> u8 {
+    if bytes.len() == 0 {
+        return 9;
+    }
+    match read_head(bytes, ended) {
+        HeadRead::More => 9,
+        HeadRead::Head { .. } => 0,
+        HeadRead::Refused(number) => number,
+    }
+}
+
+// Short heads.
+#[test]
+fn short_heads(rt: HostRuntime) -> Result<(), Fail> {
+    let cases: [(&[u8], bool, u8); 27] = [
+        (b"GET /v2.0/net", true, 1),
+        (b"GET /v2.0/net", false, 9),
+        (b"GET /v2.0/networks HTTP/1.1\r\n\r\n", false, 0),
+        (b"\r\n\n\r\nGET / HTTP/1.1\n\n", false, 0),
+        (b"\r\n\r\n", false, 9),
+        (b"\r\n\r\n", true, 1),
+        (b"GET / HTTP/2.0\r\n", false, 1),
+        (b"GET  / HTTP/1.1", false, 9),
+        (b"GET  / HTTP/1.1\r\n", false, 1),
+        (b"GET / HTTP/1.1\r\nA\x01b: c", false, 9),
+        (b"GET / HTTP/1.1\r\nA\x01b: c\r\n", false, 1),
+        (b"PUT / HTTP/1.1\r\n\r\n", false, 4),
+        (b"POST / HTTP/1.1\r\n\r\n", false, 4),
+        (b"PATCH / HTTP/1.1\r\n\r\n", false, 0),
+        (
+            b"GET / HTTP/1.1\r\nTransfer-Encoding: chunked\r\n\r\n",
+            false,
+            4,
+        ),
+        (
+            b"PUT / HTTP/1.1\r\ncontent-LENGTH: 0065536\r\n\r\n",
+            false,
+            0,
+        ),
+        (b"PUT / HTTP/1.1\r\nContent-Length: 65537\r\n\r\n", false, 3),
+        (
+            b"PUT / HTTP/1.1\r\nTransfer-Encoding: x\r\nContent-Length: 65537\r\n\r\n",
+            false,
+            3,
+        ),
+        (
+            b"PUT / HTTP/1.1\r\nContent-Length: 0000000001\r\n\r\n",
+            false,
+            0,
+        ),
+        (
+            b"PUT / HTTP/1.1\r\nContent-Length: 00000000001\r\n\r\n",
+            false,
+            1,
+        ),
+        (b"PUT / HTTP/1.1\r\nContent-Length: -1\r\n\r\n", false, 1),
+        (b"PUT / HTTP/1.1\r\nContent-Length: +1\r\n\r\n", false, 1),
+        (b"PUT / HTTP/1.1\r\nContent-Length:\r\n\r\n", false, 1),
+        (
+            b"PUT / HTTP/1.1\r\nContent-Length: 1\r\nContent-Length: 1\r\n\r\n",
+            false,
+            1,
+        ),
+        (b"PUT / HTTP/1.1\r\nContent-Length: 1, 1\r\n\r\n", false, 1),
+        (
+            b"GET / HTTP/1.1\r\nContent-Length: 9999999999\r\n\r\n",
+            false,
+            3,
+        ),
+        (
+            b"GET / HTTP/1.1\r\nContent-Length: x\r\nTransfer-Encoding: x\r\n\r\n",
+            false,
+            1,
+        ),
+    ];
+    for (bytes, ended, wanted) in cases {
+        assert_eq!(rt; answer(bytes, ended), wanted);
+    }
+    Ok(())
+}
+
+// A head with so many fields, and this line behind them.
+fn with_fields(alloc: Global, count: usize, last: &[u8]) -> Result<Vec<u8>, Fail> {
+    let mut bytes = Vec::new(alloc);
+    bytes.extend_from_slice(b"GET / HTTP/1.1\r\n")?;
+    for _ in 0..count {
+        bytes.extend_from_slice(b"a: b\r\n")?;
+    }
+    bytes.extend_from_slice(last)?;
+    Ok(bytes)
+}
+
+// A head of so many bytes, and this behind it.
+fn with_bytes(alloc: Global, count: usize, last: &[u8]) -> Result<Vec<u8>, Fail> {
+    let mut bytes = Vec::new(alloc);
+    bytes.extend_from_slice(b"GET / HTTP/1.1\r\na: ")?;
+    while bytes.len() < count {
+        bytes.push(b'b')?;
+    }
+    bytes.extend_from_slice(last)?;
+    Ok(bytes)
+}
+
+// The limits, at both sides.
+#[test]
+fn long_heads(rt: HostRuntime) -> Result<(), Fail> {
+    let alloc = rt.alloc();
+    assert_eq!(rt;
+        answer(with_fields(alloc, 64, b"\r\n")?.as_slice(), false),
+        0
+    );
+    assert_eq!(rt;
+        answer(with_fields(alloc, 64, b"a\x01\r\n")?.as_slice(), false),
+        1
+    );
+    assert_eq!(rt;
+        answer(with_fields(alloc, 64, b"a: b")?.as_slice(), false),
+        9
+    );
+    assert_eq!(rt; answer(with_fields(alloc, 65, b"")?.as_slice(), false), 2);
+    assert_eq!(rt;
+        answer(
+            with_fields(alloc, 65, b"Content-Length: x\r\n\r\n")?.as_slice(),
+            false
+        ),
+        2
+    );
+    assert_eq!(rt;
+        answer(with_bytes(alloc, 16380, b"\r\n\r\n")?.as_slice(), false),
+        0
+    );
+    assert_eq!(rt;
+        answer(with_bytes(alloc, 16381, b"\r\n\r\n")?.as_slice(), false),
+        2
+    );
+    assert_eq!(rt; answer(with_bytes(alloc, 16383, b"")?.as_slice(), false), 9);
+    assert_eq!(rt; answer(with_bytes(alloc, 16383, b"")?.as_slice(), true), 1);
+    assert_eq!(rt; answer(with_bytes(alloc, 16384, b"")?.as_slice(), true), 2);
+    Ok(())
+}
+
+// The text of a part.
+fn text(bytes: &[u8], part: Part) -> &[u8] {
+    bytes.get(part.start..part.end).unwrap_or(b"?")
+}
+
+// The parts of a head.
+#[test]
+fn parts(rt: HostRuntime) -> Result<(), Fail> {
+    let bytes =
+        b"\r\nGET /a?b?c HTTP/1.1\r\nX-PROJECT-ID: \tp \r\nx-roles: member,\r\nX-Roles: reader , AdMiN \r\nConnection: keep-alive,\tClose\t\r\nContent-Length: 7\r\n\r\n{}".as_slice();
+    let HeadRead::Head {
+        length,
+        body,
+        close,
+        parts,
+    } = read_head(bytes, false)
+    else {
+        assert!(rt; false);
+        return Ok(());
+    };
+    assert_eq!(rt;
+        (length, body, close, parts.admin),
+        (7, bytes.len() - 2, true, true)
+    );
+    assert_eq!(rt; text(bytes, parts.method), b"GET".as_slice());
+    assert_eq!(rt; text(bytes, parts.path), b"/a".as_slice());
+    assert_eq!(rt; text(bytes, parts.query), b"b?c".as_slice());
+    assert_eq!(rt;
+        parts.project.map(|part| text(bytes, part)),
+        Some(b"p".as_slice())
+    );
+    Ok(())
+}
