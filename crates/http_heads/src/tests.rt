@@ -99,7 +99,7 @@ fn with_fields(alloc: Global, count: usize, last: &[u8]) -> Result<Vec<u8>, Fail
 fn with_bytes(alloc: Global, count: usize, last: &[u8]) -> Result<Vec<u8>, Fail> {
     let mut bytes = Vec::new(alloc);
     bytes.extend_from_slice(b"GET / HTTP/1.1\r\na: ")?;
-    while bytes.len() < count {
+    for _ in 19..count {
         bytes.push(b'b')?;
     }
     bytes.extend_from_slice(last)?;
