@@ -1,3 +1,4 @@
 pub mod ReplyCodes
 pub mod ReplyLines
 pub mod ReplyHead
+pub mod RouteLemmas

@@ -6,8 +6,11 @@
 #![tactic(auto)]
 
 mod reply;
+mod route;
 
+pub use http_heads::{HEAD_LIMIT, HeadParts, HeadRead, Part, head_laws, read_head};
 pub use reply::{Extra, no_memory_reply, written};
+pub use route::{Method, Route, RoutePath, RouteRefusal, find_route};
 
 #[cfg(test)]
 mod tests;
