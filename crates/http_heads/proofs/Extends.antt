@@ -1,7 +1,7 @@
 -- What is decided stays decided, whatever bytes follow.
-use Rattle.std.proofs.Common.{◌≡◌, ℕ, ◌+◌, ◌<◌, ◌≤◌, ◌⊎◌, inl, inr, List, [], ◌∷◌, ◌++◌, length, take, slice_index_or, refl, sym, ap, subst, ◌∙◌, arith, append_assoc, length-append}
+use Rattle.std.proofs.Common.{ℕ, ◌≤◌, inl, inr, List, ◌++◌, length, sym, ap, subst, ◌∙◌, arith, append_assoc, length-append}
 use Rattle.std.proofs.lemmas.List.{take-append-le, get_or_append_left}
-use Rattle.httparse.specs.Grammar.{RequestHead, print_request, ReadsRequest}
+use Rattle.httparse.specs.Grammar.{print_request}
 use Rattle.http_heads.specs.Heads.{Judgement, Judges, IsOpen, IsJudged, Decides, Asked, Takes}
 
 pub IsJudged-append : (input more : List ℕ) (n : ℕ) → IsJudged input n → IsJudged (input ++ more) n

@@ -1,19 +1,17 @@
 -- What the spans of a head say of the head.
-use Rattle.std.proofs.Common.{◌≡◌, ℕ, ◌≤◌, ◌==◌, ◌||◌, List, length, take, refl, sym, ap, ap₂, ◌∙◌, arith, nat_lt, codes, Bool, min, Some, None, subst}
+use Rattle.std.proofs.Common.{◌≡◌, ℕ, ◌==◌, ◌||◌, List, length, take, refl, sym, ap, ap₂, ◌∙◌, arith, nat_lt, codes, Bool, Some, None, subst}
 use Rattle.std.proofs.lemmas.List.{length-take, length-map}
 use Rattle.std.specs.Prelude.{map, Option}
 use Rattle.std.specs.List.{list_any}
 use Rattle.httparse.specs.Grammar.{RequestHead}
-use Rattle.httparse.specs.Spans.{header_bytes, name_and_value, span_bytes, IsRequestAt, IsRequestWithin, AreFieldsAt}
+use Rattle.httparse.specs.Spans.{header_bytes, name_and_value, span_bytes, IsRequestAt, IsRequestWithin}
 use Rattle.httparse.specs.declared.spans.HeaderSpan.{HeaderSpan}
 use Rattle.httparse.specs.declared.spans.RequestSpans.{RequestSpans}
 use Rattle.http_heads.specs.Fields.{Named, fields_of, own_refusal, refusal_of, needs_length, has_field, told_length, body_length, length_told, closes, values, only, project_of, is_admin}
 use Rattle.http_heads.specs.declared.values.BodyLength.{BodyLength}
-use Rattle.http_heads.specs.Parts.{IsPartOf, ArePartsOf}
 use Rattle.http_heads.specs.Read.{IsToldOf, IsWholeRead}
 use Rattle.http_heads.specs.declared.head.HeadParts.{HeadParts}
-use Rattle.http_heads.specs.declared.head.HeadRead.{HeadRead}
-use Rattle.http_heads.specs.declared.head.HeadRead.TheVariants.{More, Head, Refused}
+use Rattle.http_heads.specs.declared.head.HeadRead.TheVariants.{Head, Refused}
 use Rattle.http_heads.specs.Words.{has_word, is_space, is_space_or_tab}
 
 abbrev pub named_in : List ℕ → List HeaderSpan → RequestSpans → List Named

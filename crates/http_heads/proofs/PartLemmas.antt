@@ -1,5 +1,5 @@
 -- Parts of the bytes.
-use Rattle.std.proofs.Common.{◌≡◌, ℕ, ◌+◌, ◌-◌, ◌≤◌, ◌<◌, ◌⊎◌, inl, inr, List, [], length, take, drop, refl, sym, ap, ap₂, ◌∙◌, arith, min, slice_range}
+use Rattle.std.proofs.Common.{◌≡◌, ℕ, ◌+◌, ◌-◌, ◌≤◌, ◌<◌, ◌⊎◌, inl, inr, List, length, take, drop, sym, ap, ap₂, ◌∙◌, arith, min, slice_range}
 use Rattle.std.proofs.lemmas.List.{take-take, drop-take, drop-drop, drop_all, length-take, length-drop}
 use Rattle.std.specs.Prelude.{Option, Some, None}
 use Rattle.http_heads.specs.declared.head.Part.{Part}

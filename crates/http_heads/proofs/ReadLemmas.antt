@@ -1,11 +1,11 @@
 -- What is answered of what the bytes decide.
-use Rattle.std.proofs.Common.{◌≡◌, ℕ, ◌≤◌, ◌<◌, Bool, true, false, List, length, take, inl, inr, refl, sym, ap, subst, ◌∙◌, arith, if◌then◌else◌, nat_lt, codes}
+use Rattle.std.proofs.Common.{ℕ, ◌≤◌, Bool, true, false, List, length, take, inl, inr, refl, subst, arith, if◌then◌else◌, nat_lt, codes}
 use Rattle.std.specs.Prelude.{Option, Some, None}
 use Rattle.httparse.specs.Grammar.{RequestHead}
-use Rattle.http_heads.specs.Fields.{own_refusal, fields_of, refusal_of, refusal_by_form, refusal_by_length, told_length, needs_length, has_field}
+use Rattle.http_heads.specs.Fields.{own_refusal, fields_of, refusal_of, refusal_by_form, told_length, needs_length, has_field}
 use Rattle.http_heads.specs.declared.values.BodyLength.{BodyLength}
 use Rattle.http_heads.specs.declared.values.BodyLength.TheVariants.{Missing, Given, Bad}
-use Rattle.http_heads.specs.Heads.{Judgement, Passes, Refuses, judgement_of, Decides, IsUndecided, IsOpen, IsJudged}
+use Rattle.http_heads.specs.Heads.{Judgement, judgement_of, Decides, IsUndecided}
 use Rattle.http_heads.specs.Read.{IsReadAs, IsWholeRead, IsHeadRead, IsNumbered, undecided_read}
 use Rattle.http_heads.specs.declared.head.HeadRead.{HeadRead}
 use Rattle.http_heads.specs.declared.head.HeadRead.TheVariants.{More, Head, Refused}

@@ -1,15 +1,15 @@
 -- Bytes decide one thing, and begin with one request.
-use Rattle.std.proofs.Common.{◌≡◌, ℕ, ◌+◌, ◌<◌, ◌≤◌, ◌⊎◌, inl, inr, List, [], ◌∷◌, ◌++◌, length, take, drop, Option, Some, None, refl, sym, ap, ap₂, subst, ◌∙◌, arith, append_assoc, append-nil, length-append, length-take, Bool, true, false, if◌then◌else◌, nat_lt}
+use Rattle.std.proofs.Common.{◌≡◌, ℕ, ◌+◌, ◌<◌, ◌≤◌, ◌⊎◌, inl, inr, List, [], ◌++◌, length, take, drop, Option, Some, None, refl, sym, ap, ap₂, subst, ◌∙◌, arith, append-nil, length-append, length-take, Bool, true, false, if◌then◌else◌, nat_lt}
 use Rattle.std.proofs.Math.Seq.{take-append_seam, drop-append_seam}
 use Rattle.std.proofs.lemmas.Bool.Decides.{nat_tests}
 use Rattle.std.proofs.lemmas.List.{length-take-le, append_cancel_left}
 use Rattle.std.specs.Prelude.{codes}
 use Rattle.httparse.specs.Grammar.{RequestHead, print_request, ReadsRequest}
 use Rattle.httparse.proofs.GrammarLemmas.{request_unique}
-use Rattle.http_heads.specs.Fields.{own_refusal, body_length, fields_of, refusal_of, refusal_by_form, refusal_by_length, length_told, told_length, has_field, needs_length}
+use Rattle.http_heads.specs.Fields.{own_refusal, body_length, fields_of, refusal_of, refusal_by_form, length_told, told_length, has_field, needs_length}
 use Rattle.http_heads.specs.declared.values.BodyLength.{BodyLength}
 use Rattle.http_heads.specs.declared.values.BodyLength.TheVariants.{Missing, Given, Bad}
-use Rattle.http_heads.specs.Heads.{Judgement, Passes, Refuses, judgement_of, Judges, whole, wrong, large, IsOpen, IsJudged, IsNoHead, Decides, IsUndecided, IsWaiting, Asked, Takes}
+use Rattle.http_heads.specs.Heads.{Judgement, Passes, Refuses, judgement_of, Judges, whole, wrong, large, IsOpen, Decides, IsUndecided, IsWaiting, Asked, Takes}
 
 -- an open prefix says nothing
 pub open_says_nothing : (p : List ℕ) (j : Judgement) → IsOpen p → Judges p j → ⊥

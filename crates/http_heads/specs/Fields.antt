@@ -1,13 +1,12 @@
 -- What the fields of a head say of the request (RFC 9110, sections 7.6.1 and 8.6; RFC 9112, section 6).
-use Rattle.std.specs.Prelude.{ℕ, Bool, true, false, ◌&&◌, ◌||◌, ◌==◌, nat_lt, nat_le, List, [], ◌∷◌, length, map, filter, Option, Some, None, codes, if◌then◌else◌}
-use Rattle.std.specs.List.{list_all, list_any}
-use Rattle.std.specs.Char.{is_ascii_digit}
+use Rattle.std.specs.Prelude.{ℕ, Bool, false, ◌||◌, ◌==◌, nat_lt, List, [], ◌∷◌, length, map, filter, Option, Some, None, codes, if◌then◌else◌}
+use Rattle.std.specs.List.{list_any}
 use Rattle.std.specs.Str.{bytes_eq}
-use Rattle.std.specs.Str.Parse.{digits_value}
 use Rattle.httparse.specs.Grammar.{RequestHead}
 use Rattle.httparse.specs.Spans.{name_and_value}
 use Rattle.http_heads.specs.declared.values.BodyLength.{BodyLength}
 use Rattle.http_heads.specs.declared.values.BodyLength.TheVariants.{Missing, Given, Bad}
+use Rattle.http_heads.specs.Numbers.{number_in}
 use Rattle.http_heads.specs.Words.{same_word, has_word, is_space, is_space_or_tab}
 
 -- a field: its name, and its value without white space at its ends
@@ -22,18 +21,14 @@ fields_of head = map name_and_value head.fields
 abbrev pub values : List ℕ → List Named → List (List ℕ)
 values name fields = map (λ f. f.1) (filter (λ f. same_word f.0 name) fields)
 
--- 1 to 10 digits
-abbrev pub is_length : List ℕ → Bool
-is_length text = nat_le 1 (length text) && (nat_le (length text) 10 && list_all is_ascii_digit text)
+abbrev pub length_by : Option ℕ → BodyLength
+length_by (Some n) = Given n
+length_by None = Bad
 
-abbrev pub length_by : Bool → ℕ → BodyLength
-length_by true n = Given n
-length_by false n = Bad
-
--- what some values of `Content-Length` say of the body's length
+-- what some values of `Content-Length` say of the body's length: one of 1 to 10 digits
 abbrev pub length_in : List (List ℕ) → BodyLength
 length_in [] = Missing
-length_in (text ∷ []) = length_by (is_length text) (digits_value 10 text)
+length_in (text ∷ []) = length_by (number_in 10 text)
 length_in (text ∷ (other ∷ texts)) = Bad
 
 -- the same of the fields

@@ -1,5 +1,6 @@
 pub mod Lines
 pub mod Words
+pub mod Numbers
 pub mod Fields
 pub mod Heads
 pub mod Parts

@@ -1,9 +1,9 @@
 -- What the reading of a head answers.
-use Rattle.std.specs.Prelude.{◌≡◌, ℕ, ◌≤◌, ◌⊎◌, Bool, true, false, List, [], ◌∷◌, ◌++◌, length, take, map, Option, Some, None}
+use Rattle.std.specs.Prelude.{◌≡◌, ℕ, ◌≤◌, ◌⊎◌, Bool, true, false, List, [], ◌∷◌, ◌++◌, length, take, Option, Some, None}
 use Rattle.httparse.specs.Grammar.{RequestHead, print_request, ReadsRequest}
 use Rattle.httparse.specs.Spans.{IsRequestAt, IsRequestWithin}
 use Rattle.httparse.specs.declared.spans.HeaderSpan.{HeaderSpan}
-use Rattle.http_heads.specs.Fields.{own_refusal, body_length, closes}
+use Rattle.http_heads.specs.Fields.{body_length, closes}
 use Rattle.http_heads.specs.Heads.{Judgement, Passes, Refuses, IsNoHead, CanFollow, IsLarge, IsOpen, Decides, IsJudged, IsUndecided}
 use Rattle.http_heads.specs.Lines.{line_feeds, behind_blank}
 use Rattle.http_heads.specs.Parts.{ArePartsOf}

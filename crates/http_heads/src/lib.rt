@@ -16,6 +16,7 @@ mod whole;
 
 pub use head::{HeadParts, HeadRead, Part, read_head};
 pub use laws::head_laws;
+pub use values::read_number;
 
 /// The most bytes of a head.
 pub const HEAD_LIMIT: usize = 16384;

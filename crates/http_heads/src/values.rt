@@ -3,7 +3,8 @@ ghost use Rattle.std.specs.Prelude.{◌≡◌, ◌-◌, ◌≤◌, ◌<◌, leng
 ghost use Rattle.std.specs.List.{prefix_len, suffix_len, list_all};
 ghost use Rattle.std.specs.Char.{is_ascii_digit};
 ghost use Rattle.std.specs.Str.Parse.{digits_value};
-ghost use Rattle.http_heads.specs.Fields.{is_length, length_by};
+ghost use Rattle.http_heads.specs.Fields.{length_by};
+ghost use Rattle.http_heads.specs.Numbers.{is_number, number_in};
 ghost use Rattle.http_heads.specs.Words.{same_word, cut_front, cut_back, cut_ends, has_word, blank_of};
 
 // What may stand around an item of a list.
@@ -89,16 +90,16 @@ fn all_digits(text: &[u8]) -> bool
     text.iter().all(|b| b.is_ascii_digit())
 }
 
-// Whether a text is 1 to 10 digits.
-fn is_number(text: &[u8]) -> bool
-    ensures { result ≡ is_length text.now }
+// Whether a text is 1 to so many digits.
+fn is_short_number(text: &[u8], most: usize) -> bool
+    ensures { result ≡ is_number most text.now }
 {
-    1 <= text.len() && text.len() <= 10 && all_digits(text)
+    1 <= text.len() && text.len() <= most && all_digits(text)
 }
 
-// The number that 1 to 10 digits write.
+// The number that 1 to 19 digits write.
 fn number(text: &[u8]) -> u64
-    requires { IsTrue (is_length text.now) }
+    requires { IsTrue (is_number 19 text.now) }
     ensures { result ≡ digits_value 10 text.now }
 {
     let mut n: u64 = 0;
@@ -108,13 +109,24 @@ fn number(text: &[u8]) -> u64
     n
 }
 
-// The length of a body as one field gives it.
-pub(crate) fn read_length(text: &[u8]) -> BodyLength
-    ensures { result ≡ length_by (is_length text.now) (digits_value 10 text.now) }
+/// The number that a text of 1 to `most` digits and nothing else writes. `most` is at most 19.
+pub fn read_number(text: &[u8], most: usize) -> Option<u64>
+    requires { most ≤ 19 }
+    ensures { result ≡ number_in most text.now }
 {
-    if is_number(text) {
-        BodyLength::Given(number(text))
+    if is_short_number(text, most) {
+        Some(number(text))
     } else {
-        BodyLength::Bad
+        None
+    }
+}
+
+// The length of a body as one field gives it: 1 to 10 digits.
+pub(crate) fn read_length(text: &[u8]) -> BodyLength
+    ensures { result ≡ length_by (number_in 10 text.now) }
+{
+    match read_number(text, 10) {
+        Some(length) => BodyLength::Given(length),
+        None => BodyLength::Bad,
     }
 }

@@ -1,9 +1,7 @@
-use Rattle.std.proofs.Common.{◌≡◌, ◌≤◌, take, length, [], false}
+use Rattle.std.proofs.Common.{◌≡◌, take, []}
 use Rattle.std.specs.Prelude.{map}
-use Rattle.std.specs.List.{list_any}
 use Rattle.httparse.specs.Spans.{header_bytes}
 use Rattle.http_heads.specs.Fields.{values}
-use Rattle.http_heads.specs.Words.{has_word, blank_of}
 use Rattle.http_heads.proofs.field_list.first_named.Given as goal
 
 abbrev pub invariant-loop-field : goal.invariant-loop-field

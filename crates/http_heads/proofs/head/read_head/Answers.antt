@@ -1,7 +1,7 @@
-use Rattle.std.proofs.Common.{arith, ◌+◌, refl, ◌≡◌, true, false, sym, subst, ℕ, ◌≤◌, take}
+use Rattle.std.proofs.Common.{arith, ◌+◌, refl, true, false, sym, subst}
 use Rattle.http_heads.specs.Heads.{wrong, large, whole, Refuses, judgement_of, IsUndecided}
 use Rattle.http_heads.specs.Fields.{own_refusal}
-use Rattle.http_heads.specs.Read.{IsReadAs, undecided_read}
+use Rattle.http_heads.specs.Read.{undecided_read}
 use Rattle.http_heads.proofs.Prefixes.{decides_so, opens_more}
 use Rattle.http_heads.proofs.ReadLemmas.{IsAnswer, decided_so, undecided_so, read_of_all, numbered_whole}
 use Rattle.http_heads.proofs.head.read_head.Goals as goal

@@ -1,4 +1,4 @@
-use Rattle.std.proofs.Common.{◌≡◌, ◌∙◌, sym, ap, Some, None}
+use Rattle.std.proofs.Common.{◌∙◌, sym, ap}
 use Rattle.http_heads.specs.Fields.{own_refusal, length_told}
 use Rattle.http_heads.proofs.HeadLemmas.{own_so, length_is, closes_is, refused_so, passed_so}
 use Rattle.http_heads.proofs.whole.read_whole.Goals as goal
