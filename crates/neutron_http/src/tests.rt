@@ -1,5 +1,6 @@
 use super::*;
-use net_addr::{OutOfMemory, Text};
+use api_types::{Id, Kind, Refusal, UseRule, Value};
+use net_addr::{Addr4, OutOfMemory, Text};
 use std::alloc::Global;
 use std::test::Fail;
 
@@ -67,5 +68,91 @@ fn routes(rt: HostRuntime) -> Result<(), Fail> {
     assert!(rt; route.path == RoutePath::AddInterface && route.method == Method::Put);
     let expected = Text::of(alloc, "a.b")?;
     assert!(rt; route.parameters.len() == 1 && route.parameters.as_slice()[0] == expected);
+    Ok(())
+}
+
+// The name of the first bad name of a list's query, or nothing.
+fn bad_name(alloc: Global, text: &[u8]) -> Result<Text, Fail> {
+    let Ok(route) = find_route(alloc, b"GET", b"/v2.0/networks") else {
+        return Err(OutOfMemory)?;
+    };
+    match read_query(alloc, &route, text) {
+        Ok(_) => Ok(Text::new(alloc)),
+        Err(BodyRefusal::BadAttribute { name }) => Ok(name),
+        Err(_) => Err(OutOfMemory)?,
+    }
+}
+
+// Queries of lists: the first bad name, in the text's order.
+#[test]
+fn queries(rt: HostRuntime) -> Result<(), Fail> {
+    let alloc = rt.alloc();
+    let cases: [(&[u8], &str); 11] = [
+        (b"name=n1&fields=id&fields=colour", ""),
+        (b"colour=n1", "colour"),
+        (b"%6Eame=x&status=y&limit=0", "status"),
+        (b"limit=0", "limit"),
+        (b"limit=10001", "limit"),
+        (b"limit=00005", ""),
+        (b"limit=000005", "limit"),
+        (b"limit=1&marker=x&limit=1&marker=y", "limit"),
+        (b"marker=x&marker=x", "marker"),
+        (b"router:external=true&shared=TRUE&id=&tenant_id=a", ""),
+        (b"", ""),
+    ];
+    for (text, wanted) in cases {
+        let name = bad_name(alloc, text)?;
+        assert_eq!(rt; name.as_str(), wanted);
+    }
+    Ok(())
+}
+
+// The texts of some refusals, as clients read them.
+#[test]
+fn faults(rt: HostRuntime) -> Result<(), Fail> {
+    let alloc = rt.alloc();
+    let network = Id::make(1, 6);
+    let used = fault_of(
+        alloc,
+        &Refusal::InUse {
+            rule: UseRule::RbacPolicyInUse,
+            kind: Kind::Policy,
+            id: Id::make(1, 7),
+            by: Some((Kind::Port, Id::make(2, 6))),
+        },
+    )?;
+    assert_eq!(rt; used.kind.as_str(), "RbacPolicyInUse");
+    assert_eq!(rt;
+        used.message.as_str(),
+        "RbacPolicy 00000001-0000-8000-8000-000000000007 is in use by port 00000002-0000-8000-8000-000000000006."
+    );
+    let spent = fault_of(alloc, &Refusal::PoolsSpent { network })?;
+    assert_eq!(rt;
+        spent.message.as_str(),
+        "No more IP addresses available on network 00000001-0000-8000-8000-000000000006."
+    );
+    let quota = fault_of(
+        alloc,
+        &Refusal::OverQuota {
+            resource: Kind::Network,
+            limit: 100,
+            used: 100,
+        },
+    )?;
+    assert_eq!(rt;
+        quota.message.as_str(),
+        "Quota exceeded for network: limit 100, used 100."
+    );
+    let held = fault_of(
+        alloc,
+        &Refusal::Taken {
+            value: Value::Address(Addr4(0x0a00_0005)),
+            network,
+        },
+    )?;
+    assert_eq!(rt;
+        held.message.as_str(),
+        "IP address 10.0.0.5 is in use in network 00000001-0000-8000-8000-000000000006."
+    );
     Ok(())
 }
