@@ -1,0 +1,72 @@
+use crate::event::Event;
+use crate::tables::HostTables;
+use crate::verdict::Verdict;
+use api_types::{Answer, Call, Refusal};
+use net_addr::{Seq, Text};
+
+/// What a request asks.
+#[derive(Drop)]
+pub enum Ask {
+    Api(Call),
+    Lab(LabCall),
+}
+
+/// A call of the lab, in which hosts carry frames.
+#[derive(Drop)]
+pub enum LabCall {
+    /// What the hosts' tables make of an event.
+    Frames(Event),
+    /// What the rows make of an event.
+    Explain(Event),
+    /// A host gets the change with this number.
+    Deliver { host: Text, number: u64 },
+    /// A host gets the rows of now.
+    Resync(Text),
+    /// A host forgets which change it has.
+    Restart(Text),
+    /// A host forgets its tracked entries.
+    Forget(Text),
+    /// Each host that doesn't have the rows of now gets them.
+    Settle,
+    /// The hosts, and what they have.
+    Hosts,
+    /// A host's tables.
+    Tables(Text),
+}
+
+/// What a host makes of a change that it gets.
+#[derive(Clone, Copy, PartialEq, Eq)]
+pub enum Heard {
+    /// It follows what the host has, which is now the change with this number.
+    Applied { held: u64 },
+    /// The host has it already.
+    Old { held: u64 },
+    /// The host lacks one before it.
+    Gap { held: u64 },
+    /// The host has none.
+    Asleep,
+}
+
+/// A host's name, and the number of the last change that it has.
+#[derive(Drop)]
+pub struct HostState {
+    pub name: Text,
+    pub held: Option<u64>,
+}
+
+/// What the lab answers.
+#[derive(Drop)]
+pub enum LabAnswer {
+    Seen(Verdict),
+    Told(Heard),
+    Hosts(Seq<HostState>),
+    Tables(HostTables),
+}
+
+/// What a request is answered.
+#[derive(Drop)]
+pub enum Reply {
+    Done(Answer),
+    LabDone(LabAnswer),
+    Refused(Refusal),
+}
