@@ -1,0 +1,53 @@
+-- A path crosses between networks only at routers that have live ports on both.
+use Rattle.std.specs.Prelude.{◌≡◌, ℕ, Bool, true, false, ◌&&◌, List, [], ◌∷◌, ◌++◌, Option, Some, None, ⊤}
+use Rattle.std.specs.List.{list_any}
+use Rattle.api_types.specs.Ident.{Ident}
+use Rattle.api_types.specs.RowLists.{RowLists}
+use Rattle.api_types.specs.Table.{ident_eq, row_of}
+use Rattle.api_types.specs.declared.port.PortRow.{PortRow}
+use Rattle.api_types.specs.declared.router.RouterRow.{RouterRow}
+use Rattle.plane_types.specs.Holders.{router_named}
+use Rattle.plane_types.specs.Meaning.{Fate}
+use Rattle.plane_types.specs.RouterRows.{is_leg_of}
+use Rattle.plane_types.specs.declared.verdict.Outcome.{Outcome}
+use Rattle.plane_types.specs.declared.verdict.Outcome.TheVariants.{Absorbed, Answered, Delivered, Dropped, Out}
+
+abbrev pub leg_on : RowLists → RouterRow → Ident → Bool
+leg_on rows r n = list_any (λ (p : PortRow). is_leg_of rows r p && ident_eq n p.network) rows.ports
+
+abbrev pub joins_networks : RowLists → Ident → Ident → Option RouterRow → Bool
+joins_networks rows n m None = false
+joins_networks rows n m (Some r) = leg_on rows r n && leg_on rows r m
+
+-- from a network on
+abbrev pub CrossesFrom : RowLists → Ident → List Ident → Type 0
+CrossesFrom rows n [] = ⊤
+CrossesFrom rows n (r ∷ []) = ⊥
+CrossesFrom rows n (r ∷ m ∷ rest) = (joins_networks rows n m (router_named rows r) ≡ true) × CrossesFrom rows m rest
+
+abbrev pub last_from : Ident → List Ident → Ident
+last_from n [] = n
+last_from n (r ∷ []) = n
+last_from n (r ∷ m ∷ rest) = last_from m rest
+
+-- a packet is delivered on this network
+abbrev pub EndsOn : RowLists → Ident → Outcome → Type 0
+EndsOn rows n (Delivered port f) = (q : PortRow) → row_of (λ (p : PortRow). p.id) port rows.ports ≡ Some q → n ≡ q.network
+EndsOn rows n (Answered a) = ⊤
+EndsOn rows n (Absorbed r) = ⊤
+EndsOn rows n (Out m t f) = ⊤
+EndsOn rows n (Dropped c) = ⊤
+
+abbrev pub not_delivered : Outcome → Bool
+not_delivered (Delivered port f) = false
+not_delivered (Answered a) = true
+not_delivered (Absorbed r) = true
+not_delivered (Out m t f) = true
+not_delivered (Dropped c) = true
+
+abbrev pub PathCrosses : RowLists → List Ident → Outcome → Type 0
+PathCrosses rows [] o = not_delivered o ≡ true
+PathCrosses rows (n ∷ rest) o = CrossesFrom rows n rest × EndsOn rows (last_from n rest) o
+
+abbrev pub CrossesAtRouters : RowLists → Fate → Type 0
+CrossesAtRouters rows v = PathCrosses rows v.path v.outcome
