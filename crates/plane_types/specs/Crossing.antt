@@ -7,10 +7,10 @@ use Rattle.api_types.specs.Table.{ident_eq, row_of}
 use Rattle.api_types.specs.declared.port.PortRow.{PortRow}
 use Rattle.api_types.specs.declared.router.RouterRow.{RouterRow}
 use Rattle.plane_types.specs.Holders.{router_named}
-use Rattle.plane_types.specs.Meaning.{Fate}
 use Rattle.plane_types.specs.RouterRows.{is_leg_of}
 use Rattle.plane_types.specs.declared.verdict.Outcome.{Outcome}
 use Rattle.plane_types.specs.declared.verdict.Outcome.TheVariants.{Absorbed, Answered, Delivered, Dropped, Out}
+use Rattle.plane_types.specs.declared.verdict.Verdict.{Verdict as ToldVerdict}
 
 abbrev pub leg_on : RowLists → RouterRow → Ident → Bool
 leg_on rows r n = list_any (λ (p : PortRow). is_leg_of rows r p && ident_eq n p.network) rows.ports
@@ -49,5 +49,5 @@ abbrev pub PathCrosses : RowLists → List Ident → Outcome → Type 0
 PathCrosses rows [] o = not_delivered o ≡ true
 PathCrosses rows (n ∷ rest) o = CrossesFrom rows n rest × EndsOn rows (last_from n rest) o
 
-abbrev pub CrossesAtRouters : RowLists → Fate → Type 0
+abbrev pub CrossesAtRouters : RowLists → ToldVerdict → Type 0
 CrossesAtRouters rows v = PathCrosses rows v.path v.outcome

@@ -1,0 +1,138 @@
+-- Every path of the rows' verdict crosses at routers alone.
+use Rattle.std.proofs.Common.{◌≡◌, ℕ, zero, suc, List, [], ◌∷◌, ◌++◌, Bool, true, false, cond, not, Option, Some, None, refl, ap, sym, subst, ◌∙◌, append_assoc}
+use Rattle.std.specs.Prelude.{find, ◌&&◌, ◌||◌, ◌==◌, ⊤, if◌then◌else◌}
+use Rattle.std.specs.List.{list_any}
+use Rattle.std.specs.Str.{bytes_eq}
+use Rattle.std.proofs.lemmas.Bool.{and_parts, and_from}
+use Rattle.std.proofs.lemmas.Option.{same_Some}
+use Rattle.std.proofs.lemmas.List.{append-nil}
+use Rattle.plane_laws.proofs.ListLemmas.{find-passes, find-only, list_any-found}
+use Rattle.plane_laws.proofs.Located.{ident_same, ident_self}
+use Rattle.plane_laws.proofs.Neighbours.{holder-at}
+use Rattle.plane_laws.proofs.RouterTables.{Lower, routed-lower}
+use Rattle.plane_laws.proofs.RouterLaw.{joined-found, passes-filter, from-filter}
+use Rattle.api_types.specs.Ident.{Ident}
+use Rattle.api_types.specs.Owners.{device_is, is_router_port}
+use Rattle.api_types.specs.RowLists.{RowLists}
+use Rattle.api_types.specs.Table.{ident_eq, row_of}
+use Rattle.api_types.specs.declared.group.Direction.TheVariants.{Ingress}
+use Rattle.api_types.specs.declared.port.PortRow.{PortRow}
+use Rattle.api_types.specs.declared.router.RouterRow.{RouterRow}
+use Rattle.plane_types.specs.Crossing.{CrossesFrom, EndsOn, PathCrosses, joins_networks, last_from, leg_on, not_delivered}
+use Rattle.plane_types.specs.Holders.{has_mac, holder, router_named, router_of}
+use Rattle.plane_types.specs.Live.{is_live, joined_with, segment, wire_of}
+use Rattle.plane_types.specs.Meaning.{Fate, Trace, at_router, delivered_by, ended, got, handed, handed_out, handed_to, out_or, received, rows_passage, with_fresh, with_path}
+use Rattle.plane_types.specs.Packets.{Packet, ip_frame}
+use Rattle.plane_types.specs.Passage.{Passage}
+use Rattle.plane_types.specs.RouterRows.{is_leg_of, leg_of, legs_of, router_view}
+use Rattle.plane_types.specs.Routing.{RouteEnds, RouteSends, Routed, routed}
+use Rattle.plane_types.specs.declared.entry.Entry.{Entry}
+use Rattle.plane_types.specs.declared.table.Wire.{Wire}
+use Rattle.plane_types.specs.declared.verdict.DropCause.TheVariants.{Ingress as IngressFilter, NoHolder}
+use Rattle.plane_types.specs.declared.verdict.Outcome.{Outcome}
+use Rattle.plane_types.specs.declared.verdict.Outcome.TheVariants.{Absorbed, Answered, Delivered, Dropped, Out}
+use Rattle.plane_types.specs.declared.verdict.Toward.TheVariants.{Address as TowardAddress}
+use Rattle.plane_laws.proofs.Facts.{FrameFacts, has_id}
+
+abbrev pub FateCrosses : RowLists → Fate → Type 0
+FateCrosses rows v = PathCrosses rows v.path v.outcome
+
+-- what is added to the path from a network on
+pub record Goes (rows : RowLists) (n : Ident) (t : Trace) (v : Fate) : Type 0 where
+  pub added : List Ident
+  pub path : v.path ≡ t.path ++ added
+  pub crosses : CrossesFrom rows n added
+  pub on : EndsOn rows (last_from n added) v.outcome
+
+pub ends-on : (rows : RowLists) (n : Ident) (o : Outcome) → not_delivered o ≡ true → EndsOn rows n o
+ends-on rows n (Delivered q f) h = cc
+ends-on rows n (Answered a) h = tt
+ends-on rows n (Absorbed r) h = tt
+ends-on rows n (Out m t f) h = tt
+ends-on rows n (Dropped c) h = tt
+
+module _ (rows : RowLists) (good : FrameFacts rows) (entries : List Entry) where
+  stays : (n : Ident) (t : Trace) (o : Outcome) → not_delivered o ≡ true → Goes rows n t (ended t o)
+  stays n t o h = record { added = []; path = sym (append-nil t.path); crosses = tt; on = ends-on rows n o h }
+
+  module _ (test : PortRow → Bool) (q : PortRow) (found : find test rows.ports ≡ Some q) (live : is_live rows q ≡ true) where
+    arrives : (p : Packet) (t : Trace) → Goes rows q.network t (received rows entries q p t)
+    arrives p t = go (rows_passage rows (entries ++ t.fresh) q Ingress p)
+      where
+        is : (x : PortRow) → row_of (λ (z : PortRow). z.id) q.id rows.ports ≡ Some x → q.network ≡ x.network
+        is x e = ap (λ (z : PortRow). z.network) (same_Some q x (sym (find-only test (has_id q.id) rows.ports q (good.port_ids q.id) found (ident_self q.id)) ∙ e))
+
+        by : (b : Bool) (made : List Entry) → Goes rows q.network t (if b then ended (with_fresh t made) (Delivered q.id (ip_frame p)) else ended t (Dropped IngressFilter))
+        by true made = record { added = []; path = sym (append-nil t.path); crosses = tt; on = is }
+        by false made = stays q.network t (Dropped IngressFilter) refl
+
+        go : (y : Passage) → Goes rows q.network t (delivered_by q p t y)
+        go y = by y.passes y.made
+
+    module _ (router : is_router_port q.owner ≡ true) (r : RouterRow) (router_is : router_of rows q ≡ Some r) where
+      named : router_named rows r.id ≡ Some r
+      named = find-only (λ (z : RouterRow). device_is q.device z.id) (λ (z : RouterRow). ident_eq r.id z.id) rows.routers r (good.router_ids r.id) router_is (ident_self r.id)
+
+      mine : is_leg_of rows r q ≡ true
+      mine = and_from (is_router_port q.owner && device_is q.device r.id) (is_live rows q) (and_from (is_router_port q.owner) (device_is q.device r.id) router (find-passes (λ (z : RouterRow). device_is q.device z.id) rows.routers r router_is)) live
+
+      first : leg_on rows r q.network ≡ true
+      first = list_any-found test (λ (p : PortRow). is_leg_of rows r p && ident_eq q.network p.network) rows.ports q found (and_from (is_leg_of rows r q) (ident_eq q.network q.network) mine (ident_self q.network))
+
+      module _ (many : ℕ) (rest : (test : PortRow → Bool) (q : PortRow) → find test rows.ports ≡ Some q → is_live rows q ≡ true → (p : Packet) (t : Trace) → Goes rows q.network t (got rows entries many q p t)) where
+        onward : (t : Trace) (hop : ℕ) (p : Packet) (port : Ident) (made : List Entry) (o : PortRow) → find (has_id port) (legs_of rows r) ≡ Some o → Goes rows q.network t (handed_out rows (got rows entries many) r hop p (with_fresh t made) (Some o))
+        unfolding legs_of
+        onward t hop p port made o leg = go (joined_with rows o.host (holder rows o.network hop)) refl
+          where
+            is_leg : is_leg_of rows r o ≡ true
+            is_leg = passes-filter (has_id port) (is_leg_of rows r) rows.ports o leg
+
+            by_id : find (has_id o.id) rows.ports ≡ Some o
+            by_id = from-filter (has_id port) (is_leg_of rows r) (has_id o.id) rows.ports o leg (ident_self o.id) (good.port_ids o.id)
+
+            second : leg_on rows r o.network ≡ true
+            second = list_any-found (has_id o.id) (λ (p : PortRow). is_leg_of rows r p && ident_eq o.network p.network) rows.ports o by_id (and_from (is_leg_of rows r o) (ident_eq o.network o.network) is_leg (ident_self o.network))
+
+            crossing : joins_networks rows q.network o.network (router_named rows r.id) ≡ true
+            crossing = ap (joins_networks rows q.network o.network) named ∙ and_from (leg_on rows r q.network) (leg_on rows r o.network) first second
+
+            out : (w : Option Wire) → not_delivered (out_or w o.network (TowardAddress hop) (ip_frame (record p { dst = 0 })) NoHolder) ≡ true
+            out None = refl
+            out (Some w) = refl
+
+            go : (j : Option PortRow) → joined_with rows o.host (holder rows o.network hop) ≡ j → Goes rows q.network t (handed_to rows (got rows entries many) o.network hop p (with_path (with_fresh t made) (r.id ∷ o.network ∷ [])) j)
+            go None e = record { added = r.id ∷ o.network ∷ []; path = refl; crosses = (crossing, tt); on = ends-on rows o.network (out_or (wire_of (segment rows o.network)) o.network (TowardAddress hop) (ip_frame (record p { dst = 0 })) NoHolder) (out (wire_of (segment rows o.network))) }
+            go (Some q2) e =
+                let at = holder-at rows good o.network hop q2 (joined-found rows o.host (holder rows o.network hop) q2 e).0 in
+                let parts = and_parts (ident_eq o.network q2.network && (q2.mac == q2.mac)) (is_live rows q2) (find-passes (has_mac rows o.network q2.mac) rows.ports q2 at) in
+                let same : o.network ≡ q2.network = ident_same o.network q2.network (and_parts (ident_eq o.network q2.network) (q2.mac == q2.mac) parts.0).0 in
+                then_on q2 same (rest (has_mac rows o.network q2.mac) q2 at parts.1 (record p { dst = q2.mac }) (with_path (with_fresh t made) (r.id ∷ o.network ∷ [])))
+              where
+                then_on : (q2 : PortRow) → o.network ≡ q2.network → Goes rows q2.network (with_path (with_fresh t made) (r.id ∷ o.network ∷ [])) (got rows entries many q2 (record p { dst = q2.mac }) (with_path (with_fresh t made) (r.id ∷ o.network ∷ []))) → Goes rows q.network t (got rows entries many q2 (record p { dst = q2.mac }) (with_path (with_fresh t made) (r.id ∷ o.network ∷ [])))
+                then_on q2 same g = record {
+                  added = r.id ∷ o.network ∷ g.added;
+                  path = g.path ∙ append_assoc t.path (r.id ∷ o.network ∷ []) g.added;
+                  crosses = (crossing, subst (λ n. CrossesFrom rows n g.added) (sym same) g.crosses);
+                  on = subst (λ n. EndsOn rows (last_from n g.added) (got rows entries many q2 (record p { dst = q2.mac }) (with_path (with_fresh t made) (r.id ∷ o.network ∷ []))).outcome) (sym same) g.on;
+                }
+
+        by-routed : (t : Trace) (n : ℕ) (x : Routed) → Lower n x → Goes rows q.network t (handed rows (got rows entries many) r t x)
+        by-routed t n (RouteEnds o) low = stays q.network t o low
+        by-routed t n (RouteSends made out hop p) low = go (find (has_id out.port) (legs_of rows r)) refl
+          where
+            go : (o : Option PortRow) → find (has_id out.port) (legs_of rows r) ≡ o → Goes rows q.network t (handed_out rows (got rows entries many) r hop p (with_fresh t made) o)
+            go None e = record { added = []; path = sym (append-nil t.path); crosses = tt; on = tt }
+            go (Some o) e = onward t hop p out.port made o e
+
+  pub got-goes : (many : ℕ) (test : PortRow → Bool) (q : PortRow) → find test rows.ports ≡ Some q → is_live rows q ≡ true → (p : Packet) (t : Trace) → Goes rows q.network t (got rows entries many q p t)
+  unfolding got
+  got-goes zero test q found live p t = record { added = []; path = sym (append-nil t.path); crosses = tt; on = tt }
+  got-goes (suc many) test q found live p t = go (is_router_port q.owner) refl (got-goes many)
+    where
+      by : is_router_port q.owner ≡ true → ((test : PortRow → Bool) (q : PortRow) → find test rows.ports ≡ Some q → is_live rows q ≡ true → (p : Packet) (t : Trace) → Goes rows q.network t (got rows entries many q p t)) → (o : Option RouterRow) → router_of rows q ≡ o → Goes rows q.network t (at_router rows entries (got rows entries many) q p t o)
+      by e rest None f = record { added = []; path = sym (append-nil t.path); crosses = tt; on = tt }
+      by e rest (Some r) f = by-routed test q found live e r f many rest t p.ttl (routed (router_view rows r) (entries ++ t.fresh) (leg_of q) p) (routed-lower (router_view rows r) (entries ++ t.fresh) (leg_of q) p)
+
+      go : (b : Bool) → is_router_port q.owner ≡ b → ((test : PortRow → Bool) (q : PortRow) → find test rows.ports ≡ Some q → is_live rows q ≡ true → (p : Packet) (t : Trace) → Goes rows q.network t (got rows entries many q p t)) → Goes rows q.network t (if b then at_router rows entries (got rows entries many) q p t (router_of rows q) else received rows entries q p t)
+      go true e rest = by e rest (router_of rows q) refl
+      go false e rest = arrives test q found live p t

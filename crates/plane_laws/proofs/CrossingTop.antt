@@ -1,0 +1,137 @@
+-- The rows' verdict on any event crosses at routers alone, and delivers on its path's last network.
+use Rattle.std.proofs.Common.{◌≡◌, ℕ, zero, suc, List, [], ◌∷◌, ◌++◌, Bool, true, false, cond, not, Option, Some, None, refl, ap, sym, subst, ◌∙◌}
+use Rattle.std.specs.Prelude.{◌<◌, ◌^◌, length, find, option_and_then, ◌&&◌, ◌||◌, ◌==◌, if◌then◌else◌}
+use Rattle.std.proofs.lemmas.Bool.{and_parts}
+use Rattle.plane_laws.proofs.ListLemmas.{find-passes}
+use Rattle.plane_laws.proofs.FactsHold.{frame-facts}
+use Rattle.plane_laws.proofs.Theorem.{tables-mean-rows}
+use Rattle.plane_laws.proofs.Located.{ident_same}
+use Rattle.plane_laws.proofs.RouterLaw.{joined-found}
+use Rattle.plane_laws.proofs.CrossingLaw.{FateCrosses, Goes, ends-on, got-goes}
+use Rattle.api_types.specs.Consistent.{IsConsistent}
+use Rattle.api_types.specs.Ident.{Ident}
+use Rattle.api_types.specs.RowLists.{RowLists}
+use Rattle.api_types.specs.Table.{ident_eq, row_of}
+use Rattle.api_types.specs.declared.group.Direction.TheVariants.{Egress}
+use Rattle.api_types.specs.declared.network.NetworkRow.{NetworkRow}
+use Rattle.api_types.specs.declared.network.Segment.{Segment}
+use Rattle.api_types.specs.declared.port.PortRow.{PortRow}
+use Rattle.plane_types.specs.Crossing.{CrossesAtRouters, PathCrosses, not_delivered}
+use Rattle.plane_types.specs.Guard.{passes_guard}
+use Rattle.plane_types.specs.Holders.{dhcp_port, has_mac, holder, port_at}
+use Rattle.plane_types.specs.Hosts.{Host, all_entries}
+use Rattle.plane_types.specs.Live.{is_live, joined_with, segment, wire_of}
+use Rattle.plane_types.specs.Meaning.{Fate, answered, asked, asked_by, dropped, ended, from_port, from_sender, from_wire, got, lease_asked, lease_asked_by, lease_for, leased, life_of, may_begin, network_on, none_so_far, out_of, out_or, rows_fate, rows_passage, sent_on, sent_out, sent_to, wire_ask, wire_lease, wire_packet}
+use Rattle.plane_types.specs.Packets.{Packet, address_ask, arp_frame, dhcp_frame, ip_frame, is_unsupported, lease_ask, packet}
+use Rattle.plane_types.specs.Passage.{Passage}
+use Rattle.plane_types.specs.Told.{fabric_verdict, rows_verdict}
+use Rattle.plane_types.specs.declared.entry.Entry.{Entry}
+use Rattle.plane_types.specs.declared.event.Event.{Event}
+use Rattle.plane_types.specs.declared.event.Event.TheVariants.{FromPort, FromWire}
+use Rattle.plane_types.specs.declared.frame.Frame.{Frame}
+use Rattle.plane_types.specs.declared.frame.Frame.TheVariants.{ArpAsk, Dhcp, Ip4, Other}
+use Rattle.plane_types.specs.declared.table.Wire.{Wire}
+use Rattle.plane_types.specs.declared.verdict.DropCause.{DropCause}
+use Rattle.plane_types.specs.declared.verdict.DropCause.TheVariants.{Dead, Egress as EgressFilter, NoHolder, NoLease, Spoof, Unknown, Unsupported}
+use Rattle.plane_types.specs.declared.verdict.Lease.{Lease}
+use Rattle.plane_types.specs.declared.verdict.Outcome.{Outcome}
+use Rattle.plane_types.specs.declared.verdict.Toward.{Toward}
+use Rattle.plane_types.specs.declared.verdict.Toward.TheVariants.{Address as TowardAddress, Dhcp as TowardDhcp, Mac as TowardMac}
+use Rattle.plane_laws.proofs.Facts.{FrameFacts}
+use Rattle.plane_laws.specs.Held.{HoldRows}
+
+out-not : (w : Option Wire) (n : Ident) (t : Toward) (f : Frame) (c : DropCause) → not_delivered (out_or w n t f c) ≡ true
+out-not None n t f c = refl
+out-not (Some w) n t f c = refl
+
+answered-not : (o : Option Lease) → not_delivered (answered o) ≡ true
+answered-not None = refl
+answered-not (Some l) = refl
+
+module _ (rows : RowLists) (good : FrameFacts rows) (entries : List Entry) where
+  one : (n : Ident) (fresh : List Entry) (o : Outcome) → not_delivered o ≡ true → FateCrosses rows (ended (record { path = n ∷ []; fresh = fresh }) o)
+  one n fresh o h = (tt, ends-on rows n o h)
+
+  from-goes : (n : Ident) (fresh : List Entry) (v : Fate) → Goes rows n (record { path = n ∷ []; fresh = fresh }) v → FateCrosses rows v
+  from-goes n fresh v g = subst (λ path. PathCrosses rows path v.outcome) (sym g.path) (g.crosses, g.on)
+
+  packet-case : (n : Ident) (fresh : List Entry) (many : ℕ) (x : Packet) (mac : ℕ) (q : PortRow) → port_at rows n mac ≡ Some q → FateCrosses rows (got rows entries many q x (record { path = n ∷ []; fresh = fresh }))
+  packet-case n fresh many x mac q e =
+      let parts = and_parts (ident_eq n q.network && (q.mac == mac)) (is_live rows q) (find-passes (has_mac rows n mac) rows.ports q e) in
+      let same : n ≡ q.network = ident_same n q.network (and_parts (ident_eq n q.network) (q.mac == mac) parts.0).0 in
+      from-goes n fresh (got rows entries many q x (record { path = n ∷ []; fresh = fresh }))
+      (subst (λ m. Goes rows m (record { path = n ∷ []; fresh = fresh }) (got rows entries many q x (record { path = n ∷ []; fresh = fresh }))) (sym same)
+      (got-goes rows good entries many (has_mac rows n mac) q e parts.1 x (record { path = n ∷ []; fresh = fresh })))
+
+  sends : (p : PortRow) (fresh : List Entry) (many : ℕ) (x : Packet) → FateCrosses rows (sent_on rows (got rows entries many) p.network p.host x (record { path = p.network ∷ []; fresh = fresh }))
+  sends p fresh many x = go (joined_with rows p.host (port_at rows p.network x.dst)) refl
+    where
+      go : (o : Option PortRow) → joined_with rows p.host (port_at rows p.network x.dst) ≡ o → FateCrosses rows (sent_to rows (got rows entries many) p.network x (record { path = p.network ∷ []; fresh = fresh }) o)
+      go None e = one p.network fresh (out_of rows p.network (TowardMac x.dst) (ip_frame x) Unknown) (out-not (wire_of (segment rows p.network)) p.network (TowardMac x.dst) (ip_frame x) Unknown)
+      go (Some q) e = packet-case p.network fresh many x x.dst q (joined-found rows p.host (port_at rows p.network x.dst) q e).0
+
+  sender : (p : PortRow) (many : ℕ) (frame : Frame) → FateCrosses rows (from_sender rows entries many p (record { path = p.network ∷ []; fresh = [] }) frame)
+  sender p many (Ip4 src dst from to ttl part) = go (rows_passage rows (entries ++ []) p Egress (packet src dst from to ttl part))
+    where
+      by : (b : Bool) (made : List Entry) → FateCrosses rows (if b then sent_on rows (got rows entries many) p.network p.host (packet src dst from to ttl part) (record { path = p.network ∷ []; fresh = [] ++ made }) else dropped (record { path = p.network ∷ []; fresh = [] }) EgressFilter)
+      by true made = sends p ([] ++ made) many (packet src dst from to ttl part)
+      by false made = (tt, tt)
+
+      go : (y : Passage) → FateCrosses rows (sent_out rows (got rows entries many) p (packet src dst from to ttl part) (record { path = p.network ∷ []; fresh = [] }) y)
+      go y = by y.passes y.made
+  sender p many (ArpAsk src from to) = one p.network [] (asked rows p.network p.host (address_ask src from to)) (go (joined_with rows p.host (holder rows p.network to)))
+    where
+      go : (o : Option PortRow) → not_delivered (asked_by rows p.network (address_ask src from to) o) ≡ true
+      go None = out-not (wire_of (segment rows p.network)) p.network (TowardAddress (address_ask src from to).to) (arp_frame (address_ask src from to)) NoHolder
+      go (Some q) = refl
+  sender p many (Dhcp src from) = one p.network [] (lease_asked rows p.network p.host (lease_ask src from)) (go (joined_with rows p.host (dhcp_port rows p.network)))
+    where
+      go : (o : Option PortRow) → not_delivered (lease_asked_by rows p.network (lease_ask src from) o) ≡ true
+      go None = out-not (wire_of (segment rows p.network)) p.network TowardDhcp (dhcp_frame (lease_ask src from)) NoLease
+      go (Some d) = answered-not (option_and_then (lease_for rows d) (port_at rows p.network (lease_ask src from).src))
+  sender p many (Other s d y) = (tt, tt)
+
+  port : (many : ℕ) (frame : Frame) (o : Option PortRow) → FateCrosses rows (from_port rows entries many frame o)
+  port many frame None = refl
+  port many frame (Some p) = go (may_begin rows p) (is_unsupported frame) (passes_guard p frame)
+    where
+      go : (b u g : Bool) → FateCrosses rows (if b then (if u then dropped (record { path = p.network ∷ []; fresh = [] }) Unsupported else if not g then dropped (record { path = p.network ∷ []; fresh = [] }) Spoof else from_sender rows entries many p (record { path = p.network ∷ []; fresh = [] }) frame) else dropped none_so_far Dead)
+      go false u g = refl
+      go true true g = (tt, tt)
+      go true false false = (tt, tt)
+      go true false true = sender p many frame
+
+  wire : (many : ℕ) (frame : Frame) (o : Option NetworkRow) → FateCrosses rows (from_wire rows entries many frame o)
+  wire many frame None = refl
+  wire many (Ip4 src dst from to ttl part) (Some n) = go (port_at rows n.id dst) refl
+    where
+      go : (o : Option PortRow) → port_at rows n.id (packet src dst from to ttl part).dst ≡ o → FateCrosses rows (wire_packet rows entries many n (packet src dst from to ttl part) o)
+      go None e = refl
+      go (Some q) e = packet-case n.id [] many (packet src dst from to ttl part) (packet src dst from to ttl part).dst q e
+  wire many (ArpAsk src from to) (Some n) = go (holder rows n.id to)
+    where
+      go : (o : Option PortRow) → FateCrosses rows (wire_ask n (address_ask src from to) o)
+      go None = refl
+      go (Some q) = (tt, tt)
+  wire many (Dhcp src from) (Some n) = go (dhcp_port rows n.id)
+    where
+      go : (o : Option PortRow) → FateCrosses rows (wire_lease rows n (lease_ask src from) o)
+      go None = refl
+      go (Some d) = one n.id [] (leased rows n.id (lease_ask src from) d) (answered-not (option_and_then (lease_for rows d) (port_at rows n.id (lease_ask src from).src)))
+  wire many (Other s d y) (Some n) = refl
+
+  pub crosses-law : (e : Event) → FateCrosses rows (rows_fate rows entries e)
+  unfolding rows_fate
+  crosses-law (FromPort i frame) = port (life_of frame) frame (row_of (λ (p : PortRow). p.id) i rows.ports)
+  crosses-law (FromWire physical tag frame) = go (is_unsupported frame)
+    where
+      go : (b : Bool) → FateCrosses rows (if b then dropped none_so_far Unsupported else from_wire rows entries (life_of frame) frame (network_on rows (record { physical = physical; tag = tag })))
+      go true = refl
+      go false = wire (life_of frame) frame (network_on rows (record { physical = physical; tag = tag }))
+
+pub by-rows : (rows : RowLists) → IsConsistent rows → length rows.projects < 2 ^ 32 → (entries : List Entry) (e : Event) → CrossesAtRouters rows (rows_verdict rows entries e)
+by-rows rows good few entries e = crosses-law rows (frame-facts rows good few) entries e
+
+pub by-tables : (carry : List ℕ → Segment → Bool) (rows : RowLists) (hosts : List Host) → HoldRows carry rows hosts → (e : Event) → CrossesAtRouters rows (fabric_verdict hosts e)
+by-tables carry rows hosts h e =
+    subst (CrossesAtRouters rows) (sym (tables-mean-rows carry rows hosts h e)) (by-rows rows h.consistent h.few (all_entries hosts) e)

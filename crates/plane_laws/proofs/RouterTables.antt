@@ -1,0 +1,105 @@
+-- A router as its host's tables have it is the router of the rows.
+use Rattle.std.proofs.Common.{◌≡◌, ℕ, zero, suc, ◌+◌, ◌-◌, ◌<◌, ◌≤◌, List, [], ◌∷◌, ◌++◌, map, Bool, true, false, cond, not, Option, Some, None, refl, ap, sym, subst, ◌∙◌, arith}
+use Rattle.std.specs.Prelude.{find, flat_map, option_and_then, option_map, ◌&&◌, ◌||◌, ◌==◌, nat_lt, nat_le, ⊤, if◌then◌else◌, is_some}
+use Rattle.std.specs.List.{filter, filter_map, cons_option, list_any}
+use Rattle.std.specs.Str.{bytes_eq}
+use Rattle.std.specs.Option.{unwrap_or}
+use Rattle.std.proofs.lemmas.Bool.{and_parts, and_from, leb-false}
+use Rattle.std.proofs.lemmas.Option.{same_Some}
+use Rattle.plane_laws.proofs.ListLemmas.{find-passes, find-each, find-only, find-filter_map, AtMostOne-filter, some_of, AllOf-more, each-found, AllOf-filter, find-filter, filter_map-append, filter_map-one}
+use Rattle.plane_laws.proofs.Located.{ident_same, ident_self}
+use Rattle.plane_laws.proofs.Tagged.{tagged}
+use Rattle.plane_laws.proofs.Sent.{text_same, text_self}
+use Rattle.api_types.specs.Table.{ident_eq}
+use Rattle.plane_types.specs.Crossing.{not_delivered}
+use Rattle.plane_types.specs.Keys.{key_eq}
+use Rattle.plane_types.specs.Packets.{Packet, key_of}
+use Rattle.plane_types.specs.Routing.{Changed, Destined, Float, Leg, RouteEnds, RouteSends, Routed, RouterView, Sourced, Use, Way, answers, best_way, by_any, by_float, destined, destined_entry, destined_float, is_gateway_live, is_own, kept_source, new_port, routed, routed_out, routed_to, routed_way, sent, sourced, sourced_float, sourced_gateway, sourced_new, sourced_use, uses_by}
+use Rattle.plane_types.specs.declared.entry.Entry.{Entry}
+use Rattle.plane_types.specs.declared.verdict.DropCause.TheVariants.{Expired, RouterDown}
+use Rattle.plane_types.specs.declared.verdict.Outcome.TheVariants.{Absorbed, Dropped}
+
+-- a router that sends a packet on lowers its time to live
+abbrev pub Lower : ℕ → Routed → Type 0
+Lower n (RouteEnds o) = not_delivered o ≡ true
+Lower n (RouteSends made out hop p) = p.ttl < n
+
+abbrev Keeps : ℕ → Option Sourced → Type 0
+Keeps n None = ⊤
+Keeps n (Some s) = s.packet.ttl ≡ n
+
+module _ (v : RouterView) (uses : List Use) where
+  destined-ttl : (p : Packet) → (destined v uses p).packet.ttl ≡ p.ttl
+  destined-ttl p = go (find (λ (f : Float). f.floating == p.to) v.floats)
+    where
+      by : (o : Option Use) → (destined_entry p o).packet.ttl ≡ p.ttl
+      by None = refl
+      by (Some u) = refl
+
+      go : (o : Option Float) → (destined_float v uses p o).packet.ttl ≡ p.ttl
+      go (Some f) = refl
+      go None = by (find (answers v.gateway p) uses)
+
+  sourced-ttl : (way_in out : Leg) (by : Changed) (p : Packet) → Keeps p.ttl (sourced v uses way_in out by p)
+  sourced-ttl way_in out by p = start (way_in.inside && (not out.inside || by_any by))
+    where
+      fresh : (outer : ℕ) (o : Option ℕ) → Keeps p.ttl (sourced_new v.id p outer o)
+      fresh outer None = tt
+      fresh outer (Some x) = refl
+
+      by_use : (outer : ℕ) (o : Option Use) → Keeps p.ttl (sourced_use v.id uses p outer o)
+      by_use outer (Some u) = refl
+      by_use outer None = fresh outer (new_port uses (key_of p))
+
+      gateway : (o : Option ℕ) → Keeps p.ttl (sourced_gateway v uses p o)
+      gateway None = refl
+      gateway (Some outer) = by_use outer (find (λ (u : Use). key_eq u.key (key_of p)) uses)
+
+      float : (o : Option Float) (b : Bool) → Keeps p.ttl (elim o [ Some f ↦ Some (record { packet = record p { from = f.floating }; made = [] }) | None ↦ (if b then sourced_gateway v uses p v.gateway else kept_source p) ])
+      float (Some f) b = refl
+      float None true = gateway v.gateway
+      float None false = refl
+
+      start : (b : Bool) → Keeps p.ttl (if b then sourced_float v uses out by p (find (λ (f : Float). f.fixed == p.from) v.floats) else kept_source p)
+      start false = refl
+      start true = floated (find (λ (f : Float). f.fixed == p.from) v.floats)
+        where
+          floated : (o : Option Float) → Keeps p.ttl (sourced_float v uses out by p o)
+          floated (Some f) = refl
+          floated None = float None ((not out.inside || by_float by) && v.snat && is_gateway_live v)
+
+  sent-ttl : (out : Leg) (hop n m : ℕ) (o : Option Sourced) → n < m → Keeps n o → Lower m (sent out hop o)
+  sent-ttl out hop n m None lt k = refl
+  sent-ttl out hop n m (Some s) lt k = omega arith
+
+  to-ttl : (way_in : Leg) (d : Destined) (n : ℕ) → d.packet.ttl ≡ n → Lower n (routed_to v uses way_in d)
+  to-ttl way_in d n e = go (is_own v d.packet.to) (nat_le d.packet.ttl 1) refl
+    where
+      p : Packet
+      p = record (d.packet) { ttl = d.packet.ttl - 1 }
+
+      out : (hop : ℕ) (o : Option Leg) → 0 < d.packet.ttl → Lower n (routed_out v uses way_in d.by (record (d.packet) { ttl = d.packet.ttl - 1 }) hop o)
+      out hop None lt = refl
+      out hop (Some l) lt = sent-ttl l hop (d.packet.ttl - 1) n (sourced v uses way_in l d.by (record (d.packet) { ttl = d.packet.ttl - 1 })) (omega arith) (sourced-ttl way_in l d.by (record (d.packet) { ttl = d.packet.ttl - 1 }))
+
+      way : (o : Option Way) → 0 < d.packet.ttl → Lower n (routed_way v uses way_in d.by (record (d.packet) { ttl = d.packet.ttl - 1 }) o)
+      way None lt = refl
+      way (Some w) lt = out (unwrap_or w.next d.packet.to) (find (λ (l : Leg). ident_eq w.port l.port) v.legs) lt
+
+      go : (own low : Bool) → nat_le d.packet.ttl 1 ≡ low → Lower n (if own then RouteEnds (Absorbed v.id) else if low then RouteEnds (Dropped Expired) else routed_way v uses way_in d.by (record (d.packet) { ttl = d.packet.ttl - 1 }) (best_way d.packet.to v.ways))
+      go true low f = refl
+      go false true f = refl
+      go false false f = let above : 1 < d.packet.ttl = leb-false d.packet.ttl 1 f in way (best_way d.packet.to v.ways) (omega arith)
+
+pub routed-lower : (v : RouterView) (entries : List Entry) (way_in : Leg) (p : Packet) → Lower p.ttl (routed v entries way_in p)
+unfolding routed
+routed-lower v entries way_in p = go (not v.up)
+  where
+    go : (b : Bool) → Lower p.ttl (if b then RouteEnds (Dropped RouterDown) else routed_to v (uses_by v.snat v.gateway v.id entries) way_in (destined v (uses_by v.snat v.gateway v.id entries) p))
+    go true = refl
+    go false = to-ttl v (uses_by v.snat v.gateway v.id entries) way_in (destined v (uses_by v.snat v.gateway v.id entries) p) p.ttl (destined-ttl v (uses_by v.snat v.gateway v.id entries) p)
+
+-- entries are asked for the router's valid uses alone
+pub routed-same : (v : RouterView) (a b : List Entry) (way_in : Leg) (p : Packet) → uses_by v.snat v.gateway v.id a ≡ uses_by v.snat v.gateway v.id b → routed v a way_in p ≡ routed v b way_in p
+unfolding routed
+routed-same v a b way_in p e = ap (λ us. if not v.up then RouteEnds (Dropped RouterDown) else routed_to v us way_in (destined v us p)) e
