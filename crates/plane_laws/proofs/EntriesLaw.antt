@@ -30,7 +30,7 @@ use Rattle.plane_types.specs.declared.frame.Key.{Key}
 use Rattle.plane_laws.proofs.Facts.{AllOf, AtMostOne, EntriesStand, FrameFacts, SyncedFacts, has_id, stands_at}
 
 module _ {M : Type 0} (F : List Entry → M) (op : M → M → M) (e : M) (empty : F [] ≡ e) (joined : (a b : List Entry) → F (a ++ b) ≡ op (F a) (F b)) (left : (x : M) → op e x ≡ x) (right : (x : M) → op x e ≡ x) (test : Host → Bool) where
-  no-host : (hosts : List Host) → find test hosts ≡ None → AllOf (λ x. test x ≡ false → F x.entries ≡ e) hosts → F (all_entries hosts) ≡ e
+  pub no-host : (hosts : List Host) → find test hosts ≡ None → AllOf (λ x. test x ≡ false → F x.entries ≡ e) hosts → F (all_entries hosts) ≡ e
   no-host [] h misses = empty
   no-host (x ∷ hosts) h misses = go (test x) refl h (λ k. no-host hosts k misses.1)
     where
@@ -52,6 +52,16 @@ module _ {M : Type 0} (F : List Entry → M) (op : M → M → M) (e : M) (empty
 or_false2 : (b : Bool) → (b || false) ≡ b
 or_false2 true = refl
 or_false2 false = refl
+
+-- uses of a router
+pub uses-append : (r : Ident) (o : ℕ) (a b : List Entry) → uses_at r o (a ++ b) ≡ uses_at r o a ++ uses_at r o b
+uses-append r o [] b = refl
+uses-append r o (Flow p d k ∷ a) b = uses-append r o a b
+uses-append r o (Snat s k x p ∷ a) b = go (ident_eq r s && (o == x)) (uses-append r o a b)
+  where
+    go : (c : Bool) → uses_at r o (a ++ b) ≡ uses_at r o a ++ uses_at r o b → (if c then record { key = k; port = p } ∷ uses_at r o (a ++ b) else uses_at r o (a ++ b)) ≡ (if c then record { key = k; port = p } ∷ uses_at r o a else uses_at r o a) ++ uses_at r o b
+    go true rest = ap (λ us. record { key = k; port = p } ∷ us) rest
+    go false rest = rest
 
 module _ (rows : RowLists) (hosts : List Host) (good : FrameFacts rows) (synced : SyncedFacts rows hosts) where
   -- flows of a port
@@ -75,16 +85,6 @@ module _ (rows : RowLists) (hosts : List Host) (good : FrameFacts rows) (synced 
         ∙ ap (λ b. b || list_any (is_flow q.id d k) fresh) (sym (one-host (list_any (is_flow q.id d k)) (λ a b. a || b) false refl (list_any-append (is_flow q.id d k)) (λ b. refl) or_false2 (is_named q.host) hosts h (synced.names q.host) named
         (AllOf-more (EntriesStand rows) (λ x. is_named q.host x ≡ false → list_any (is_flow q.id d k) x.entries ≡ false) hosts (λ x stand away. list_any-none_each (is_flow q.id d k) x.entries (AllOf-more (λ e. stands_at rows x.name e ≡ true) (λ e. is_flow q.id d k e ≡ false) x.entries (foreign x away) stand)) synced.stand)))
         ∙ sym (list_any-append (is_flow q.id d k) (all_entries hosts) fresh)
-
-  -- uses of a router
-  uses-append : (r : Ident) (o : ℕ) (a b : List Entry) → uses_at r o (a ++ b) ≡ uses_at r o a ++ uses_at r o b
-  uses-append r o [] b = refl
-  uses-append r o (Flow p d k ∷ a) b = uses-append r o a b
-  uses-append r o (Snat s k x p ∷ a) b = go (ident_eq r s && (o == x)) (uses-append r o a b)
-    where
-      go : (c : Bool) → uses_at r o (a ++ b) ≡ uses_at r o a ++ uses_at r o b → (if c then record { key = k; port = p } ∷ uses_at r o (a ++ b) else uses_at r o (a ++ b)) ≡ (if c then record { key = k; port = p } ∷ uses_at r o a else uses_at r o a) ++ uses_at r o b
-      go true rest = ap (λ us. record { key = k; port = p } ∷ us) rest
-      go false rest = rest
 
   module _ (test : RouterRow → Bool) (r : RouterRow) (found : find test rows.routers ≡ Some r) (name : List ℕ) (here : hosted name r ≡ true) where
     no-uses : (o : ℕ) (x : Host) → is_named name x ≡ false → (es : List Entry) → AllOf (λ e. stands_at rows x.name e ≡ true) es → uses_at r.id o es ≡ []

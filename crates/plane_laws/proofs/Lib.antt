@@ -23,3 +23,9 @@ pub mod SyncedHold
 pub mod Theorem
 pub mod CrossingLaw
 pub mod CrossingTop
+pub mod MadeLaw
+pub mod PlacedLaw
+pub mod KeptLaw
+pub mod ListLaw
+pub mod BoundsLaw
+pub mod BoundsTables

@@ -99,6 +99,40 @@ routed-lower v entries way_in p = go (not v.up)
     go true = refl
     go false = to-ttl v (uses_by v.snat v.gateway v.id entries) way_in (destined v (uses_by v.snat v.gateway v.id entries) p) p.ttl (destined-ttl v (uses_by v.snat v.gateway v.id entries) p)
 
+-- a router sends on what has a step to live behind it, with one step less
+abbrev pub Lives : ℕ → Routed → Type 0
+Lives n (RouteEnds o) = ⊤
+Lives n (RouteSends made out hop p) = (suc p.ttl ≡ n) × (0 < p.ttl)
+
+module _ (v : RouterView) (uses : List Use) where
+  sent-lives : (out : Leg) (hop n m : ℕ) (o : Option Sourced) → suc n ≡ m → 0 < n → Keeps n o → Lives m (sent out hop o)
+  sent-lives out hop n m None e more k = tt
+  sent-lives out hop n m (Some s) e more k = (ap suc k ∙ e, omega (arith, more, k))
+
+  to-lives : (way_in : Leg) (d : Destined) (n : ℕ) → d.packet.ttl ≡ n → Lives n (routed_to v uses way_in d)
+  to-lives way_in d n e = go (is_own v d.packet.to) (nat_le d.packet.ttl 1) refl
+    where
+      out : (hop : ℕ) (o : Option Leg) → 1 < d.packet.ttl → Lives n (routed_out v uses way_in d.by (record (d.packet) { ttl = d.packet.ttl - 1 }) hop o)
+      out hop None lt = tt
+      out hop (Some l) lt = sent-lives l hop (d.packet.ttl - 1) n (sourced v uses way_in l d.by (record (d.packet) { ttl = d.packet.ttl - 1 })) (omega (arith, lt, e)) (omega (arith, lt)) (sourced-ttl v uses way_in l d.by (record (d.packet) { ttl = d.packet.ttl - 1 }))
+
+      way : (o : Option Way) → 1 < d.packet.ttl → Lives n (routed_way v uses way_in d.by (record (d.packet) { ttl = d.packet.ttl - 1 }) o)
+      way None lt = tt
+      way (Some w) lt = out (unwrap_or w.next d.packet.to) (find (λ (l : Leg). ident_eq w.port l.port) v.legs) lt
+
+      go : (own low : Bool) → nat_le d.packet.ttl 1 ≡ low → Lives n (if own then RouteEnds (Absorbed v.id) else if low then RouteEnds (Dropped Expired) else routed_way v uses way_in d.by (record (d.packet) { ttl = d.packet.ttl - 1 }) (best_way d.packet.to v.ways))
+      go true low f = tt
+      go false true f = tt
+      go false false f = way (best_way d.packet.to v.ways) (leb-false d.packet.ttl 1 f)
+
+pub routed-lives : (v : RouterView) (entries : List Entry) (way_in : Leg) (p : Packet) → Lives p.ttl (routed v entries way_in p)
+unfolding routed
+routed-lives v entries way_in p = go (not v.up)
+  where
+    go : (b : Bool) → Lives p.ttl (if b then RouteEnds (Dropped RouterDown) else routed_to v (uses_by v.snat v.gateway v.id entries) way_in (destined v (uses_by v.snat v.gateway v.id entries) p))
+    go true = tt
+    go false = to-lives v (uses_by v.snat v.gateway v.id entries) way_in (destined v (uses_by v.snat v.gateway v.id entries) p) p.ttl (destined-ttl v (uses_by v.snat v.gateway v.id entries) p)
+
 -- entries are asked for the router's valid uses alone
 pub routed-same : (v : RouterView) (a b : List Entry) (way_in : Leg) (p : Packet) → uses_by v.snat v.gateway v.id a ≡ uses_by v.snat v.gateway v.id b → routed v a way_in p ≡ routed v b way_in p
 unfolding routed

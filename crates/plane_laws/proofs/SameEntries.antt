@@ -3,12 +3,13 @@ use Rattle.std.proofs.Common.{◌≡◌, ℕ, zero, suc, List, [], ◌∷◌, �
 use Rattle.std.specs.Prelude.{find, ◌&&◌, ◌||◌, ◌==◌, if◌then◌else◌}
 use Rattle.std.specs.List.{list_any}
 use Rattle.std.proofs.lemmas.List.Folds.{list_any-append}
+use Rattle.plane_laws.proofs.EntriesLaw.{uses-append}
 use Rattle.plane_laws.proofs.LandsLaw.{passage-same}
 use Rattle.plane_laws.proofs.RouterTables.{routed-same}
 use Rattle.api_types.specs.Ident.{Ident}
 use Rattle.api_types.specs.Owners.{is_router_port}
 use Rattle.api_types.specs.RowLists.{RowLists}
-use Rattle.api_types.specs.Table.{ident_eq, row_of}
+use Rattle.api_types.specs.Table.{row_of}
 use Rattle.api_types.specs.declared.group.Direction.{Direction}
 use Rattle.api_types.specs.declared.group.Direction.TheVariants.{Egress, Ingress}
 use Rattle.api_types.specs.declared.network.NetworkRow.{NetworkRow}
@@ -23,7 +24,6 @@ use Rattle.plane_types.specs.Packets.{Packet, is_unsupported, key_of, packet}
 use Rattle.plane_types.specs.RouterRows.{leg_of, router_view}
 use Rattle.plane_types.specs.Routing.{uses_at, uses_by}
 use Rattle.plane_types.specs.declared.entry.Entry.{Entry}
-use Rattle.plane_types.specs.declared.entry.Entry.TheVariants.{Flow, Snat}
 use Rattle.plane_types.specs.declared.event.Event.{Event}
 use Rattle.plane_types.specs.declared.event.Event.TheVariants.{FromPort, FromWire}
 use Rattle.plane_types.specs.declared.frame.Frame.{Frame}
@@ -34,15 +34,6 @@ use Rattle.plane_types.specs.declared.verdict.DropCause.TheVariants.{Dead, Spoof
 pub record SameEntries (a b : List Entry) : Type 0 where
   pub flows : (p : Ident) (d : Direction) (k : Key) → has_flow a p d k ≡ has_flow b p d k
   pub uses : (r : Ident) (o : ℕ) → uses_at r o a ≡ uses_at r o b
-
-uses-append : (r : Ident) (o : ℕ) (a b : List Entry) → uses_at r o (a ++ b) ≡ uses_at r o a ++ uses_at r o b
-uses-append r o [] b = refl
-uses-append r o (Flow p d k ∷ a) b = uses-append r o a b
-uses-append r o (Snat s k x p ∷ a) b = go (ident_eq r s && (o == x)) (uses-append r o a b)
-  where
-    go : (c : Bool) → uses_at r o (a ++ b) ≡ uses_at r o a ++ uses_at r o b → (if c then record { key = k; port = p } ∷ uses_at r o (a ++ b) else uses_at r o (a ++ b)) ≡ (if c then record { key = k; port = p } ∷ uses_at r o a else uses_at r o a) ++ uses_at r o b
-    go true rest = ap (λ us. record { key = k; port = p } ∷ us) rest
-    go false rest = rest
 
 module _ (rows : RowLists) (a b : List Entry) (same : SameEntries a b) where
   flows-more : (c : List Entry) (p : Ident) (d : Direction) (k : Key) → has_flow (a ++ c) p d k ≡ has_flow (b ++ c) p d k

@@ -5,15 +5,18 @@
 //! definitions, so nothing is proved twice.
 #![tactic(auto)]
 
-ghost use Rattle.std.specs.Prelude.{◌≡◌, ◌<◌, ◌^◌, ℕ, Bool, List, length};
+ghost use Rattle.std.specs.Prelude.{◌≡◌, ◌<◌, ◌≤◌, ◌^◌, ℕ, Bool, List, count_by, length, map};
 ghost use Rattle.api_types.specs.Consistent.{IsConsistent};
+ghost use Rattle.api_types.specs.Lists.{Each};
 ghost use Rattle.api_types.specs.RowLists.{RowLists};
 ghost use Rattle.api_types.specs.declared.network.Segment.{Segment};
 ghost use Rattle.plane_types.specs.Crossing.{CrossesAtRouters};
-ghost use Rattle.plane_types.specs.Hosts.{Host, all_entries};
-ghost use Rattle.plane_types.specs.Told.{fabric_verdict, rows_verdict, without_hosts};
+ghost use Rattle.plane_types.specs.Hosts.{Host, all_entries, is_named};
+ghost use Rattle.plane_types.specs.Placed.{IsPlaced};
+ghost use Rattle.plane_types.specs.Told.{fabric_verdict, fabric_verdicts, hosts_after, hosts_after_all, rows_verdict, rows_verdicts, without_hosts};
 ghost use Rattle.plane_types.specs.declared.entry.Entry.{Entry};
 ghost use Rattle.plane_types.specs.declared.event.Event.{Event};
+ghost use Rattle.plane_laws.specs.Bounds.{HasEightBits, IsBounded};
 ghost use Rattle.plane_laws.specs.Held.{HoldRows};
 
 /// Where all hosts hold the rows, what their tables make of an event has exactly the outcome, the
@@ -22,9 +25,29 @@ pub fn tables_mean_rows()
     ensures { (carries : List ℕ → Segment → Bool) (rows : RowLists) (hosts : List Host) → HoldRows carries rows hosts → (event : Event) → without_hosts (fabric_verdict hosts event) ≡ rows_verdict rows (all_entries hosts) event }
 {}
 
+/// The same for events one after the other, where each host keeps the entries that it made: the
+/// verdicts are those that the rows give with all hosts' entries joined, and the hosts hold the rows
+/// still.
+pub fn event_lists_mean_rows()
+    ensures verdicts { (carries : List ℕ → Segment → Bool) (rows : RowLists) (hosts : List Host) → HoldRows carries rows hosts → (events : List Event) → map without_hosts (fabric_verdicts hosts events) ≡ rows_verdicts rows (all_entries hosts) events }
+    ensures held { (carries : List ℕ → Segment → Bool) (rows : RowLists) (hosts : List Host) → HoldRows carries rows hosts → (events : List Event) → HoldRows carries rows (hosts_after_all hosts events) }
+{}
+
+/// By any tables, the entries of each host stay placed: each is of a tap or router there, and no two
+/// translations can be taken for one another.
+pub fn entries_stay_placed()
+    ensures { (hosts : List Host) → ((name : List ℕ) → count_by (is_named name) hosts ≤ 1) → Each IsPlaced hosts → (event : Event) → Each IsPlaced (hosts_after hosts event) }
+{}
+
 /// A frame crosses between networks only at routers that have live ports on both, and is delivered
 /// to a port of the last network of its path.
 pub fn paths_cross_at_routers()
     ensures by_rows { (rows : RowLists) → IsConsistent rows → length rows.projects < 2 ^ 32 → (entries : List Entry) (event : Event) → CrossesAtRouters rows (rows_verdict rows entries event) }
     ensures by_tables { (carries : List ℕ → Segment → Bool) (rows : RowLists) (hosts : List Host) → HoldRows carries rows hosts → (event : Event) → CrossesAtRouters rows (fabric_verdict hosts event) }
+{}
+
+/// A packet passes at most 254 routers and makes at most 256 entries, by any rows and by any tables.
+pub fn paths_are_bounded()
+    ensures by_rows { (rows : RowLists) (entries : List Entry) (event : Event) → HasEightBits event → IsBounded (rows_verdict rows entries event) }
+    ensures by_tables { (hosts : List Host) (event : Event) → HasEightBits event → IsBounded (fabric_verdict hosts event) }
 {}

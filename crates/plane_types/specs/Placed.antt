@@ -23,12 +23,12 @@ is_placed t (Snat router k o p) = list_any (λ (r : RouterTable). ident_eq route
 abbrev pub meets : Ident → KeyKind → ℕ → ℕ → ℕ → ℕ → Entry → Bool
 meets router kind outer port far far_port (Flow q d k) = false
 meets router kind outer port far far_port (Snat r k o p) =
-    ident_eq router r && (outer == o) && (kind_eq kind k.kind && (port == p) && (far == k.to) && (far_port == k.dport))
+    ident_eq router r && (outer == o) && ((p == port) && kind_eq k.kind kind && (k.to == far) && (k.dport == far_port))
 
 -- a translation of this router, of this key, from this outer address
 abbrev pub translates : Ident → Key → ℕ → Entry → Bool
 translates router key outer (Flow q d k) = false
-translates router key outer (Snat r k o p) = ident_eq router r && (outer == o) && key_eq key k
+translates router key outer (Snat r k o p) = ident_eq router r && (outer == o) && key_eq k key
 
 pub record IsPlaced (h : Host) : Type 0 where
   pub stand : Pass (is_placed h.tables) h.entries
