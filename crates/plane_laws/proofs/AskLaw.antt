@@ -1,14 +1,14 @@
 -- Guards, and asks for an address, on the bridge.
-use Rattle.std.proofs.Common.{◌≡◌, ℕ, zero, suc, ◌+◌, ◌-◌, ◌*◌, ◌<◌, ◌≤◌, List, [], ◌∷◌, ◌++◌, map, Bool, true, false, cond, not, Option, Some, None, refl, ap, sym, subst, ◌∙◌, arith}
-use Rattle.std.specs.Prelude.{find, flat_map, option_and_then, option_map, ◌&&◌, ◌||◌, ◌==◌, ⊤, if◌then◌else◌, is_some}
+use Rattle.std.proofs.Common.{◌≡◌, ℕ, ◌-◌, ◌<◌, List, [], ◌∷◌, map, Bool, true, false, not, Option, Some, None, refl, ap, sym, ◌∙◌}
+use Rattle.std.specs.Prelude.{find, option_map, ◌&&◌, ◌||◌, ◌==◌, if◌then◌else◌, is_some}
 use Rattle.std.specs.List.{list_any}
 use Rattle.std.specs.Str.{bytes_eq}
-use Rattle.std.proofs.lemmas.Bool.{and_parts, and_from, and_right, or_right}
+use Rattle.std.proofs.lemmas.Bool.{and_parts, and_right}
 use Rattle.std.proofs.lemmas.List.Folds.{list_any-append}
-use Rattle.plane_laws.proofs.ListLemmas.{find-passes, find-each, find-only, some_of, find-none_each, AllOf-more, list_any-map, list_any-same}
-use Rattle.plane_laws.proofs.Located.{ident_same, ident_self, tag-row}
+use Rattle.plane_laws.proofs.ListLemmas.{find-passes, find-each, find-none_each, AllOf-more, list_any-map, list_any-same}
+use Rattle.plane_laws.proofs.Located.{ident_same, tag-row}
 use Rattle.plane_laws.proofs.Tagged.{inward-located, inward-none}
-use Rattle.plane_laws.proofs.Sent.{text_same, text_self, trace_of, walk-on, trace-plain}
+use Rattle.plane_laws.proofs.Sent.{trace_of, walk-on, trace-plain}
 use Rattle.plane_laws.proofs.SentLaw.{wire_self, wire_carrier}
 use Rattle.plane_laws.proofs.Neighbours.{row_at, neighbour-located, holder-at}
 use Rattle.plane_laws.proofs.FilterLaw.{one_address, any-const_left}
@@ -30,7 +30,7 @@ use Rattle.plane_types.specs.Live.{is_joined, is_live, is_local, joined_with, ne
 use Rattle.plane_types.specs.Meaning.{asked, asked_by, ended, out_or}
 use Rattle.plane_types.specs.Packets.{AddressAsk, address_ask, arp_frame, lease_ask, packet}
 use Rattle.plane_types.specs.Places.{Bridge, Step, ToWire}
-use Rattle.plane_types.specs.TableRows.{allowed_of, is_tagged, tag_of, tap_of}
+use Rattle.plane_types.specs.TableRows.{allowed_of, tag_of, tap_of}
 use Rattle.plane_types.specs.TableStep.{arp_by, bridge_at_tag, bridge_step, drops, may_send_as, plain, stops, tap_guards, wire_or}
 use Rattle.plane_types.specs.declared.frame.Frame.{Frame}
 use Rattle.plane_types.specs.declared.frame.Frame.TheVariants.{ArpAsk, Dhcp, Ip4, Other}

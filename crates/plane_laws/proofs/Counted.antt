@@ -1,9 +1,8 @@
 -- What is counted at most once is found at most once; a fact on each place of a list is a fact on each element.
-use Rattle.std.proofs.Common.{◌≡◌, ℕ, zero, suc, ◌+◌, ◌≤◌, List, [], ◌∷◌, Bool, true, false, cond, Option, Some, None, refl, ap, sym, ◌∙◌, arith, sum_by, subst}
-use Rattle.std.specs.Prelude.{find, count_by, is_some, slice_get, ◌&&◌, ◌||◌, option_and_then}
+use Rattle.std.proofs.Common.{◌≡◌, ℕ, suc, ◌≤◌, List, [], ◌∷◌, Bool, true, false, cond, Option, Some, None, refl, ap, arith, sum_by}
+use Rattle.std.specs.Prelude.{find, count_by, ◌||◌}
 use Rattle.std.specs.List.{list_any, filter_map, cons_option}
 use Rattle.std.proofs.lemmas.List.Sums.{sum_by-cons}
-use Rattle.plane_laws.proofs.ListLemmas.{find-passes, find-none-less}
 use Rattle.api_types.specs.Lists.{Each}
 use Rattle.plane_laws.proofs.Facts.{AllOf, AtMostOne}
 

@@ -1,6 +1,6 @@
 -- The rows' verdict on any event crosses at routers alone, and delivers on its path's last network.
-use Rattle.std.proofs.Common.{◌≡◌, ℕ, zero, suc, List, [], ◌∷◌, ◌++◌, Bool, true, false, cond, not, Option, Some, None, refl, ap, sym, subst, ◌∙◌}
-use Rattle.std.specs.Prelude.{◌<◌, ◌^◌, length, find, option_and_then, ◌&&◌, ◌||◌, ◌==◌, if◌then◌else◌}
+use Rattle.std.proofs.Common.{◌≡◌, ℕ, List, [], ◌∷◌, ◌++◌, Bool, true, false, not, Option, Some, None, refl, sym, subst}
+use Rattle.std.specs.Prelude.{◌<◌, ◌^◌, length, option_and_then, ◌&&◌, ◌==◌, if◌then◌else◌}
 use Rattle.std.proofs.lemmas.Bool.{and_parts}
 use Rattle.plane_laws.proofs.ListLemmas.{find-passes}
 use Rattle.plane_laws.proofs.FactsHold.{frame-facts}

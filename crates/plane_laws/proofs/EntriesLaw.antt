@@ -1,14 +1,14 @@
 -- Of the entries of all hosts, those of a port or router are the ones at its host.
-use Rattle.std.proofs.Common.{◌≡◌, ℕ, zero, suc, ◌+◌, ◌-◌, ◌<◌, ◌≤◌, List, [], ◌∷◌, ◌++◌, map, Bool, true, false, cond, not, Option, Some, None, refl, ap, sym, subst, ◌∙◌, arith, append_assoc}
-use Rattle.std.specs.Prelude.{find, flat_map, option_and_then, option_map, ◌&&◌, ◌||◌, ◌==◌, ⊤, if◌then◌else◌, is_some}
+use Rattle.std.proofs.Common.{◌≡◌, ℕ, List, [], ◌∷◌, ◌++◌, Bool, true, false, cond, not, Option, Some, None, refl, ap, sym, subst, ◌∙◌}
+use Rattle.std.specs.Prelude.{find, ◌&&◌, ◌||◌, ◌==◌, if◌then◌else◌}
 use Rattle.std.specs.List.{list_any}
 use Rattle.std.specs.Str.{bytes_eq}
-use Rattle.std.proofs.lemmas.Bool.{and_parts, and_left, false_from_ne_true}
+use Rattle.std.proofs.lemmas.Bool.{and_parts}
 use Rattle.std.proofs.lemmas.List.{append-nil}
 use Rattle.std.proofs.lemmas.List.Folds.{list_any-append}
-use Rattle.plane_laws.proofs.ListLemmas.{find-passes, find-each, find-only, any-only, AllOf-more, list_any-none_each}
+use Rattle.plane_laws.proofs.ListLemmas.{find-only, any-only, AllOf-more, list_any-none_each}
 use Rattle.plane_laws.proofs.Located.{ident_same, ident_self}
-use Rattle.plane_laws.proofs.Sent.{text_same, text_self}
+use Rattle.plane_laws.proofs.Sent.{text_same}
 use Rattle.api_types.specs.Consistent.Groups.{is_direction}
 use Rattle.api_types.specs.Ident.{Ident}
 use Rattle.api_types.specs.Lists.{stands}

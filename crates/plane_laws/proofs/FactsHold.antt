@@ -1,12 +1,12 @@
 -- Consistent rows have what the law of frames uses of them.
-use Rattle.std.proofs.Common.{◌≡◌, ℕ, zero, suc, ◌+◌, ◌<◌, ◌≤◌, List, [], ◌∷◌, Bool, true, false, cond, not, Option, Some, None, refl, ap, sym, ◌∙◌, arith, sum_by, subst}
-use Rattle.std.specs.Prelude.{nat_le, length, ◌^◌, find, count_by, is_some, slice_get, ◌&&◌, ◌||◌, ◌==◌, ⊤}
+use Rattle.std.proofs.Common.{◌≡◌, ℕ, zero, suc, ◌<◌, ◌≤◌, List, [], ◌∷◌, Bool, true, false, cond, not, Option, Some, None, refl, ap, sym, ◌∙◌, arith, subst}
+use Rattle.std.specs.Prelude.{nat_le, length, ◌^◌, find, count_by, is_some, slice_get, ◌&&◌, ◌||◌, ◌==◌}
 use Rattle.std.specs.List.{list_any, list_all}
 use Rattle.std.specs.Str.{bytes_eq}
 use Rattle.std.proofs.lemmas.Bool.{eqb-true, leb-true}
 use Rattle.row_laws.proofs.ListLemmas.{and_both, both_and, any-at, any-weaker, false_true, some_equal, none_some}
-use Rattle.row_laws.proofs.NameLemmas.{ident_same, ident_itself, bytes_same, bytes_itself, not_true, all-at, by_test}
-use Rattle.plane_laws.proofs.ListLemmas.{find-passes, find-each, find-only, find-some, some_of, AllOf-more, any-only, AtMostOne-less, each-found, list_any-found}
+use Rattle.row_laws.proofs.NameLemmas.{ident_same, ident_itself, bytes_same, bytes_itself, all-at}
+use Rattle.plane_laws.proofs.ListLemmas.{find-passes, find-each, find-only, find-some, some_of, AllOf-more, any-only, each-found}
 use Rattle.plane_laws.proofs.Counted.{all-of, once-counted, once-weighed, counted, AtMostOne-less_each, AtMostOne-none, AtMostOne-unfound, AllOf-both}
 use Rattle.plane_laws.proofs.IdTexts.{one-text}
 use Rattle.api_types.specs.Consistent.{IsConsistent}

@@ -1,12 +1,12 @@
 -- The filter rows of a tap allow what the rules of its port's groups allow.
-use Rattle.std.proofs.Common.{◌≡◌, ℕ, zero, suc, ◌+◌, ◌-◌, ◌*◌, ◌/◌, ◌^◌, ◌<◌, ◌≤◌, List, [], ◌∷◌, ◌++◌, map, Bool, true, false, cond, not, Option, Some, None, refl, ap, sym, subst, ◌∙◌, arith}
-use Rattle.std.specs.Prelude.{find, flat_map, option_and_then, option_map, ◌&&◌, ◌||◌, ◌==◌, nat_lt, nat_le, ⊤, if◌then◌else◌, is_some}
-use Rattle.std.specs.List.{filter, filter_map, cons_option, list_any}
+use Rattle.std.proofs.Common.{◌≡◌, ℕ, ◌/◌, List, [], ◌∷◌, ◌++◌, map, Bool, true, false, Option, Some, None, refl, ap, sym, ◌∙◌, arith}
+use Rattle.std.specs.Prelude.{find, flat_map, ◌&&◌, ◌||◌, ◌==◌, if◌then◌else◌}
+use Rattle.std.specs.List.{filter_map, cons_option, list_any}
 use Rattle.std.proofs.lemmas.Bool.{and_parts, and_from, eqb-true, or_right}
 use Rattle.std.proofs.lemmas.Bool.Decides.{nat_tests}
 use Rattle.std.proofs.lemmas.List.Folds.{list_any-append}
-use Rattle.plane_laws.proofs.ListLemmas.{find-passes, find-only, any-at, list_any-flat_map, list_any-same, list_any-same_each, list_any-none_each, list_any-map, list_any-found, AllOf-more}
-use Rattle.plane_laws.proofs.Located.{ident_same, ident_self, and_true}
+use Rattle.plane_laws.proofs.ListLemmas.{find-only, any-at, list_any-flat_map, list_any-same, list_any-same_each, list_any-map, list_any-found}
+use Rattle.plane_laws.proofs.Located.{ident_same, ident_self}
 use Rattle.net_addr.specs.Prefixes.{Prefix, contains}
 use Rattle.api_types.specs.Consistent.Groups.{is_direction, prefix_eq}
 use Rattle.api_types.specs.Ident.{Ident}

@@ -1,9 +1,9 @@
 -- Ids with one printed text are the same.
-use Rattle.std.proofs.Common.{◌≡◌, ℕ, zero, suc, [], ◌∷◌, ◌+◌, ◌*◌, ◌/◌, ◌%◌, ◌^◌, ◌<◌, ◌≤◌, List, arith, rules, refl, ap, sym, ◌∙◌, inl, Some}
-use Rattle.std.specs.Prelude.{length, Option}
+use Rattle.std.proofs.Common.{◌≡◌, ℕ, zero, suc, [], ◌∷◌, ◌/◌, ◌%◌, ◌^◌, ◌<◌, List, arith, refl, ap, sym, ◌∙◌, inl, Some}
+use Rattle.std.specs.Prelude.{length}
 use Rattle.std.specs.List.{All}
 use Rattle.std.specs.Int.{w128, to_be_bytes, from_be_bytes}
-use Rattle.uuid.specs.Text.{hyphenated_text, lower, parsed_hyphenated}
+use Rattle.uuid.specs.Text.{lower, parsed_hyphenated}
 use Rattle.uuid.proofs.RoundTrips.{parses_hyphenated_text}
 use Rattle.api_types.proofs.IdentLemmas.{ordinal_back, count_back}
 use Rattle.std.proofs.lemmas.Option.{same_Some}

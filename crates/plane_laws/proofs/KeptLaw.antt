@@ -1,6 +1,6 @@
 -- Entries that are kept at the hosts that made them.
-use Rattle.std.proofs.Common.{◌≡◌, ℕ, zero, suc, ◌+◌, ◌≤◌, List, [], ◌∷◌, ◌++◌, map, Bool, true, false, cond, not, Option, Some, None, refl, ap, sym, subst, ◌∙◌, arith, sum_by}
-use Rattle.std.specs.Prelude.{find, count_by, option_map, ◌&&◌, ◌||◌, ◌==◌, if◌then◌else◌, ⊤, is_some, slice_get}
+use Rattle.std.proofs.Common.{◌≡◌, ℕ, zero, suc, ◌+◌, ◌≤◌, List, [], ◌∷◌, ◌++◌, map, Bool, true, false, cond, Option, Some, None, refl, ap, sym, subst, ◌∙◌, arith}
+use Rattle.std.specs.Prelude.{find, count_by, option_map, ◌==◌, if◌then◌else◌, ⊤}
 use Rattle.std.specs.List.{list_any, filter_map, cons_option}
 use Rattle.std.specs.Option.{option_eq}
 use Rattle.std.specs.Str.{bytes_eq}
@@ -10,7 +10,7 @@ use Rattle.row_laws.proofs.ListLemmas.{none_some, some_equal}
 use Rattle.row_laws.proofs.NameLemmas.{bytes_same, bytes_itself}
 use Rattle.plane_laws.proofs.ListLemmas.{list_any-map}
 use Rattle.plane_laws.proofs.Counted.{all-of, once-counted}
-use Rattle.plane_laws.proofs.PlacedLaw.{made_by, with_made, RunPlaced, fate-placed}
+use Rattle.plane_laws.proofs.PlacedLaw.{made_by, with_made, fate-placed}
 use Rattle.api_types.specs.Lists.{Each}
 use Rattle.api_types.specs.RowLists.{RowLists}
 use Rattle.api_types.specs.declared.network.Segment.{Segment}
@@ -19,7 +19,6 @@ use Rattle.plane_types.specs.Hosts.{Host, is_named}
 use Rattle.plane_types.specs.Placed.{IsPlaced}
 use Rattle.plane_types.specs.Realises.{Realises}
 use Rattle.plane_types.specs.Synced.{AreSynced}
-use Rattle.plane_types.specs.TableRows.{once}
 use Rattle.plane_types.specs.Told.{hosts_after, kept_from, made_at, place_among, told_fresh}
 use Rattle.plane_types.specs.declared.entry.Entry.{Entry}
 use Rattle.plane_types.specs.declared.event.Event.{Event}

@@ -1,14 +1,12 @@
 -- Whatever port a packet stands before, it comes to what the rows say.
-use Rattle.std.proofs.Common.{◌≡◌, ℕ, zero, suc, ◌+◌, ◌-◌, ◌*◌, ◌<◌, ◌≤◌, List, [], ◌∷◌, ◌++◌, map, Bool, true, false, cond, not, Option, Some, None, refl, ap, sym, subst, ◌∙◌, arith}
-use Rattle.std.specs.Prelude.{find, flat_map, option_and_then, option_map, ◌&&◌, ◌||◌, ◌==◌, ⊤, if◌then◌else◌, is_some}
-use Rattle.std.specs.List.{list_any}
-use Rattle.std.specs.Str.{bytes_eq}
-use Rattle.std.proofs.lemmas.Bool.{and_parts, and_from}
-use Rattle.plane_laws.proofs.ListLemmas.{find-passes, find-each, find-only, some_of}
-use Rattle.plane_laws.proofs.Located.{ident_same, ident_self}
+use Rattle.std.proofs.Common.{◌≡◌, ℕ, zero, suc, ◌-◌, ◌<◌, List, [], ◌∷◌, ◌++◌, Bool, true, false, not, Option, Some, None, refl, ap, ◌∙◌, arith}
+use Rattle.std.specs.Prelude.{find, option_and_then, option_map, ◌&&◌, if◌then◌else◌}
+use Rattle.std.proofs.lemmas.Bool.{and_from}
+use Rattle.plane_laws.proofs.ListLemmas.{find-passes, find-each, find-only}
+use Rattle.plane_laws.proofs.Located.{ident_self}
 use Rattle.plane_laws.proofs.Tagged.{tap-located, tagged}
-use Rattle.plane_laws.proofs.Sent.{text_same, text_self, trace_of, place_of, walk-on, trace-plain}
-use Rattle.plane_laws.proofs.SentLaw.{Lands, sent-law}
+use Rattle.plane_laws.proofs.Sent.{trace_of, place_of, walk-on, trace-plain}
+use Rattle.plane_laws.proofs.SentLaw.{Lands}
 use Rattle.plane_laws.proofs.EntriesLaw.{flows-located}
 use Rattle.plane_laws.proofs.RouterLaw.{trace-step, no-path, router-law}
 use Rattle.plane_laws.proofs.FilterLaw.{allows-located}

@@ -1,15 +1,15 @@
 -- Asks for a lease, over all hosts.
-use Rattle.std.proofs.Common.{◌≡◌, ℕ, zero, suc, ◌+◌, ◌-◌, ◌*◌, ◌<◌, ◌≤◌, List, [], ◌∷◌, ◌++◌, map, Bool, true, false, cond, not, Option, Some, None, refl, ap, sym, subst, ◌∙◌, arith}
-use Rattle.std.specs.Prelude.{codes, find, flat_map, option_and_then, option_map, ◌&&◌, ◌||◌, ◌==◌, ⊤, if◌then◌else◌, is_some}
-use Rattle.std.specs.List.{filter_map, list_any}
+use Rattle.std.proofs.Common.{◌≡◌, ℕ, ◌-◌, ◌<◌, ◌≤◌, List, [], ◌++◌, Bool, true, false, not, Option, Some, None, refl, ap, sym, subst, ◌∙◌, arith}
+use Rattle.std.specs.Prelude.{codes, find, option_and_then, option_map, ◌&&◌, ◌||◌, ◌==◌, if◌then◌else◌, is_some}
+use Rattle.std.specs.List.{filter_map}
 use Rattle.std.specs.Option.{option_or}
 use Rattle.std.specs.Str.{bytes_eq}
 use Rattle.std.proofs.lemmas.Bool.{and_parts, and_from, eqb-true, eq-eqb, or_right, and_right}
 use Rattle.std.proofs.lemmas.List.Folds.{find-append}
-use Rattle.plane_laws.proofs.ListLemmas.{find-passes, find-each, find-only, some_of, AtMostOne-less, find-filter_map, find-none_filter_map, find-ascending, AllOf-more, find-same_each, find-none_each}
-use Rattle.plane_laws.proofs.Located.{ident_same, ident_self, and_true, tag-row, tag-apart, bridge_apart}
+use Rattle.plane_laws.proofs.ListLemmas.{find-passes, find-each, some_of, AtMostOne-less, find-filter_map, find-none_filter_map, find-ascending, AllOf-more, find-same_each, find-none_each}
+use Rattle.plane_laws.proofs.Located.{ident_same, and_true, tag-row, tag-apart, bridge_apart}
 use Rattle.plane_laws.proofs.Tagged.{tagged, inward-located, inward-none}
-use Rattle.plane_laws.proofs.Sent.{text_same, text_self, trace_of, walk-on, trace-plain}
+use Rattle.plane_laws.proofs.Sent.{text_same, trace_of, walk-on, trace-plain}
 use Rattle.plane_laws.proofs.SentLaw.{at_opt, wire_self, wire_carrier, wire_away}
 use Rattle.plane_laws.proofs.PortLaw.{LeaseLaw}
 use Rattle.api_types.specs.Ident.{Ident}
@@ -27,7 +27,7 @@ use Rattle.plane_types.specs.Live.{is_joined, is_live, is_local, joined_with, ne
 use Rattle.plane_types.specs.Meaning.{answered, ended, lease_asked, lease_asked_by, lease_for, leased, out_of, out_or}
 use Rattle.plane_types.specs.Packets.{LeaseAsk, dhcp_frame}
 use Rattle.plane_types.specs.Places.{Bridge, DhcpIn, Next, Place, Step, ToTunnel, ToWire, TunnelIn, WireIn}
-use Rattle.plane_types.specs.TableRows.{bridge_by, bridge_row, bridge_rows, carrier_of, dhcp_row, end_of, is_at, is_tagged, lease_row, lease_row_by, lease_rows, mac_row, tag_of, tagged_by, to_here, to_router, to_there}
+use Rattle.plane_types.specs.TableRows.{bridge_by, bridge_row, bridge_rows, carrier_of, dhcp_row, end_of, is_at, is_tagged, lease_row, lease_row_by, lease_rows, mac_row, tag_of, to_here, to_router, to_there}
 use Rattle.plane_types.specs.TableStep.{bridge_at, bridge_at_tag, bridge_step, bridged_by, carrier_eq, drops, inward_at, inward_step, lease_answer, lease_at, plain, stops, table_step, wire_or}
 use Rattle.plane_types.specs.declared.table.BridgeKey.TheVariants.{Dhcp as AtDhcp, Mac as AtMac}
 use Rattle.plane_types.specs.declared.table.BridgeRow.{BridgeRow}

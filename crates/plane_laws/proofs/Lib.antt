@@ -29,3 +29,5 @@ pub mod KeptLaw
 pub mod ListLaw
 pub mod BoundsLaw
 pub mod BoundsTables
+pub mod WorkedRouting
+pub mod WorkedRing

@@ -1,20 +1,20 @@
 -- The law for lists of events, entries kept at the hosts that made them.
-use Rattle.std.proofs.Common.{◌≡◌, ℕ, zero, suc, ◌+◌, ◌≤◌, List, [], ◌∷◌, ◌++◌, map, Bool, true, false, cond, not, Option, Some, None, refl, ap, sym, subst, ◌∙◌, arith}
-use Rattle.std.specs.Prelude.{find, option_map, ◌&&◌, ◌||◌, ◌==◌, if◌then◌else◌, ⊤, is_some}
+use Rattle.std.proofs.Common.{◌≡◌, ℕ, List, [], ◌∷◌, ◌++◌, map, Bool, true, false, not, Option, Some, None, refl, ap, sym, subst, ◌∙◌}
+use Rattle.std.specs.Prelude.{find, option_map, ◌&&◌, ◌||◌, ◌==◌, if◌then◌else◌, is_some}
 use Rattle.std.specs.List.{list_any}
 use Rattle.std.specs.Str.{bytes_eq}
-use Rattle.std.proofs.lemmas.Bool.{and_parts, and_left}
+use Rattle.std.proofs.lemmas.Bool.{and_parts}
 use Rattle.std.proofs.lemmas.List.{append-nil}
 use Rattle.std.proofs.lemmas.List.Folds.{list_any-append}
 use Rattle.row_laws.proofs.ListLemmas.{any-weaker}
-use Rattle.row_laws.proofs.NameLemmas.{ident_same, ident_itself, bytes_same, bytes_itself}
+use Rattle.row_laws.proofs.NameLemmas.{ident_same, bytes_same}
 use Rattle.plane_laws.proofs.ListLemmas.{find-passes, find-each, find-some, any-only, find-map, AtMostOne-map, AllOf-more}
-use Rattle.plane_laws.proofs.Counted.{all-of, once-counted}
+use Rattle.plane_laws.proofs.Counted.{all-of}
 use Rattle.plane_laws.proofs.FactsHold.{frame-facts}
 use Rattle.plane_laws.proofs.SyncedHold.{synced-facts, entry-stands}
 use Rattle.plane_laws.proofs.EntriesLaw.{no-host, one-host, uses-append}
 use Rattle.plane_laws.proofs.SameEntries.{SameEntries, verdict-same}
-use Rattle.plane_laws.proofs.Theorem.{fates-same, tables-mean-rows, told-made}
+use Rattle.plane_laws.proofs.Theorem.{fates-same, tables-mean-rows}
 use Rattle.plane_laws.proofs.PlacedLaw.{made_by, with_made, AllMade, IsMade, RunPlaced, fate-placed}
 use Rattle.plane_laws.proofs.KeptLaw.{after-is, stay-synced, AllOf-map}
 use Rattle.api_types.specs.Consistent.Groups.{is_direction}

@@ -1,16 +1,14 @@
 -- What a look-up in a host's tables finds is what a search of the rows finds.
-use Rattle.std.proofs.Common.{◌≡◌, ℕ, zero, suc, ◌+◌, ◌-◌, ◌<◌, ◌≤◌, List, [], ◌∷◌, ◌++◌, map, Bool, true, false, cond, not, Option, Some, None, refl, ap, sym, subst, ◌∙◌, arith}
-use Rattle.std.specs.Prelude.{find, flat_map, option_and_then, option_map, ◌&&◌, ◌||◌, ◌==◌, nat_lt, ⊤, if◌then◌else◌, is_some}
-use Rattle.std.specs.List.{filter, filter_map, cons_option, list_any}
+use Rattle.std.proofs.Common.{◌≡◌, ℕ, ◌+◌, List, ◌++◌, Bool, true, false, Option, Some, None, refl, ap, sym, subst, ◌∙◌, arith}
+use Rattle.std.specs.Prelude.{find, option_and_then, option_map, ◌&&◌, ◌==◌, if◌then◌else◌}
+use Rattle.std.specs.List.{filter_map}
 use Rattle.std.specs.Option.{option_or}
-use Rattle.std.specs.Str.{bytes_eq}
-use Rattle.std.proofs.lemmas.Bool.{and_parts, eqb-true, eq-eqb, false_from_ne_true, ltb-true, and_right}
+use Rattle.std.proofs.lemmas.Bool.{and_parts, eqb-true, eq-eqb, false_from_ne_true, and_right}
 use Rattle.std.proofs.lemmas.Option.{same_Some}
 use Rattle.std.proofs.lemmas.Bool.Decides.{nat_tests}
 use Rattle.std.proofs.lemmas.List.Folds.{find-append}
-use Rattle.plane_laws.proofs.ListLemmas.{find-same, find-passes, find-each, find-only, AtMostOne-less, find-none_filter_map, option_or-none, find-filter_map, find-flat_map, find-ascending}
+use Rattle.plane_laws.proofs.ListLemmas.{find-passes, find-each, find-only, AtMostOne-less, find-none_filter_map, option_or-none, find-filter_map, find-ascending}
 use Rattle.api_types.specs.Ident.{Ident}
-use Rattle.api_types.specs.Lists.{stands}
 use Rattle.api_types.specs.Owners.{is_dhcp}
 use Rattle.api_types.specs.RowLists.{RowLists}
 use Rattle.api_types.specs.Table.{ident_eq}

@@ -1,12 +1,11 @@
 -- What a look-up makes: at most one entry, of a tap or router of the tables, and no translation that another one can be taken for.
-use Rattle.std.proofs.Common.{◌≡◌, ℕ, zero, suc, ◌+◌, ◌-◌, ◌≤◌, List, [], ◌∷◌, ◌++◌, map, Bool, true, false, cond, not, Option, Some, None, refl, ap, sym, subst, ◌∙◌, arith}
+use Rattle.std.proofs.Common.{◌≡◌, ℕ, zero, suc, ◌+◌, ◌-◌, ◌≤◌, List, [], ◌∷◌, Bool, true, false, not, Option, Some, None, refl, ap, sym, subst, ◌∙◌, arith}
 use Rattle.std.specs.Prelude.{length, find, ◌&&◌, ◌||◌, ◌==◌, if◌then◌else◌, ⊤, is_some, nat_le}
 use Rattle.std.specs.List.{list_any}
 use Rattle.std.specs.Option.{unwrap_or}
 use Rattle.std.proofs.lemmas.Bool.{and_parts}
-use Rattle.row_laws.proofs.IdLemmas.{none_found}
-use Rattle.row_laws.proofs.NameLemmas.{ident_same, ident_itself}
-use Rattle.plane_laws.proofs.ListLemmas.{find-passes, find-some, list_any-found}
+use Rattle.row_laws.proofs.NameLemmas.{ident_itself}
+use Rattle.plane_laws.proofs.ListLemmas.{find-some, list_any-found}
 use Rattle.api_types.specs.Ident.{Ident}
 use Rattle.api_types.specs.Table.{ident_eq}
 use Rattle.api_types.specs.declared.group.Direction.{Direction}

@@ -1,13 +1,13 @@
 -- The neighbours row of an address is its joined holder's.
-use Rattle.std.proofs.Common.{◌≡◌, ℕ, zero, suc, ◌+◌, ◌-◌, ◌<◌, ◌≤◌, List, [], ◌∷◌, ◌++◌, map, Bool, true, false, cond, not, Option, Some, None, refl, ap, sym, subst, ◌∙◌, arith}
-use Rattle.std.specs.Prelude.{find, flat_map, option_and_then, option_map, ◌&&◌, ◌||◌, ◌==◌, nat_lt, ⊤, if◌then◌else◌, is_some}
-use Rattle.std.specs.List.{filter, filter_map, list_any}
+use Rattle.std.proofs.Common.{◌≡◌, ℕ, List, [], ◌∷◌, ◌++◌, map, Bool, true, false, cond, not, Option, Some, None, refl, ap, sym, subst, ◌∙◌}
+use Rattle.std.specs.Prelude.{find, flat_map, option_and_then, option_map, ◌&&◌, ◌||◌, ◌==◌, if◌then◌else◌}
+use Rattle.std.specs.List.{filter_map, list_any}
 use Rattle.std.specs.Option.{option_or}
 use Rattle.std.proofs.lemmas.Bool.{and_parts, and_from, eqb-true, eq-eqb, false_from_ne_true}
 use Rattle.std.proofs.lemmas.Option.{same_Some}
 use Rattle.std.proofs.lemmas.List.Folds.{find-append}
 use Rattle.plane_laws.proofs.ListLemmas.{find-passes, find-each, find-only, AtMostOne-less, find-filter_map, find-flat_map, find-ascending}
-use Rattle.plane_laws.proofs.Located.{ident_same, ident_self, and_true, tag-apart, before_differs}
+use Rattle.plane_laws.proofs.Located.{ident_same, and_true, tag-apart, before_differs}
 use Rattle.api_types.specs.Consistent.Carried.{is_bound}
 use Rattle.api_types.specs.Ident.{Ident}
 use Rattle.api_types.specs.Lists.{stands}

@@ -1,14 +1,14 @@
 -- A run leaves the entries of each host placed, those that it made at the host counted in.
-use Rattle.std.proofs.Common.{◌≡◌, ℕ, zero, suc, ◌+◌, ◌-◌, ◌≤◌, List, [], ◌∷◌, ◌++◌, map, Bool, true, false, cond, not, Option, Some, None, refl, ap, sym, subst, ◌∙◌, arith, append_assoc}
-use Rattle.std.specs.Prelude.{find, count_by, ◌&&◌, ◌||◌, ◌==◌, if◌then◌else◌, ⊤, is_some, slice_get}
+use Rattle.std.proofs.Common.{◌≡◌, ℕ, zero, suc, List, [], ◌∷◌, ◌++◌, Bool, true, false, not, Option, Some, None, refl, ap, sym, subst, ◌∙◌, append_assoc}
+use Rattle.std.specs.Prelude.{find, count_by, ◌&&◌, ◌||◌, ◌==◌, if◌then◌else◌, ⊤, is_some}
 use Rattle.std.specs.List.{list_any}
 use Rattle.std.specs.Str.{bytes_eq}
-use Rattle.std.proofs.lemmas.Bool.{and_parts, eqb-true}
+use Rattle.std.proofs.lemmas.Bool.{eqb-true}
 use Rattle.std.proofs.lemmas.List.{append-nil}
 use Rattle.std.proofs.lemmas.List.Folds.{list_any-append}
-use Rattle.row_laws.proofs.ListLemmas.{and_both, or_none, none-any, count-none, once-push, each-push, any-none, any-at, at-any, some_equal}
-use Rattle.row_laws.proofs.NameLemmas.{ident_same, bytes_same, bytes_itself, by_test}
-use Rattle.plane_laws.proofs.ListLemmas.{find-passes, find-only, find-each, AllOf-more, each-found}
+use Rattle.row_laws.proofs.ListLemmas.{and_both, or_none, none-any, count-none, once-push, each-push, some_equal}
+use Rattle.row_laws.proofs.NameLemmas.{ident_same, bytes_same, bytes_itself}
+use Rattle.plane_laws.proofs.ListLemmas.{find-only, AllOf-more, each-found}
 use Rattle.plane_laws.proofs.MadeLaw.{Admits, IsApart, step-admits}
 use Rattle.api_types.specs.Ident.{Ident}
 use Rattle.api_types.specs.Table.{ident_eq}

@@ -1,14 +1,13 @@
 -- An event from a port comes to what the rows say.
-use Rattle.std.proofs.Common.{◌≡◌, ℕ, zero, suc, ◌+◌, ◌-◌, ◌*◌, ◌<◌, ◌≤◌, List, [], ◌∷◌, ◌++◌, map, Bool, true, false, cond, not, Option, Some, None, refl, ap, sym, subst, ◌∙◌, arith}
-use Rattle.std.specs.Prelude.{find, flat_map, option_and_then, option_map, ◌&&◌, ◌||◌, ◌==◌, ⊤, if◌then◌else◌, is_some}
-use Rattle.std.specs.List.{list_any}
+use Rattle.std.proofs.Common.{◌≡◌, ℕ, suc, ◌+◌, ◌-◌, ◌*◌, ◌≤◌, List, [], ◌∷◌, ◌++◌, Bool, true, false, not, Option, Some, None, refl, ap, sym, ◌∙◌, arith}
+use Rattle.std.specs.Prelude.{find, option_and_then, option_map, ◌&&◌, ◌||◌, if◌then◌else◌, is_some}
 use Rattle.std.specs.Str.{bytes_eq}
-use Rattle.std.proofs.lemmas.Bool.{and_parts, and_from, and_right, and_left}
-use Rattle.plane_laws.proofs.ListLemmas.{find-passes, find-each, find-only, some_of, find-none_each, find-same_each, AllOf-more}
-use Rattle.plane_laws.proofs.Located.{ident_same, ident_self, and_true, tag-row}
+use Rattle.std.proofs.lemmas.Bool.{and_from, and_right}
+use Rattle.plane_laws.proofs.ListLemmas.{find-passes, find-each, some_of, find-none_each, find-same_each, AllOf-more}
+use Rattle.plane_laws.proofs.Located.{ident_same, tag-row}
 use Rattle.plane_laws.proofs.Tagged.{tap-located, tagged}
-use Rattle.plane_laws.proofs.Sent.{text_same, text_self, trace_of, walk-on, trace-plain}
-use Rattle.plane_laws.proofs.SentLaw.{Lands, sent-law}
+use Rattle.plane_laws.proofs.Sent.{text_same, trace_of, walk-on, trace-plain}
+use Rattle.plane_laws.proofs.SentLaw.{sent-law}
 use Rattle.plane_laws.proofs.RouterLaw.{trace-step, no-path}
 use Rattle.plane_laws.proofs.LandsLaw.{lands-law, tap-found, tag-here, passage-here, real-at}
 use Rattle.plane_laws.proofs.AskLaw.{guards-same, arp-law}

@@ -1,13 +1,12 @@
 -- A packet at a router's port comes to what the rows say.
-use Rattle.std.proofs.Common.{◌≡◌, ℕ, zero, suc, ◌+◌, ◌-◌, ◌*◌, ◌<◌, ◌≤◌, List, [], ◌∷◌, ◌++◌, map, Bool, true, false, cond, not, Option, Some, None, refl, ap, sym, subst, ◌∙◌, arith}
-use Rattle.std.specs.Prelude.{find, flat_map, option_and_then, option_map, ◌&&◌, ◌||◌, ◌==◌, nat_lt, nat_le, ⊤, if◌then◌else◌, is_some}
-use Rattle.std.specs.List.{filter, filter_map, cons_option, list_any}
-use Rattle.std.specs.Str.{bytes_eq}
-use Rattle.std.proofs.lemmas.Bool.{and_parts, and_from}
+use Rattle.std.proofs.Common.{◌≡◌, ℕ, suc, ◌+◌, ◌-◌, ◌*◌, ◌<◌, ◌≤◌, List, [], ◌∷◌, ◌++◌, Bool, true, false, cond, Option, Some, None, refl, ap, sym, subst, ◌∙◌, arith}
+use Rattle.std.specs.Prelude.{find, option_and_then, option_map, ◌&&◌, if◌then◌else◌, is_some}
+use Rattle.std.specs.List.{filter}
+use Rattle.std.proofs.lemmas.Bool.{and_from}
 use Rattle.std.proofs.lemmas.List.{append-nil}
 use Rattle.plane_laws.proofs.ListLemmas.{find-passes, find-each, find-only, some_of, find-filter}
-use Rattle.plane_laws.proofs.Located.{ident_same, ident_self, tag-row}
-use Rattle.plane_laws.proofs.Sent.{text_same, text_self, trace_of, place_of, walk-on, trace-plain}
+use Rattle.plane_laws.proofs.Located.{ident_self, tag-row}
+use Rattle.plane_laws.proofs.Sent.{text_same, trace_of, walk-on, trace-plain}
 use Rattle.plane_laws.proofs.SentLaw.{Lands, sent-law}
 use Rattle.plane_laws.proofs.EntriesLaw.{uses-located}
 use Rattle.plane_laws.proofs.Neighbours.{row_at, neighbour-located, holder-at}

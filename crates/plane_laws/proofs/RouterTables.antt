@@ -1,15 +1,8 @@
 -- A router as its host's tables have it is the router of the rows.
-use Rattle.std.proofs.Common.{◌≡◌, ℕ, zero, suc, ◌+◌, ◌-◌, ◌<◌, ◌≤◌, List, [], ◌∷◌, ◌++◌, map, Bool, true, false, cond, not, Option, Some, None, refl, ap, sym, subst, ◌∙◌, arith}
-use Rattle.std.specs.Prelude.{find, flat_map, option_and_then, option_map, ◌&&◌, ◌||◌, ◌==◌, nat_lt, nat_le, ⊤, if◌then◌else◌, is_some}
-use Rattle.std.specs.List.{filter, filter_map, cons_option, list_any}
-use Rattle.std.specs.Str.{bytes_eq}
+use Rattle.std.proofs.Common.{◌≡◌, ℕ, suc, ◌-◌, ◌<◌, List, [], Bool, true, false, not, Option, Some, None, refl, ap, ◌∙◌, arith}
+use Rattle.std.specs.Prelude.{find, ◌&&◌, ◌||◌, ◌==◌, nat_le, ⊤, if◌then◌else◌}
 use Rattle.std.specs.Option.{unwrap_or}
-use Rattle.std.proofs.lemmas.Bool.{and_parts, and_from, leb-false}
-use Rattle.std.proofs.lemmas.Option.{same_Some}
-use Rattle.plane_laws.proofs.ListLemmas.{find-passes, find-each, find-only, find-filter_map, AtMostOne-filter, some_of, AllOf-more, each-found, AllOf-filter, find-filter, filter_map-append, filter_map-one}
-use Rattle.plane_laws.proofs.Located.{ident_same, ident_self}
-use Rattle.plane_laws.proofs.Tagged.{tagged}
-use Rattle.plane_laws.proofs.Sent.{text_same, text_self}
+use Rattle.std.proofs.lemmas.Bool.{leb-false}
 use Rattle.api_types.specs.Table.{ident_eq}
 use Rattle.plane_types.specs.Crossing.{not_delivered}
 use Rattle.plane_types.specs.Keys.{key_eq}

@@ -1,16 +1,14 @@
 -- The router of the tables is the router of the rows.
-use Rattle.std.proofs.Common.{◌≡◌, ℕ, zero, suc, ◌+◌, ◌-◌, ◌<◌, ◌≤◌, List, [], ◌∷◌, ◌++◌, map, Bool, true, false, cond, not, Option, Some, None, refl, ap, sym, subst, ◌∙◌, arith}
-use Rattle.std.specs.Prelude.{find, flat_map, option_and_then, option_map, ◌&&◌, ◌||◌, ◌==◌, nat_lt, nat_le, ⊤, if◌then◌else◌, is_some}
-use Rattle.std.specs.List.{filter, filter_map, cons_option, list_any}
+use Rattle.std.proofs.Common.{◌≡◌, ℕ, List, [], ◌∷◌, map, Bool, true, false, Option, Some, None, refl, ap, sym, subst, ◌∙◌}
+use Rattle.std.specs.Prelude.{find, option_and_then, option_map, ◌&&◌, if◌then◌else◌, is_some}
+use Rattle.std.specs.List.{filter_map, cons_option}
 use Rattle.std.specs.Str.{bytes_eq}
 use Rattle.std.proofs.lemmas.Bool.{and_parts, and_from}
-use Rattle.std.proofs.lemmas.Option.{same_Some}
-use Rattle.plane_laws.proofs.ListLemmas.{find-passes, find-each, find-only, find-filter_map, AtMostOne-filter, some_of, AllOf-more, each-found, AllOf-filter, find-filter, filter_map-append, filter_map-one}
+use Rattle.plane_laws.proofs.ListLemmas.{find-each, find-only, find-filter_map, AtMostOne-filter, each-found, AllOf-filter, filter_map-one}
 use Rattle.plane_laws.proofs.Located.{ident_same, ident_self}
 use Rattle.plane_laws.proofs.Tagged.{tagged}
 use Rattle.plane_laws.proofs.Sent.{text_same, text_self}
 use Rattle.api_types.specs.Ident.{Ident}
-use Rattle.api_types.specs.Lists.{stands}
 use Rattle.api_types.specs.Owners.{device_is, is_router_port}
 use Rattle.api_types.specs.RowLists.{RowLists}
 use Rattle.api_types.specs.Table.{ident_eq}

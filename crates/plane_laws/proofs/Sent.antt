@@ -1,16 +1,14 @@
 -- A packet on a network's bridge gets to the port that the rows say.
-use Rattle.std.proofs.Common.{◌≡◌, ℕ, zero, suc, ◌+◌, ◌-◌, ◌*◌, ◌<◌, ◌≤◌, List, [], ◌∷◌, ◌++◌, map, Bool, true, false, cond, not, Option, Some, None, refl, ap, sym, subst, ◌∙◌, arith}
-use Rattle.std.specs.Prelude.{find, flat_map, option_and_then, option_map, ◌&&◌, ◌||◌, ◌==◌, nat_lt, ⊤, if◌then◌else◌, is_some}
-use Rattle.std.specs.List.{filter, filter_map, cons_option, list_any}
+use Rattle.std.proofs.Common.{◌≡◌, ℕ, zero, suc, ◌-◌, ◌<◌, List, [], ◌++◌, Bool, true, false, Option, Some, None, refl, ap, sym, ◌∙◌, arith}
+use Rattle.std.specs.Prelude.{find, option_and_then, ◌&&◌, ◌==◌, if◌then◌else◌}
 use Rattle.std.specs.Str.{bytes_eq}
-use Rattle.std.proofs.lemmas.Bool.{and_parts, eqb-true, eq-eqb, and_from}
+use Rattle.std.proofs.lemmas.Bool.{and_parts, eqb-true, and_from}
 use Rattle.std.proofs.lemmas.List.{append-nil}
 use Rattle.std.proofs.lemmas.Slice.Eq.{bytes_eq-Decides}
-use Rattle.plane_laws.proofs.ListLemmas.{find-same, find-passes, find-each, find-only, some_of}
-use Rattle.plane_laws.proofs.Located.{ident_same, ident_self, tag-row, bridge-located}
+use Rattle.plane_laws.proofs.ListLemmas.{find-passes, find-each}
+use Rattle.plane_laws.proofs.Located.{ident_same, tag-row, bridge-located}
 use Rattle.plane_laws.proofs.Tagged.{tagged, inward-located}
 use Rattle.api_types.specs.Ident.{Ident}
-use Rattle.api_types.specs.Lists.{stands}
 use Rattle.api_types.specs.Owners.{is_router_port}
 use Rattle.api_types.specs.RowLists.{RowLists}
 use Rattle.api_types.specs.Table.{ident_eq}
@@ -23,7 +21,7 @@ use Rattle.plane_types.specs.Live.{is_live, segment, wire_of}
 use Rattle.plane_types.specs.Meaning.{Trace}
 use Rattle.plane_types.specs.Packets.{Packet, ip_frame}
 use Rattle.plane_types.specs.Places.{Next, Place, RouterIn, Step, TapOut, TunnelIn}
-use Rattle.plane_types.specs.TableRows.{bridge_by, carrier_of, end_of, is_at, is_hosted, is_tagged, mac_row, tag_of, to_here, to_router, to_there}
+use Rattle.plane_types.specs.TableRows.{bridge_by, carrier_of, end_of, is_at, is_hosted, mac_row, tag_of, to_here, to_router, to_there}
 use Rattle.plane_types.specs.TableStep.{bridge_at, bridge_at_tag, bridge_step, bridged_by, carrier_eq, inward_at, inward_step, led, plain, table_step}
 use Rattle.plane_types.specs.declared.table.BridgeKey.TheVariants.{Mac as AtMac}
 use Rattle.plane_types.specs.declared.table.BridgeTo.{BridgeTo}

@@ -1,11 +1,10 @@
 -- On a bridge, over all hosts: where the packet gets is where the rows say.
-use Rattle.std.proofs.Common.{◌≡◌, ℕ, zero, suc, ◌+◌, ◌-◌, ◌*◌, ◌<◌, ◌≤◌, List, [], ◌∷◌, ◌++◌, map, Bool, true, false, cond, not, Option, Some, None, refl, ap, sym, subst, ◌∙◌, arith}
-use Rattle.std.specs.Prelude.{find, flat_map, option_and_then, option_map, ◌&&◌, ◌||◌, ◌==◌, nat_lt, ⊤, if◌then◌else◌, is_some}
-use Rattle.std.specs.List.{filter, filter_map, cons_option, list_any}
+use Rattle.std.proofs.Common.{◌≡◌, ℕ, ◌+◌, ◌-◌, ◌*◌, ◌<◌, ◌≤◌, List, [], ◌++◌, Bool, true, false, not, Option, Some, None, refl, ap, sym, subst, ◌∙◌, arith}
+use Rattle.std.specs.Prelude.{find, option_and_then, ◌&&◌, ◌||◌, ◌==◌, if◌then◌else◌, is_some}
 use Rattle.std.specs.Str.{bytes_eq}
-use Rattle.std.proofs.lemmas.Bool.{and_parts, eqb-true, eq-eqb, and_from, or_right, and_right}
-use Rattle.plane_laws.proofs.ListLemmas.{find-same, find-passes, find-each, find-only, some_of, AllOf-more, find-same_each, find-none_each}
-use Rattle.plane_laws.proofs.Located.{ident_same, ident_self, tag-row, bridge-located}
+use Rattle.std.proofs.lemmas.Bool.{and_parts, eq-eqb, and_from, or_right, and_right}
+use Rattle.plane_laws.proofs.ListLemmas.{find-passes, find-each, some_of, AllOf-more, find-same_each, find-none_each}
+use Rattle.plane_laws.proofs.Located.{ident_same, tag-row, bridge-located}
 use Rattle.plane_laws.proofs.Tagged.{tagged, inward-located, inward-none}
 use Rattle.plane_laws.proofs.Sent.{text_same, text_self, trace_of, place_of, walk-on, trace-plain, end-here, live-found, network-found, row-located, step-located, step-unlocated, end-is, end-away, led-here, inner-step}
 use Rattle.api_types.specs.Ident.{Ident}
@@ -22,7 +21,7 @@ use Rattle.plane_types.specs.Live.{is_joined, is_live, is_local, joined_with, ne
 use Rattle.plane_types.specs.Meaning.{ended, got, out_of, out_or, sent_on, sent_to}
 use Rattle.plane_types.specs.Packets.{Packet, ip_frame}
 use Rattle.plane_types.specs.Places.{Bridge, End, Next, Place, Step, ToTunnel, ToWire, TunnelIn, WireIn}
-use Rattle.plane_types.specs.TableRows.{bridge_by, carrier_of, is_at, is_tagged, mac_row, tag_of, tagged_by, to_here, to_there}
+use Rattle.plane_types.specs.TableRows.{bridge_by, carrier_of, is_at, mac_row, tag_of, to_here, to_there}
 use Rattle.plane_types.specs.TableStep.{bridge_at, bridge_at_tag, bridge_step, bridged_by, carrier_eq, inward_at, inward_step, plain, table_step, wire_or}
 use Rattle.plane_types.specs.declared.frame.KeyPart.TheVariants.{Proto}
 use Rattle.plane_types.specs.declared.table.BridgeKey.TheVariants.{Mac as AtMac}

@@ -1,10 +1,9 @@
 -- Hosts that hold the rows have what the law of frames uses of them.
-use Rattle.std.proofs.Common.{◌≡◌, ℕ, zero, suc, ◌+◌, ◌<◌, ◌≤◌, List, [], ◌∷◌, Bool, true, false, cond, not, Option, Some, None, refl, ap, sym, ◌∙◌, arith, subst}
+use Rattle.std.proofs.Common.{◌≡◌, ℕ, List, Bool, true, false, not, Option, Some, None, refl, ap, sym, ◌∙◌}
 use Rattle.std.specs.Prelude.{find, is_some, ◌&&◌, ◌||◌, ◌==◌, option_map, if◌then◌else◌}
-use Rattle.std.specs.List.{list_any, filter_map}
+use Rattle.std.specs.List.{list_any}
 use Rattle.std.specs.Str.{bytes_eq}
-use Rattle.row_laws.proofs.ListLemmas.{and_both, both_and, any-at, any-weaker, false_true, some_equal}
-use Rattle.row_laws.proofs.NameLemmas.{ident_same, ident_itself}
+use Rattle.row_laws.proofs.ListLemmas.{and_both, both_and, any-at}
 use Rattle.plane_laws.proofs.ListLemmas.{find-some, AllOf-more}
 use Rattle.plane_laws.proofs.Counted.{all-of, once-counted, any-made}
 use Rattle.plane_laws.proofs.FactsHold.{unless-passes}

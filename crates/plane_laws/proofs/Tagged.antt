@@ -1,11 +1,10 @@
 -- Tags, taps and segments.
-use Rattle.std.proofs.Common.{◌≡◌, ℕ, zero, suc, ◌+◌, ◌-◌, ◌<◌, ◌≤◌, List, [], ◌∷◌, ◌++◌, map, Bool, true, false, cond, not, Option, Some, None, refl, ap, sym, subst, ◌∙◌, arith}
-use Rattle.std.specs.Prelude.{find, flat_map, option_and_then, option_map, ◌&&◌, ◌||◌, ◌==◌, nat_lt, ⊤, if◌then◌else◌, is_some}
-use Rattle.std.specs.List.{filter, filter_map, cons_option, list_any}
-use Rattle.std.specs.Str.{bytes_eq}
+use Rattle.std.proofs.Common.{◌≡◌, ℕ, List, map, Bool, true, false, Option, Some, None, refl, ap, sym, subst, ◌∙◌}
+use Rattle.std.specs.Prelude.{find, option_and_then, option_map, ◌&&◌, ◌==◌, if◌then◌else◌, is_some}
+use Rattle.std.specs.List.{filter, list_any}
 use Rattle.std.proofs.lemmas.Option.{same_Some}
-use Rattle.std.proofs.lemmas.Bool.{and_parts, eqb-true, eq-eqb, false_from_ne_true, ltb-true, and_right, and_from}
-use Rattle.plane_laws.proofs.ListLemmas.{find-same, find-passes, find-each, find-only, find-filter_map, AtMostOne-map, AtMostOne-from_map, AtMostOne-filter, list_any-filter, find-some, list_any-found, list_any-map, list_any-kept, some_of}
+use Rattle.std.proofs.lemmas.Bool.{and_from}
+use Rattle.plane_laws.proofs.ListLemmas.{find-passes, find-each, find-only, find-filter_map, AtMostOne-map, AtMostOne-from_map, AtMostOne-filter, list_any-filter, find-some, list_any-found, list_any-map, list_any-kept, some_of}
 use Rattle.plane_laws.proofs.Located.{ident_same, ident_self, tag-row}
 use Rattle.api_types.specs.Ident.{Ident}
 use Rattle.api_types.specs.RowLists.{RowLists}

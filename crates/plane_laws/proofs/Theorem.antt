@@ -1,5 +1,5 @@
 -- The law, for one event of any kind.
-use Rattle.std.proofs.Common.{◌≡◌, List, [], ◌∷◌, ℕ, Bool, map, refl, ap, sym, ◌∙◌}
+use Rattle.std.proofs.Common.{◌≡◌, List, [], ◌∷◌, ℕ, Bool, map, refl, ap, ◌∙◌}
 use Rattle.plane_laws.proofs.FactsHold.{frame-facts}
 use Rattle.plane_laws.proofs.SyncedHold.{synced-facts}
 use Rattle.plane_laws.proofs.PortLaw.{port-law}

@@ -1,13 +1,13 @@
 -- An event from a wire comes to what the rows say.
-use Rattle.std.proofs.Common.{◌≡◌, ℕ, zero, suc, ◌+◌, ◌-◌, ◌*◌, ◌<◌, ◌≤◌, List, [], ◌∷◌, ◌++◌, map, Bool, true, false, cond, not, Option, Some, None, refl, ap, sym, subst, ◌∙◌, arith}
-use Rattle.std.specs.Prelude.{find, flat_map, option_and_then, option_map, ◌&&◌, ◌||◌, ◌==◌, ⊤, if◌then◌else◌, is_some}
-use Rattle.std.specs.List.{filter, filter_map, list_any}
+use Rattle.std.proofs.Common.{◌≡◌, ℕ, suc, ◌+◌, ◌*◌, List, [], ◌∷◌, map, Bool, true, false, not, Option, Some, None, refl, ap, sym, ◌∙◌, arith}
+use Rattle.std.specs.Prelude.{find, option_and_then, option_map, ◌&&◌, ◌||◌, ◌==◌, if◌then◌else◌, is_some}
+use Rattle.std.specs.List.{filter, list_any}
 use Rattle.std.specs.Str.{bytes_eq}
-use Rattle.std.proofs.lemmas.Bool.{and_parts, and_from, eqb-true, or_right}
+use Rattle.std.proofs.lemmas.Bool.{and_parts, and_from, eqb-true}
 use Rattle.plane_laws.proofs.ListLemmas.{find-passes, find-each, find-only, some_of, find-none_each, find-same_each, AllOf-more, find-filter_map, find-some, list_any-found, list_any-map, list_any-filter}
 use Rattle.plane_laws.proofs.Located.{ident_same, ident_self, tag-row}
 use Rattle.plane_laws.proofs.Tagged.{tagged, inward-located, inward-none, inward_hit, one-carrier}
-use Rattle.plane_laws.proofs.Sent.{text_same, text_self, trace_of, walk-on, trace-plain}
+use Rattle.plane_laws.proofs.Sent.{text_same, walk-on}
 use Rattle.plane_laws.proofs.SentLaw.{at_opt, wire_self, wire_carrier, takes-law, carried}
 use Rattle.plane_laws.proofs.LandsLaw.{lands-law}
 use Rattle.plane_laws.proofs.Neighbours.{row_at, neighbour-located, holder-at}

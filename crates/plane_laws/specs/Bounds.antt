@@ -1,5 +1,5 @@
 -- How far a packet comes, by its time to live of eight bits (RFC 791).
-use Rattle.std.specs.Prelude.{ℕ, suc, ◌/◌, ◌≤◌, length}
+use Rattle.std.specs.Prelude.{ℕ, ◌/◌, ◌≤◌, length}
 use Rattle.plane_types.specs.Meaning.{life_of}
 use Rattle.plane_types.specs.declared.event.Event.{Event}
 use Rattle.plane_types.specs.declared.event.Event.TheVariants.{FromPort, FromWire}

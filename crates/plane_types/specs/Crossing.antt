@@ -1,5 +1,5 @@
 -- A path crosses between networks only at routers that have live ports on both.
-use Rattle.std.specs.Prelude.{◌≡◌, ℕ, Bool, true, false, ◌&&◌, List, [], ◌∷◌, ◌++◌, Option, Some, None, ⊤}
+use Rattle.std.specs.Prelude.{◌≡◌, Bool, true, false, ◌&&◌, List, [], ◌∷◌, Option, Some, None, ⊤}
 use Rattle.std.specs.List.{list_any}
 use Rattle.api_types.specs.Ident.{Ident}
 use Rattle.api_types.specs.RowLists.{RowLists}

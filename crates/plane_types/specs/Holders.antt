@@ -1,5 +1,5 @@
 -- Who is found on a network: the port of a MAC, the holder of an address, the DHCP port.
-use Rattle.std.specs.Prelude.{ℕ, ◌&&◌, ◌==◌, Bool, List, Option, Some, None, if◌then◌else◌, find, option_and_then}
+use Rattle.std.specs.Prelude.{ℕ, ◌&&◌, ◌==◌, Bool, Option, Some, None, if◌then◌else◌, find, option_and_then}
 use Rattle.std.specs.List.{list_any}
 use Rattle.std.specs.Option.{option_or}
 use Rattle.api_types.specs.Ident.{Ident}

@@ -1,7 +1,6 @@
 -- A router as the rows have it: its live ports, its routes and its floating addresses.
-use Rattle.std.specs.Prelude.{ℕ, Bool, true, false, not, ◌&&◌, ◌||◌, ◌==◌, nat_lt, List, [], ◌∷◌, ◌++◌, map, Option, Some, None, find, option_map, option_and_then, flat_map, if◌then◌else◌}
+use Rattle.std.specs.Prelude.{ℕ, Bool, false, ◌&&◌, nat_lt, List, [], ◌∷◌, ◌++◌, map, Option, Some, None, find, option_map, option_and_then, flat_map, if◌then◌else◌}
 use Rattle.std.specs.List.{list_any, filter, filter_map}
-use Rattle.std.specs.Str.{bytes_eq}
 use Rattle.net_addr.specs.Prefixes.{Prefix, contains}
 use Rattle.api_types.specs.Ident.{Ident}
 use Rattle.api_types.specs.Owners.{holds_in, is_interface, is_port_of}

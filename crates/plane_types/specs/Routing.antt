@@ -1,6 +1,6 @@
 -- What a router does with a packet, in seven steps (RFC 1812, section 5; RFC 3022 for translation; RFC 2663, section 4.1.2).
-use Rattle.std.specs.Prelude.{ℕ, ◌+◌, ◌-◌, Bool, true, false, not, ◌&&◌, ◌||◌, ◌==◌, nat_lt, nat_le, List, [], ◌∷◌, ◌++◌, map, Option, Some, None, if◌then◌else◌, find, zero, suc}
-use Rattle.std.specs.List.{list_any, filter}
+use Rattle.std.specs.Prelude.{ℕ, ◌+◌, ◌-◌, Bool, true, false, not, ◌&&◌, ◌||◌, ◌==◌, nat_lt, nat_le, List, [], ◌∷◌, Option, Some, None, if◌then◌else◌, find, zero, suc}
+use Rattle.std.specs.List.{list_any}
 use Rattle.std.specs.Option.{unwrap_or}
 use Rattle.net_addr.specs.Prefixes.{Prefix, contains}
 use Rattle.api_types.specs.Ident.{Ident}

@@ -1,6 +1,6 @@
 -- The tables that the rows give to a host, for its tags.
-use Rattle.std.specs.Prelude.{◌≡◌, ℕ, ◌+◌, ◌<◌, Bool, true, false, not, ◌&&◌, ◌||◌, ◌==◌, nat_lt, List, [], ◌∷◌, ◌++◌, map, Option, Some, None, find, option_map, option_and_then, flat_map, if◌then◌else◌}
-use Rattle.std.specs.List.{list_any, filter, filter_map}
+use Rattle.std.specs.Prelude.{ℕ, Bool, false, not, ◌&&◌, ◌||◌, ◌==◌, nat_lt, List, [], ◌∷◌, ◌++◌, map, Option, Some, None, find, option_map, option_and_then, flat_map, if◌then◌else◌}
+use Rattle.std.specs.List.{list_any, filter_map}
 use Rattle.std.specs.Str.{bytes_eq}
 use Rattle.net_addr.specs.Prefixes.{Prefix}
 use Rattle.api_types.specs.Consistent.Groups.{prefix_eq}

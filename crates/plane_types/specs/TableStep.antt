@@ -1,7 +1,6 @@
 -- One look-up in the tables of one host, by the place at which a frame is there.
-use Rattle.std.specs.Prelude.{ℕ, zero, suc, ◌+◌, Bool, true, false, not, ◌&&◌, ◌||◌, ◌==◌, List, [], ◌∷◌, ◌++◌, map, Option, Some, None, find, option_map, option_and_then, if◌then◌else◌}
-use Rattle.std.specs.List.{list_any, filter, filter_map}
-use Rattle.std.specs.Str.{bytes_eq}
+use Rattle.std.specs.Prelude.{ℕ, Bool, true, false, not, ◌&&◌, ◌||◌, ◌==◌, List, [], map, Option, Some, None, find, if◌then◌else◌}
+use Rattle.std.specs.List.{list_any, filter_map}
 use Rattle.net_addr.specs.Prefixes.{contains}
 use Rattle.api_types.specs.Ident.{Ident}
 use Rattle.api_types.specs.Table.{ident_eq}
