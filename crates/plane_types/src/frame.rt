@@ -128,3 +128,64 @@ impl Key {
         }
     }
 }
+
+#[cfg(test)]
+mod tests {
+    use super::*;
+
+    const HERE: Addr4 = Addr4(0x0a00_0005);
+
+    const THERE: Addr4 = Addr4(0x0a01_0005);
+
+    fn packet(from: Addr4, to: Addr4, part: KeyPart) -> Frame {
+        Frame::Ip4 {
+            src: Mac(5),
+            dst: Mac(6),
+            from,
+            to,
+            ttl: 64,
+            part,
+        }
+    }
+
+    // an answer's key is the key of the packet, reversed
+    const ANSWERS: [(KeyPart, KeyPart); 4] = [
+        (
+            KeyPart::Tcp {
+                sport: 40000,
+                dport: 22,
+            },
+            KeyPart::Tcp {
+                sport: 22,
+                dport: 40000,
+            },
+        ),
+        (
+            KeyPart::Udp {
+                sport: 68,
+                dport: 67,
+            },
+            KeyPart::Udp {
+                sport: 67,
+                dport: 68,
+            },
+        ),
+        (KeyPart::EchoAsk { id: 7 }, KeyPart::EchoReply { id: 7 }),
+        (KeyPart::Proto { number: 47 }, KeyPart::Proto { number: 47 }),
+    ];
+
+    #[test]
+    fn keys(rt: HostRuntime) {
+        for (ask, answer) in ANSWERS {
+            let key = packet(HERE, THERE, ask).key().expect(&rt, "a packet");
+            assert!(rt; packet(THERE, HERE, answer).key() == Some(key.reversed()));
+            assert!(rt; key.reversed().reversed() == key);
+        }
+        let ask = Frame::ArpAsk {
+            src: Mac(5),
+            from: HERE,
+            to: THERE,
+        };
+        assert!(rt; ask.key().is_none());
+    }
+}
