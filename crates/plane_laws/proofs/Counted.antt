@@ -1,8 +1,9 @@
 -- What is counted at most once is found at most once; a fact on each place of a list is a fact on each element.
-use Rattle.std.proofs.Common.{◌≡◌, ℕ, suc, ◌≤◌, List, [], ◌∷◌, Bool, true, false, cond, Option, Some, None, refl, ap, arith, sum_by}
+use Rattle.std.proofs.Common.{◌≡◌, ℕ, zero, suc, subst, ◌≤◌, List, [], ◌∷◌, Bool, true, false, cond, Option, Some, None, refl, ap, arith, sum_by}
 use Rattle.std.specs.Prelude.{find, count_by, ◌||◌}
 use Rattle.std.specs.List.{list_any, filter_map, cons_option}
 use Rattle.std.proofs.lemmas.List.Sums.{sum_by-cons}
+use Rattle.row_laws.proofs.ListLemmas.{none_some, some_equal}
 use Rattle.api_types.specs.Lists.{Each}
 use Rattle.plane_laws.proofs.Facts.{AllOf, AtMostOne}
 
@@ -71,6 +72,12 @@ module _ {X : Type 0} where
   pub AllOf-both : (P Q R : X → Type 0) (xs : List X) → ((x : X) → P x → Q x → R x) → AllOf P xs → AllOf Q xs → AllOf R xs
   AllOf-both P Q R [] f p q = tt
   AllOf-both P Q R (x ∷ xs) f p q = (f x p.0 q.0, AllOf-both P Q R xs f p.1 q.1)
+
+-- and a fact on each element is one on each place
+pub each-of : {X : Type 0} (P : X → Type 0) (xs : List X) → AllOf P xs → Each P xs
+each-of P [] h k y at = none_some y _ at
+each-of P (x ∷ xs) h zero y at = subst P (some_equal x y at) h.0
+each-of P (x ∷ xs) h (suc k) y at = each-of P xs h.1 k y at
 
 -- what passes in a list that is made from rows comes from a row that passes
 pub any-made : {X Y : Type 0} (p : X → Bool) (q : Y → Bool) (f : X → Option Y) (xs : List X) → ((x : X) (y : Y) → f x ≡ Some y → q y ≡ true → p x ≡ true) → list_any q (filter_map f xs) ≡ true → list_any p xs ≡ true

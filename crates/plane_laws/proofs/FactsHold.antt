@@ -5,13 +5,14 @@ use Rattle.std.specs.List.{list_any, list_all}
 use Rattle.std.specs.Str.{bytes_eq}
 use Rattle.std.proofs.lemmas.Bool.{eqb-true, leb-true}
 use Rattle.row_laws.proofs.ListLemmas.{and_both, both_and, any-at, any-weaker, false_true, some_equal, none_some}
-use Rattle.row_laws.proofs.NameLemmas.{ident_same, ident_itself, bytes_same, bytes_itself, all-at}
+use Rattle.row_laws.proofs.NameLemmas.{ident_same, ident_itself, bytes_same, bytes_itself, all-at, by_test}
 use Rattle.plane_laws.proofs.ListLemmas.{find-passes, find-each, find-only, find-some, some_of, AllOf-more, any-only, each-found}
-use Rattle.plane_laws.proofs.Counted.{all-of, once-counted, once-weighed, counted, AtMostOne-less_each, AtMostOne-none, AtMostOne-unfound, AllOf-both}
+use Rattle.plane_laws.proofs.Counted.{all-of, each-of, once-counted, once-weighed, counted, AtMostOne-less_each, AtMostOne-none, AtMostOne-unfound, AllOf-both}
 use Rattle.plane_laws.proofs.IdTexts.{one-text}
 use Rattle.api_types.specs.Consistent.{IsConsistent}
 use Rattle.api_types.specs.Consistent.Carried.{is_bound, is_unbound}
 use Rattle.api_types.specs.Consistent.HeldOnce.{holds_times}
+use Rattle.api_types.specs.Consistent.Named.{is_own_port}
 use Rattle.api_types.specs.Consistent.Numbered.{is_drawn}
 use Rattle.api_types.specs.Consistent.Segments.{same_segment}
 use Rattle.api_types.specs.Consistent.Services.{holds_just, is_port_for, wants_dhcp}
@@ -290,3 +291,18 @@ module _ (rows : RowLists) (good : IsConsistent rows) where
       floating_addresses = floating-addresses;
       own_ports = own-ports;
     }
+
+    -- a floating address's own port is down
+    pub own-down : Each (λ (p : PortRow). is_own_port rows.floatings p.id ≡ true → is_live rows p ≡ false) rows.ports
+    own-down = each-of (λ (p : PortRow). is_own_port rows.floatings p.id ≡ true → is_live rows p ≡ false) rows.ports
+        (AllOf-more (λ (p : PortRow). find (has_id p.id) rows.ports ≡ Some p) (λ p. is_own_port rows.floatings p.id ≡ true → is_live rows p ≡ false) rows.ports down
+        (each-found (λ (p q : PortRow). has_id p.id q) rows.ports (λ p. ident_itself p.id) (λ p. port-ids p.id)))
+      where
+        down : (p : PortRow) → find (has_id p.id) rows.ports ≡ Some p → is_own_port rows.floatings p.id ≡ true → is_live rows p ≡ false
+        down p here own =
+            let at = any-at (λ (f : FloatingRow). ident_eq p.id f.own_port) rows.floatings own in
+            let f : FloatingRow = at.1 in
+            let port = own-port f (good.services.of_floatings.there at.0 f at.2) in
+            let same : p ≡ port.0 = some_equal p port.0 (sym here ∙ ap (λ i. find (has_id i) rows.ports) (ident_same p.id f.own_port at.3) ∙ port.1) in
+            let unbound_port : not (is_bound p.vif) ≡ true = subst (λ (q : PortRow). not (is_bound q.vif) ≡ true) (sym same) (unbound (port.0).vif (parts f port.0 port.2).1) in
+            by_test (is_live rows p) (is_live rows p ≡ false) (λ live. let bound : is_bound p.vif ≡ true = live-bound p live in false_true _ (sym (ap not bound) ∙ unbound_port)) (λ dead. dead)

@@ -6,10 +6,9 @@ use Rattle.std.specs.Option.{option_eq}
 use Rattle.std.specs.Str.{bytes_eq}
 use Rattle.std.proofs.lemmas.Bool.Decides.{nat_tests}
 use Rattle.std.proofs.lemmas.List.Sums.{sum_by-cons}
-use Rattle.row_laws.proofs.ListLemmas.{none_some, some_equal}
 use Rattle.row_laws.proofs.NameLemmas.{bytes_same, bytes_itself}
 use Rattle.plane_laws.proofs.ListLemmas.{list_any-map}
-use Rattle.plane_laws.proofs.Counted.{all-of, once-counted}
+use Rattle.plane_laws.proofs.Counted.{all-of, each-of, once-counted}
 use Rattle.plane_laws.proofs.PlacedLaw.{made_by, with_made, fate-placed}
 use Rattle.api_types.specs.Lists.{Each}
 use Rattle.api_types.specs.RowLists.{RowLists}
@@ -19,6 +18,7 @@ use Rattle.plane_types.specs.Hosts.{Host, is_named}
 use Rattle.plane_types.specs.Placed.{IsPlaced}
 use Rattle.plane_types.specs.Realises.{Realises}
 use Rattle.plane_types.specs.Synced.{AreSynced}
+use Rattle.plane_types.specs.TableRows.{once}
 use Rattle.plane_types.specs.Told.{hosts_after, kept_from, made_at, place_among, told_fresh}
 use Rattle.plane_types.specs.declared.entry.Entry.{Entry}
 use Rattle.plane_types.specs.declared.event.Event.{Event}
@@ -99,11 +99,6 @@ pub after-is : (hosts : List Host) → ((name : List ℕ) → AtMostOne (is_name
 after-is hosts names event = kept-from hosts (fabric_fate hosts event).run.fresh (fabric_fate hosts event).run.makers 0 hosts (places hosts names)
 
 -- lists that are made element by element
-pub each-of : {X : Type 0} (P : X → Type 0) (xs : List X) → AllOf P xs → Each P xs
-each-of P [] h k y at = none_some y _ at
-each-of P (x ∷ xs) h zero y at = subst P (some_equal x y at) h.0
-each-of P (x ∷ xs) h (suc k) y at = each-of P xs h.1 k y at
-
 pub AllOf-map : {X Y : Type 0} (P : Y → Type 0) (f : X → Y) (xs : List X) → AllOf (λ x. P (f x)) xs → AllOf P (map f xs)
 AllOf-map P f [] h = tt
 AllOf-map P f (x ∷ xs) h = (h.0, AllOf-map P f xs h.1)

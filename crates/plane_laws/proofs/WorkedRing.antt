@@ -1,5 +1,6 @@
 -- A packet that routers send to each other until its time to live ends: 254 of them, and 509 ids.
 use Rattle.std.specs.Prelude.{◌≡◌, ℕ, false, [], ◌∷◌, Option, Some, None, codes, refl, length, slice_get}
+use Rattle.uuid.specs.Text.{by_index}
 use Rattle.net_addr.specs.Prefixes.{contains}
 use Rattle.api_types.specs.Ident.{Ident, ident_text, uuid_bytes, uuid_number}
 use Rattle.api_types.specs.Owners.{device_is, is_gateway, is_interface}
@@ -20,7 +21,6 @@ use Rattle.plane_types.specs.declared.verdict.DropCause.TheVariants.{Expired}
 use Rattle.plane_types.specs.declared.verdict.Outcome.{Outcome}
 use Rattle.plane_types.specs.declared.verdict.Outcome.TheVariants.{Dropped}
 use Rattle.plane_types.specs.declared.verdict.Verdict.{Verdict as ToldVerdict}
-use Rattle.uuid.specs.Text.{by_index}
 
 abbrev ring_router : ℕ → ℕ → RouterRow
 ring_router n next = router (id n) None (hop (prefix (ip 192 0 2 0) 24) next ∷ [])

@@ -5,13 +5,15 @@
 //! definitions, so nothing is proved twice.
 #![tactic(auto)]
 
-ghost use Rattle.std.specs.Prelude.{◌≡◌, ◌<◌, ◌≤◌, ◌^◌, ℕ, Bool, List, count_by, length, map};
+ghost use Rattle.std.specs.Prelude.{◌≡◌, ◌<◌, ◌≤◌, ◌^◌, ℕ, Bool, true, false, List, count_by, length, map};
 ghost use Rattle.api_types.specs.Consistent.{IsConsistent};
+ghost use Rattle.api_types.specs.Consistent.Named.{is_own_port};
 ghost use Rattle.api_types.specs.Lists.{Each};
 ghost use Rattle.api_types.specs.RowLists.{RowLists};
 ghost use Rattle.api_types.specs.declared.network.Segment.{Segment};
 ghost use Rattle.plane_types.specs.Crossing.{CrossesAtRouters};
 ghost use Rattle.plane_types.specs.Hosts.{Host, all_entries, is_named};
+ghost use Rattle.plane_types.specs.Live.{is_live};
 ghost use Rattle.plane_types.specs.Placed.{IsPlaced};
 ghost use Rattle.plane_types.specs.Told.{fabric_verdict, fabric_verdicts, hosts_after, hosts_after_all, rows_verdict, rows_verdicts, without_hosts};
 ghost use Rattle.plane_types.specs.declared.entry.Entry.{Entry};
@@ -44,6 +46,12 @@ pub fn entries_stay_placed()
 pub fn paths_cross_at_routers()
     ensures by_rows { (rows : RowLists) → IsConsistent rows → length rows.projects < 2 ^ 32 → (entries : List Entry) (event : Event) → CrossesAtRouters rows (rows_verdict rows entries event) }
     ensures by_tables { (carries : List ℕ → Segment → Bool) (rows : RowLists) (hosts : List Host) → HoldRows carries rows hosts → (event : Event) → CrossesAtRouters rows (fabric_verdict hosts event) }
+{}
+
+/// The port that holds a floating address is never live, so it needs no case of its own among
+/// senders.
+pub fn floating_ports_are_down()
+    ensures { (rows : RowLists) → IsConsistent rows → length rows.projects < 2 ^ 32 → Each (λ p. is_own_port rows.floatings p.id ≡ true → is_live rows p ≡ false) rows.ports }
 {}
 
 /// A packet passes at most 254 routers and makes at most 256 entries, by any rows and by any tables.

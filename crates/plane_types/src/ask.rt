@@ -5,10 +5,18 @@ use api_types::{Answer, Call, Refusal};
 use net_addr::{Seq, Text};
 
 /// What a request asks.
-#[derive(Drop)]
 pub enum Ask {
     Api(Call),
     Lab(LabCall),
+}
+
+impl Drop for Ask {
+    fn drop(self) {
+        match self {
+            Ask::Api(_) => {}
+            Ask::Lab(_) => {}
+        }
+    }
 }
 
 /// A call of the lab, in which hosts carry frames.
@@ -55,7 +63,6 @@ pub struct HostState {
 }
 
 /// What the lab answers.
-#[derive(Drop)]
 pub enum LabAnswer {
     Seen(Verdict),
     Told(Heard),
@@ -63,10 +70,30 @@ pub enum LabAnswer {
     Tables(HostTables),
 }
 
+impl Drop for LabAnswer {
+    fn drop(self) {
+        match self {
+            LabAnswer::Seen(_) => {}
+            LabAnswer::Told(_) => {}
+            LabAnswer::Hosts(_) => {}
+            LabAnswer::Tables(_) => {}
+        }
+    }
+}
+
 /// What a request is answered.
-#[derive(Drop)]
 pub enum Reply {
     Done(Answer),
     LabDone(LabAnswer),
     Refused(Refusal),
+}
+
+impl Drop for Reply {
+    fn drop(self) {
+        match self {
+            Reply::Done(_) => {}
+            Reply::LabDone(_) => {}
+            Reply::Refused(_) => {}
+        }
+    }
 }

@@ -13,7 +13,6 @@ pub type Leases = Seq<LeaseRow>;
 
 /// The tables of one host. Each list is in order of creation of the rows of the API that its rows
 /// come from, but `sets`, `bridge` and `neighbours` ascend.
-#[derive(Drop)]
 pub struct HostTables {
     pub tags: Tags,
     pub taps: Seq<TapRow>,
@@ -26,6 +25,24 @@ pub struct HostTables {
     pub routes: Seq<RouteRow>,
     pub floats: Seq<FloatRow>,
     pub leases: Leases,
+}
+
+impl Drop for HostTables {
+    fn drop(self) {
+        let HostTables {
+            tags: _,
+            taps: _,
+            filters: _,
+            sets: _,
+            bridge: _,
+            inward: _,
+            neighbours: _,
+            routers: _,
+            routes: _,
+            floats: _,
+            leases: _,
+        } = self;
+    }
 }
 
 impl Copies for HostTables {
