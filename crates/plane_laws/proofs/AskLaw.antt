@@ -30,7 +30,7 @@ use Rattle.plane_types.specs.Live.{is_joined, is_live, is_local, joined_with, ne
 use Rattle.plane_types.specs.Meaning.{asked, asked_by, ended, out_or}
 use Rattle.plane_types.specs.Packets.{AddressAsk, address_ask, arp_frame, lease_ask, packet}
 use Rattle.plane_types.specs.Places.{Bridge, Step, ToWire}
-use Rattle.plane_types.specs.TableRows.{allowed_of, is_tagged, tag_of, tap_of}
+use Rattle.plane_types.specs.TableRows.{allowed_of, tag_of, tap_of}
 use Rattle.plane_types.specs.TableStep.{arp_by, bridge_at_tag, bridge_step, drops, may_send_as, plain, stops, tap_guards, wire_or}
 use Rattle.plane_types.specs.declared.frame.Frame.{Frame}
 use Rattle.plane_types.specs.declared.frame.Frame.TheVariants.{ArpAsk, Dhcp, Ip4, Other}

@@ -18,7 +18,6 @@ use Rattle.plane_types.specs.Hosts.{Host, is_named}
 use Rattle.plane_types.specs.Placed.{IsPlaced}
 use Rattle.plane_types.specs.Realises.{Realises}
 use Rattle.plane_types.specs.Synced.{AreSynced}
-use Rattle.plane_types.specs.TableRows.{once}
 use Rattle.plane_types.specs.Told.{hosts_after, kept_from, made_at, place_among, told_fresh}
 use Rattle.plane_types.specs.declared.entry.Entry.{Entry}
 use Rattle.plane_types.specs.declared.event.Event.{Event}

@@ -27,7 +27,7 @@ use Rattle.plane_types.specs.Live.{is_joined, is_live, is_local, joined_with, ne
 use Rattle.plane_types.specs.Meaning.{answered, ended, lease_asked, lease_asked_by, lease_for, leased, out_of, out_or}
 use Rattle.plane_types.specs.Packets.{LeaseAsk, dhcp_frame}
 use Rattle.plane_types.specs.Places.{Bridge, DhcpIn, Next, Place, Step, ToTunnel, ToWire, TunnelIn, WireIn}
-use Rattle.plane_types.specs.TableRows.{bridge_by, bridge_row, bridge_rows, carrier_of, dhcp_row, end_of, is_at, is_tagged, lease_row, lease_row_by, lease_rows, mac_row, tag_of, tagged_by, to_here, to_router, to_there}
+use Rattle.plane_types.specs.TableRows.{bridge_by, bridge_row, bridge_rows, carrier_of, dhcp_row, end_of, is_at, is_tagged, lease_row, lease_row_by, lease_rows, mac_row, tag_of, to_here, to_router, to_there}
 use Rattle.plane_types.specs.TableStep.{bridge_at, bridge_at_tag, bridge_step, bridged_by, carrier_eq, drops, inward_at, inward_step, lease_answer, lease_at, plain, stops, table_step, wire_or}
 use Rattle.plane_types.specs.declared.table.BridgeKey.TheVariants.{Dhcp as AtDhcp, Mac as AtMac}
 use Rattle.plane_types.specs.declared.table.BridgeRow.{BridgeRow}

@@ -9,7 +9,6 @@ use Rattle.std.proofs.lemmas.Bool.Decides.{nat_tests}
 use Rattle.std.proofs.lemmas.List.Folds.{find-append}
 use Rattle.plane_laws.proofs.ListLemmas.{find-passes, find-each, find-only, AtMostOne-less, find-none_filter_map, option_or-none, find-filter_map, find-ascending}
 use Rattle.api_types.specs.Ident.{Ident}
-use Rattle.api_types.specs.Lists.{stands}
 use Rattle.api_types.specs.Owners.{is_dhcp}
 use Rattle.api_types.specs.RowLists.{RowLists}
 use Rattle.api_types.specs.Table.{ident_eq}

@@ -9,7 +9,6 @@ use Rattle.plane_laws.proofs.Located.{ident_same, ident_self}
 use Rattle.plane_laws.proofs.Tagged.{tagged}
 use Rattle.plane_laws.proofs.Sent.{text_same, text_self}
 use Rattle.api_types.specs.Ident.{Ident}
-use Rattle.api_types.specs.Lists.{stands}
 use Rattle.api_types.specs.Owners.{device_is, is_router_port}
 use Rattle.api_types.specs.RowLists.{RowLists}
 use Rattle.api_types.specs.Table.{ident_eq}

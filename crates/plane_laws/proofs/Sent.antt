@@ -9,7 +9,6 @@ use Rattle.plane_laws.proofs.ListLemmas.{find-passes, find-each}
 use Rattle.plane_laws.proofs.Located.{ident_same, tag-row, bridge-located}
 use Rattle.plane_laws.proofs.Tagged.{tagged, inward-located}
 use Rattle.api_types.specs.Ident.{Ident}
-use Rattle.api_types.specs.Lists.{stands}
 use Rattle.api_types.specs.Owners.{is_router_port}
 use Rattle.api_types.specs.RowLists.{RowLists}
 use Rattle.api_types.specs.Table.{ident_eq}
@@ -22,7 +21,7 @@ use Rattle.plane_types.specs.Live.{is_live, segment, wire_of}
 use Rattle.plane_types.specs.Meaning.{Trace}
 use Rattle.plane_types.specs.Packets.{Packet, ip_frame}
 use Rattle.plane_types.specs.Places.{Next, Place, RouterIn, Step, TapOut, TunnelIn}
-use Rattle.plane_types.specs.TableRows.{bridge_by, carrier_of, end_of, is_at, is_hosted, is_tagged, mac_row, tag_of, to_here, to_router, to_there}
+use Rattle.plane_types.specs.TableRows.{bridge_by, carrier_of, end_of, is_at, is_hosted, mac_row, tag_of, to_here, to_router, to_there}
 use Rattle.plane_types.specs.TableStep.{bridge_at, bridge_at_tag, bridge_step, bridged_by, carrier_eq, inward_at, inward_step, led, plain, table_step}
 use Rattle.plane_types.specs.declared.table.BridgeKey.TheVariants.{Mac as AtMac}
 use Rattle.plane_types.specs.declared.table.BridgeTo.{BridgeTo}

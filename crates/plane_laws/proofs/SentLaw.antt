@@ -21,7 +21,7 @@ use Rattle.plane_types.specs.Live.{is_joined, is_live, is_local, joined_with, ne
 use Rattle.plane_types.specs.Meaning.{ended, got, out_of, out_or, sent_on, sent_to}
 use Rattle.plane_types.specs.Packets.{Packet, ip_frame}
 use Rattle.plane_types.specs.Places.{Bridge, End, Next, Place, Step, ToTunnel, ToWire, TunnelIn, WireIn}
-use Rattle.plane_types.specs.TableRows.{bridge_by, carrier_of, is_at, is_tagged, mac_row, tag_of, tagged_by, to_here, to_there}
+use Rattle.plane_types.specs.TableRows.{bridge_by, carrier_of, is_at, mac_row, tag_of, to_here, to_there}
 use Rattle.plane_types.specs.TableStep.{bridge_at, bridge_at_tag, bridge_step, bridged_by, carrier_eq, inward_at, inward_step, plain, table_step, wire_or}
 use Rattle.plane_types.specs.declared.frame.KeyPart.TheVariants.{Proto}
 use Rattle.plane_types.specs.declared.table.BridgeKey.TheVariants.{Mac as AtMac}

@@ -7,7 +7,7 @@ use Rattle.api_types.specs.declared.group.Direction.TheVariants.{Egress, Ingress
 use Rattle.api_types.specs.declared.group.RuleRow.{RuleRow}
 use Rattle.api_types.specs.declared.network.Segment.{Segment}
 use Rattle.api_types.specs.declared.network.Segment.TheVariants.{Local, Vlan, Vxlan}
-use Rattle.plane_types.proofs.WorkedRows.{c1, c2, flow, group, guarded, held, host, id, ip, local_mac, network, no_rows, open_port, physnet1, prefix, rule, subnet, tag, tcp, tcp_key}
+use Rattle.plane_types.proofs.WorkedRows.{c1, c2, flow, group, guarded, held, host, id, ip, local_mac, network, no_rows, open_port, physnet1, prefix, rule, subnet, tables_of, tag, tcp, tcp_key}
 use Rattle.plane_types.specs.Ascending.{ascending, put_in}
 use Rattle.plane_types.specs.Fabric.{fabric_fate, steps_for, walk}
 use Rattle.plane_types.specs.Filter.{is_member, rule_matches, rules_allow}
@@ -15,8 +15,9 @@ use Rattle.plane_types.specs.Holders.{floating_holder}
 use Rattle.plane_types.specs.Hosts.{Host}
 use Rattle.plane_types.specs.Live.{is_live, segment}
 use Rattle.plane_types.specs.Meaning.{got, rows_fate}
+use Rattle.plane_types.specs.Places.{TunnelIn}
 use Rattle.plane_types.specs.TableRows.{bridge_rows, filter_rows, float_rows, inward_rows, lease_rows, members, neighbour_rows, once, route_rows, router_rows, set_rows, tap_rows}
-use Rattle.plane_types.specs.TableStep.{tables_allow}
+use Rattle.plane_types.specs.TableStep.{drops, plain, table_step, tables_allow}
 use Rattle.plane_types.specs.Told.{fabric_verdict, fabric_verdicts, of_nobody, rows_verdict, rows_verdicts, without_hosts}
 use Rattle.plane_types.specs.declared.event.Event.{Event}
 use Rattle.plane_types.specs.declared.event.Event.TheVariants.{FromPort}
@@ -241,3 +242,8 @@ no_lease = refl
 no_holder : (rows_verdict lone [] (FromPort (id 8) (ArpAsk (local_mac 5) (ip 10 0 0 5) (ip 10 0 0 77)))).outcome ≡ Dropped NoHolder
 unfolding rows_fate got is_live segment floating_holder is_interface is_gateway
 no_holder = refl
+
+-- A frame that came by a tunnel doesn't leave by one, though the bridge knows its port elsewhere.
+came_by_tunnel : table_step (tables_of tunnelled c1 (tag (id 6) 1 None ∷ [])) [] (TunnelIn 1 to_eight) ≡ plain (drops Unknown)
+unfolding bridge_rows inward_rows ascending put_in is_live segment is_interface is_gateway is_dhcp
+came_by_tunnel = refl
