@@ -8,3 +8,5 @@
 mod ids;
 #[cfg(test)]
 mod machine;
+#[cfg(test)]
+mod shown;

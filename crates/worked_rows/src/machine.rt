@@ -45,7 +45,7 @@ fn showing(alloc: Global, id: &str) -> Result<Call, OutOfMemory> {
 }
 
 /// Plans a network for a project and accepts it.
-fn create(alloc: Global, machine: &mut Machine, project: &str) -> Result<(), Refusal> {
+pub(crate) fn create(alloc: Global, machine: &mut Machine, project: &str) -> Result<(), Refusal> {
     let caller = caller(alloc, project)?;
     let call = creation(alloc, "n")?;
     let planned = machine.plan(alloc, &caller, &call)?;

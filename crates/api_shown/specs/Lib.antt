@@ -1,0 +1,9 @@
+pub mod Trees
+pub mod Networks
+pub mod Subnets
+pub mod Ports
+pub mod Groups
+pub mod Routers
+pub mod Floatings
+pub mod Policies
+pub mod Shown

@@ -1,0 +1,98 @@
+ghost use Rattle.std.specs.Prelude.{◌≡◌, IfOk, map};
+ghost use Rattle.api_types.specs.Printed.{tree_of};
+ghost use Rattle.api_shown.specs.Networks.{is_open as is_open_to_all, number_of, permits_all as permits_to_all, physical_of, subnets_of as subnets_of_network, type_word as word_of_type};
+
+use crate::members::Shows;
+use crate::printable::{Printable, push, push_value, push_word};
+use api_types::{Action, Id, Members, NetworkRow, PolicyRow, Printed, Rows, Segment, SubnetRow};
+use net_addr::{OutOfMemory, Seq};
+use std::alloc::Global;
+
+// Whether a policy permits the action on the network to all projects.
+fn permits_all(policy: &PolicyRow, network: Id, action: Action) -> bool
+    ensures { result ≡ permits_to_all network action policy.now }
+{
+    network == policy.object && action == policy.action && policy.target.as_str() == "*"
+}
+
+fn is_open(policies: &[PolicyRow], network: Id, action: Action) -> bool
+    ensures { result ≡ is_open_to_all policies.now network action }
+{
+    policies
+        .iter()
+        .any(|policy| permits_all(policy, network, action))
+}
+
+// The ids of the subnets of a network.
+fn subnets_of(alloc: Global, subnets: &[SubnetRow], network: Id) -> Result<Seq<Id>, OutOfMemory>
+    ensures { IfOk result (λ s. s ≡ subnets_of_network subnets.now network) }
+{
+    let mut ids = Vec::new(alloc);
+    for subnet in subnets {
+        if network == subnet.network {
+            ids.push(subnet.id)?;
+        }
+    }
+    Ok(Seq::from_vec(ids))
+}
+
+fn type_word(segment: &Segment) -> &'static str
+    ensures { result.now ≡ word_of_type segment.now }
+{
+    match segment {
+        Segment::Local => "local",
+        Segment::Flat { .. } => "flat",
+        Segment::Vlan { .. } => "vlan",
+        Segment::Vxlan { .. } => "vxlan",
+    }
+}
+
+fn physical(alloc: Global, segment: &Segment) -> Result<Printed, OutOfMemory>
+    ensures { IfOk result (λ p. tree_of p ≡ physical_of segment.now) }
+{
+    match segment {
+        Segment::Flat { physical } | Segment::Vlan { physical, .. } => physical.printed(alloc),
+        Segment::Local | Segment::Vxlan { .. } => Ok(Printed::Null),
+    }
+}
+
+fn number(segment: &Segment) -> Printed
+    ensures { tree_of result ≡ number_of segment.now }
+{
+    match segment {
+        Segment::Vlan { tag, .. } => Printed::Number(u64::from(*tag)),
+        Segment::Vxlan { number } => Printed::Number(u64::from(*number)),
+        Segment::Local | Segment::Flat { .. } => Printed::Null,
+    }
+}
+
+impl Shows for NetworkRow {
+    ghost use Rattle.api_shown.specs.Networks.{network_members};
+
+    ghost members_of = { network_members };
+
+    fn members(&self, alloc: Global, rows: &Rows) -> Result<Members, OutOfMemory> {
+        let policies = rows.policies().rows();
+        let external = is_open(policies, self.id, Action::External);
+        let shared = is_open(policies, self.id, Action::Shared);
+        let subnets = subnets_of(alloc, rows.subnets().rows(), self.id)?;
+        let physical = physical(alloc, &self.segment)?;
+        let mut all = Seq::new(alloc);
+        push(alloc, &mut all, "admin_state_up", &self.up)?;
+        push(alloc, &mut all, "description", &self.description)?;
+        push(alloc, &mut all, "id", &self.id)?;
+        push(alloc, &mut all, "name", &self.name)?;
+        push(alloc, &mut all, "project_id", &self.project)?;
+        let kind = type_word(&self.segment);
+        push_word(alloc, &mut all, "provider:network_type", kind)?;
+        push_value(alloc, &mut all, "provider:physical_network", physical)?;
+        let number = number(&self.segment);
+        push_value(alloc, &mut all, "provider:segmentation_id", number)?;
+        push(alloc, &mut all, "router:external", &external)?;
+        push(alloc, &mut all, "shared", &shared)?;
+        push_word(alloc, &mut all, "status", "ACTIVE")?;
+        push(alloc, &mut all, "subnets", &subnets)?;
+        push(alloc, &mut all, "tenant_id", &self.project)?;
+        Ok(all)
+    }
+}

@@ -1,0 +1,72 @@
+ghost use Rattle.std.specs.Prelude.{◌≡◌, Bool};
+ghost use Rattle.plane_types.specs.Live.{is_live as is_live_in};
+ghost use Rattle.api_shown.specs.Ports.{status_word, vif_word as word_of_vif};
+
+use crate::members::Shows;
+use crate::printable::{push, push_word};
+use api_types::{Members, PortRow, Rows, Vif};
+use net_addr::{OutOfMemory, Seq};
+use std::alloc::Global;
+
+fn vif_word(vif: Vif) -> &'static str
+    ensures { result.now ≡ word_of_vif vif }
+{
+    match vif {
+        Vif::Unbound => "unbound",
+        Vif::Failed => "binding_failed",
+        Vif::Ovs => "ovs",
+    }
+}
+
+// Whether a port is live: it and its network are up, and Open vSwitch carries it.
+#[tactic(auto, unfolding(plane_types::specs::Live::is_live))]
+fn is_live(rows: &Rows, port: &PortRow) -> bool
+    ensures { result ≡ is_live_in rows.now port.now }
+{
+    if !port.up || port.vif != Vif::Ovs {
+        return false;
+    }
+    let networks = rows.networks();
+    let _own_ids = networks.rows();
+    match networks.get(port.network) {
+        Some(network) => network.up,
+        None => false,
+    }
+}
+
+/// The word for a row that may be in use or not.
+pub(crate) fn status(active: bool) -> &'static str
+    ensures { result.now ≡ status_word active }
+{
+    if active { "ACTIVE" } else { "DOWN" }
+}
+
+impl Shows for PortRow {
+    ghost use Rattle.api_shown.specs.Ports.{port_members};
+
+    ghost members_of = { port_members };
+
+    fn members(&self, alloc: Global, rows: &Rows) -> Result<Members, OutOfMemory> {
+        let status = status(is_live(rows, self));
+        let mut all = Seq::new(alloc);
+        push(alloc, &mut all, "admin_state_up", &self.up)?;
+        push(alloc, &mut all, "allowed_address_pairs", &self.pairs)?;
+        push(alloc, &mut all, "binding:host_id", &self.host)?;
+        push_word(alloc, &mut all, "binding:vif_type", vif_word(self.vif))?;
+        push_word(alloc, &mut all, "binding:vnic_type", "normal")?;
+        push(alloc, &mut all, "description", &self.description)?;
+        push(alloc, &mut all, "device_id", &self.device)?;
+        push(alloc, &mut all, "device_owner", &self.owner)?;
+        push(alloc, &mut all, "fixed_ips", &self.fixed)?;
+        push(alloc, &mut all, "id", &self.id)?;
+        push(alloc, &mut all, "mac_address", &self.mac)?;
+        push(alloc, &mut all, "name", &self.name)?;
+        push(alloc, &mut all, "network_id", &self.network)?;
+        push(alloc, &mut all, "port_security_enabled", &self.secured)?;
+        push(alloc, &mut all, "project_id", &self.project)?;
+        push(alloc, &mut all, "security_groups", &self.groups)?;
+        push_word(alloc, &mut all, "status", status)?;
+        push(alloc, &mut all, "tenant_id", &self.project)?;
+        Ok(all)
+    }
+}
