@@ -5,8 +5,9 @@ use Rattle.std.specs.List.{list_any}
 use Rattle.std.specs.Str.{bytes_eq}
 use Rattle.std.proofs.lemmas.Bool.{and_parts, and_right}
 use Rattle.std.proofs.lemmas.List.Folds.{list_any-append}
+use Rattle.row_laws.proofs.NameLemmas.{ident_same}
 use Rattle.plane_laws.proofs.ListLemmas.{find-passes, find-each, find-none_each, AllOf-more, list_any-map, list_any-same}
-use Rattle.plane_laws.proofs.Located.{ident_same, tag-row}
+use Rattle.plane_laws.proofs.Located.{tag-row}
 use Rattle.plane_laws.proofs.Tagged.{inward-located, inward-none}
 use Rattle.plane_laws.proofs.Sent.{trace_of, walk-on, trace-plain}
 use Rattle.plane_laws.proofs.SentLaw.{wire_self, wire_carrier}

@@ -4,8 +4,8 @@ use Rattle.std.specs.Prelude.{find, ◌&&◌, ◌==◌, if◌then◌else◌}
 use Rattle.std.proofs.lemmas.Bool.{and_parts, and_from}
 use Rattle.std.proofs.lemmas.Option.{same_Some}
 use Rattle.std.proofs.lemmas.List.{append-nil}
+use Rattle.row_laws.proofs.NameLemmas.{ident_same, ident_itself}
 use Rattle.plane_laws.proofs.ListLemmas.{find-passes, find-only, list_any-found}
-use Rattle.plane_laws.proofs.Located.{ident_same, ident_self}
 use Rattle.plane_laws.proofs.Neighbours.{holder-at}
 use Rattle.plane_laws.proofs.RouterTables.{Lower, routed-lower}
 use Rattle.plane_laws.proofs.RouterLaw.{joined-found, passes-filter, from-filter}
@@ -58,7 +58,7 @@ module _ (rows : RowLists) (good : FrameFacts rows) (entries : List Entry) where
     arrives p t = go (rows_passage rows (entries ++ t.fresh) q Ingress p)
       where
         is : (x : PortRow) → row_of (λ (z : PortRow). z.id) q.id rows.ports ≡ Some x → q.network ≡ x.network
-        is x e = ap (λ (z : PortRow). z.network) (same_Some q x (sym (find-only test (has_id q.id) rows.ports q (good.port_ids q.id) found (ident_self q.id)) ∙ e))
+        is x e = ap (λ (z : PortRow). z.network) (same_Some q x (sym (find-only test (has_id q.id) rows.ports q (good.port_ids q.id) found (ident_itself q.id)) ∙ e))
 
         by : (b : Bool) (made : List Entry) → Goes rows q.network t (if b then ended (with_fresh t made) (Delivered q.id (ip_frame p)) else ended t (Dropped IngressFilter))
         by true made = record { added = []; path = sym (append-nil t.path); crosses = tt; on = is }
@@ -69,13 +69,13 @@ module _ (rows : RowLists) (good : FrameFacts rows) (entries : List Entry) where
 
     module _ (router : is_router_port q.owner ≡ true) (r : RouterRow) (router_is : router_of rows q ≡ Some r) where
       named : router_named rows r.id ≡ Some r
-      named = find-only (λ (z : RouterRow). device_is q.device z.id) (λ (z : RouterRow). ident_eq r.id z.id) rows.routers r (good.router_ids r.id) router_is (ident_self r.id)
+      named = find-only (λ (z : RouterRow). device_is q.device z.id) (λ (z : RouterRow). ident_eq r.id z.id) rows.routers r (good.router_ids r.id) router_is (ident_itself r.id)
 
       mine : is_leg_of rows r q ≡ true
       mine = and_from (is_router_port q.owner && device_is q.device r.id) (is_live rows q) (and_from (is_router_port q.owner) (device_is q.device r.id) router (find-passes (λ (z : RouterRow). device_is q.device z.id) rows.routers r router_is)) live
 
       first : leg_on rows r q.network ≡ true
-      first = list_any-found test (λ (p : PortRow). is_leg_of rows r p && ident_eq q.network p.network) rows.ports q found (and_from (is_leg_of rows r q) (ident_eq q.network q.network) mine (ident_self q.network))
+      first = list_any-found test (λ (p : PortRow). is_leg_of rows r p && ident_eq q.network p.network) rows.ports q found (and_from (is_leg_of rows r q) (ident_eq q.network q.network) mine (ident_itself q.network))
 
       module _ (many : ℕ) (rest : (test : PortRow → Bool) (q : PortRow) → find test rows.ports ≡ Some q → is_live rows q ≡ true → (p : Packet) (t : Trace) → Goes rows q.network t (got rows entries many q p t)) where
         onward : (t : Trace) (hop : ℕ) (p : Packet) (port : Ident) (made : List Entry) (o : PortRow) → find (has_id port) (legs_of rows r) ≡ Some o → Goes rows q.network t (handed_out rows (got rows entries many) r hop p (with_fresh t made) (Some o))
@@ -86,10 +86,10 @@ module _ (rows : RowLists) (good : FrameFacts rows) (entries : List Entry) where
             is_leg = passes-filter (has_id port) (is_leg_of rows r) rows.ports o leg
 
             by_id : find (has_id o.id) rows.ports ≡ Some o
-            by_id = from-filter (has_id port) (is_leg_of rows r) (has_id o.id) rows.ports o leg (ident_self o.id) (good.port_ids o.id)
+            by_id = from-filter (has_id port) (is_leg_of rows r) (has_id o.id) rows.ports o leg (ident_itself o.id) (good.port_ids o.id)
 
             second : leg_on rows r o.network ≡ true
-            second = list_any-found (has_id o.id) (λ (p : PortRow). is_leg_of rows r p && ident_eq o.network p.network) rows.ports o by_id (and_from (is_leg_of rows r o) (ident_eq o.network o.network) is_leg (ident_self o.network))
+            second = list_any-found (has_id o.id) (λ (p : PortRow). is_leg_of rows r p && ident_eq o.network p.network) rows.ports o by_id (and_from (is_leg_of rows r o) (ident_eq o.network o.network) is_leg (ident_itself o.network))
 
             crossing : joins_networks rows q.network o.network (router_named rows r.id) ≡ true
             crossing = ap (joins_networks rows q.network o.network) named ∙ and_from (leg_on rows r q.network) (leg_on rows r o.network) first second

@@ -2,10 +2,10 @@
 use Rattle.std.proofs.Common.{◌≡◌, ℕ, List, [], ◌∷◌, ◌++◌, Bool, true, false, not, Option, Some, None, refl, sym, subst}
 use Rattle.std.specs.Prelude.{◌<◌, ◌^◌, length, option_and_then, ◌&&◌, ◌==◌, if◌then◌else◌}
 use Rattle.std.proofs.lemmas.Bool.{and_parts}
+use Rattle.row_laws.proofs.NameLemmas.{ident_same}
 use Rattle.plane_laws.proofs.ListLemmas.{find-passes}
 use Rattle.plane_laws.proofs.FactsHold.{frame-facts}
 use Rattle.plane_laws.proofs.Theorem.{tables-mean-rows}
-use Rattle.plane_laws.proofs.Located.{ident_same}
 use Rattle.plane_laws.proofs.RouterLaw.{joined-found}
 use Rattle.plane_laws.proofs.CrossingLaw.{FateCrosses, Goes, ends-on, got-goes}
 use Rattle.api_types.specs.Consistent.{IsConsistent}

@@ -6,9 +6,9 @@ use Rattle.std.specs.Str.{bytes_eq}
 use Rattle.std.proofs.lemmas.Bool.{and_parts}
 use Rattle.std.proofs.lemmas.List.{append-nil}
 use Rattle.std.proofs.lemmas.List.Folds.{list_any-append}
+use Rattle.row_laws.proofs.ListLemmas.{or_false}
+use Rattle.row_laws.proofs.NameLemmas.{ident_same, ident_itself, bytes_same}
 use Rattle.plane_laws.proofs.ListLemmas.{find-only, any-only, AllOf-more, list_any-none_each}
-use Rattle.plane_laws.proofs.Located.{ident_same, ident_self}
-use Rattle.plane_laws.proofs.Sent.{text_same}
 use Rattle.api_types.specs.Consistent.Groups.{is_direction}
 use Rattle.api_types.specs.Ident.{Ident}
 use Rattle.api_types.specs.Lists.{stands}
@@ -49,10 +49,6 @@ module _ {M : Type 0} (F : List Entry → M) (op : M → M → M) (e : M) (empty
       go true f only k rest = let same : x ≡ h = cc in joined x.entries (all_entries hosts) ∙ ap (op (F x.entries)) (no-host hosts (only f) misses.1) ∙ right (F x.entries) ∙ ap (λ (y : Host). F y.entries) same
       go false f only k rest = joined x.entries (all_entries hosts) ∙ ap (λ m. op m (F (all_entries hosts))) (misses.0 f) ∙ left (F (all_entries hosts)) ∙ rest k
 
-or_false2 : (b : Bool) → (b || false) ≡ b
-or_false2 true = refl
-or_false2 false = refl
-
 -- uses of a router
 pub uses-append : (r : Ident) (o : ℕ) (a b : List Entry) → uses_at r o (a ++ b) ≡ uses_at r o a ++ uses_at r o b
 uses-append r o [] b = refl
@@ -74,7 +70,7 @@ module _ (rows : RowLists) (hosts : List Host) (good : FrameFacts rows) (synced 
         go false e = refl
         go true e =
             let same : q.id ≡ port = ident_same q.id port e in
-            let by_id : find (has_id port) rows.ports ≡ Some q = find-only test (has_id port) rows.ports q (good.port_ids port) found (subst (λ i. ident_eq i q.id ≡ true) same (ident_self q.id)) in
+            let by_id : find (has_id port) rows.ports ≡ Some q = find-only test (has_id port) rows.ports q (good.port_ids port) found (subst (λ i. ident_eq i q.id ≡ true) same (ident_itself q.id)) in
             let here : is_tap rows x.name q ≡ true = any-only (has_id port) (is_tap rows x.name) rows.ports q (good.port_ids port) by_id stands in
             let at : is_at x.name q ≡ true = (and_parts (is_live rows q) (is_at x.name q) (and_parts (is_here rows x.name q) (not (is_router_port q.owner)) here).0).1 in
             cc
@@ -82,7 +78,7 @@ module _ (rows : RowLists) (hosts : List Host) (good : FrameFacts rows) (synced 
     pub flows-located : (h : Host) → find (is_named q.host) hosts ≡ Some h → (fresh : List Entry) → has_flow (h.entries ++ fresh) q.id d k ≡ has_flow (all_entries hosts ++ fresh) q.id d k
     flows-located h named fresh =
         list_any-append (is_flow q.id d k) h.entries fresh
-        ∙ ap (λ b. b || list_any (is_flow q.id d k) fresh) (sym (one-host (list_any (is_flow q.id d k)) (λ a b. a || b) false refl (list_any-append (is_flow q.id d k)) (λ b. refl) or_false2 (is_named q.host) hosts h (synced.names q.host) named
+        ∙ ap (λ b. b || list_any (is_flow q.id d k) fresh) (sym (one-host (list_any (is_flow q.id d k)) (λ a b. a || b) false refl (list_any-append (is_flow q.id d k)) (λ b. refl) or_false (is_named q.host) hosts h (synced.names q.host) named
         (AllOf-more (EntriesStand rows) (λ x. is_named q.host x ≡ false → list_any (is_flow q.id d k) x.entries ≡ false) hosts (λ x stand away. list_any-none_each (is_flow q.id d k) x.entries (AllOf-more (λ e. stands_at rows x.name e ≡ true) (λ e. is_flow q.id d k e ≡ false) x.entries (foreign x away) stand)) synced.stand)))
         ∙ sym (list_any-append (is_flow q.id d k) (all_entries hosts) fresh)
 
@@ -96,14 +92,14 @@ module _ (rows : RowLists) (hosts : List Host) (good : FrameFacts rows) (synced 
         go false c e rest = rest
         go true c e rest =
             let same : r.id ≡ s = ident_same r.id s e in
-            let by_id : find (λ (z : RouterRow). ident_eq s z.id) rows.routers ≡ Some r = find-only test (λ (z : RouterRow). ident_eq s z.id) rows.routers r (good.router_ids s) found (subst (λ i. ident_eq i r.id ≡ true) same (ident_self r.id)) in
+            let by_id : find (λ (z : RouterRow). ident_eq s z.id) rows.routers ≡ Some r = find-only test (λ (z : RouterRow). ident_eq s z.id) rows.routers r (good.router_ids s) found (subst (λ i. ident_eq i r.id ≡ true) same (ident_itself r.id)) in
             let there : hosted x.name r ≡ true = any-only (λ (z : RouterRow). ident_eq s z.id) (hosted x.name) rows.routers r (good.router_ids s) by_id stand.0 in
             let both : is_named name x ≡ true = both_hosts r.host here there in
             cc
           where
             both_hosts : (o : Option (List ℕ)) → is_host_of name o ≡ true → is_host_of x.name o ≡ true → bytes_eq name x.name ≡ true
             both_hosts None a b = cc
-            both_hosts (Some m) a b = subst (λ z. bytes_eq z x.name ≡ true) (text_same m name a) b
+            both_hosts (Some m) a b = subst (λ z. bytes_eq z x.name ≡ true) (bytes_same m name a) b
 
     pub uses-located : (h : Host) → find (is_named name) hosts ≡ Some h → (snat : Bool) (outer : Option ℕ) (fresh : List Entry) → uses_by snat outer r.id (h.entries ++ fresh) ≡ uses_by snat outer r.id (all_entries hosts ++ fresh)
     uses-located h named false outer fresh = refl

@@ -5,8 +5,8 @@ use Rattle.std.specs.List.{filter_map, cons_option, list_any}
 use Rattle.std.proofs.lemmas.Bool.{and_parts, and_from, eqb-true, or_right}
 use Rattle.std.proofs.lemmas.Bool.Decides.{nat_tests}
 use Rattle.std.proofs.lemmas.List.Folds.{list_any-append}
+use Rattle.row_laws.proofs.NameLemmas.{ident_same, ident_itself}
 use Rattle.plane_laws.proofs.ListLemmas.{find-only, any-at, list_any-flat_map, list_any-same, list_any-same_each, list_any-map, list_any-found}
-use Rattle.plane_laws.proofs.Located.{ident_same, ident_self}
 use Rattle.net_addr.specs.Prefixes.{Prefix, contains}
 use Rattle.api_types.specs.Consistent.Groups.{is_direction, prefix_eq}
 use Rattle.api_types.specs.Ident.{Ident}
@@ -233,7 +233,7 @@ module _ (rows : RowLists) (good : FrameFacts rows) (host : List ℕ) (T : Filte
 
 module _ (rows : RowLists) (good : FrameFacts rows) (host : List ℕ) (t : HostTables) (real : HostFacts rows host t) (test : PortRow → Bool) (p : PortRow) (found : find test rows.ports ≡ Some p) (tap : is_tap rows host p ≡ true) (secured : p.secured ≡ true) where
   by_id : find (has_id p.id) rows.ports ≡ Some p
-  by_id = find-only test (has_id p.id) rows.ports p (good.port_ids p.id) found (ident_self p.id)
+  by_id = find-only test (has_id p.id) rows.ports p (good.port_ids p.id) found (ident_itself p.id)
 
   both : (is_tap rows host p && p.secured) ≡ true
   both = and_from (is_tap rows host p) p.secured tap secured
@@ -246,7 +246,7 @@ module _ (rows : RowLists) (good : FrameFacts rows) (host : List ℕ) (t : HostT
       ∙ list_any-flat_map (λ (x : FilterRow). names_remote g x.remote_group) (filters_of rows host) rows.ports
       ∙ list_any-found test (λ q. list_any (λ (x : FilterRow). names_remote g x.remote_group) (filters_of rows host q)) rows.ports p found
       (filters-is rows good host (λ (x : FilterRow). names_remote g x.remote_group) p ∙ ap (λ b. b && list_any (λ (x : RuleRow). names_group x.group p.groups && (is_ipv4 x.ethertype && names_remote g x.remote_group)) rows.rules) both
-      ∙ mem (λ (x : RuleRow). names_group x.group p.groups && (is_ipv4 x.ethertype && names_remote g x.remote_group)) (and_from (names_group r.group p.groups) (is_ipv4 r.ethertype && names_remote g r.remote_group) names (and_from (is_ipv4 r.ethertype) (names_remote g r.remote_group) v4 (ap (names_remote g) remote ∙ ident_self g))))
+      ∙ mem (λ (x : RuleRow). names_group x.group p.groups && (is_ipv4 x.ethertype && names_remote g x.remote_group)) (and_from (names_group r.group p.groups) (is_ipv4 r.ethertype && names_remote g r.remote_group) names (and_from (is_ipv4 r.ethertype) (names_remote g r.remote_group) v4 (ap (names_remote g) remote ∙ ident_itself g))))
 
   module _ (direction : Direction) (key : Key) where
     fits : (r : RuleRow) → RemoteStands rows r.remote_group → ((T : RuleRow → Bool) → T r ≡ true → list_any T rows.rules ≡ true) → (names_group r.group p.groups && (is_ipv4 r.ethertype && (ident_eq p.id p.id && row_fits t direction key (filter_of p r)))) ≡ (names_group r.group p.groups && rule_matches rows direction key r)
@@ -263,7 +263,7 @@ module _ (rows : RowLists) (good : FrameFacts rows) (host : List ℕ) (t : HostT
         go false b e f = refl
         go true false e f = refl
         go true true e f =
-            ap (λ b. b && row_fits t direction key (filter_of p r)) (ident_self p.id)
+            ap (λ b. b && row_fits t direction key (filter_of p r)) (ident_itself p.id)
             ∙ ap (λ b. ((is_direction r.direction direction && same_or_none r.protocol (protocol_of key.kind)) && in_range r.low r.high key.kind key.dport) && b) (far e f r.remote_prefix r.remote_group refl stands)
 
     pub allows-located : tables_allow t p.id direction key ≡ rules_allow rows p direction key

@@ -2,8 +2,8 @@
 use Rattle.std.proofs.Common.{◌≡◌, ℕ, zero, suc, ◌-◌, ◌<◌, List, [], ◌∷◌, ◌++◌, Bool, true, false, not, Option, Some, None, refl, ap, ◌∙◌, arith}
 use Rattle.std.specs.Prelude.{find, option_and_then, option_map, ◌&&◌, if◌then◌else◌}
 use Rattle.std.proofs.lemmas.Bool.{and_from}
+use Rattle.row_laws.proofs.NameLemmas.{ident_itself}
 use Rattle.plane_laws.proofs.ListLemmas.{find-passes, find-each, find-only}
-use Rattle.plane_laws.proofs.Located.{ident_self}
 use Rattle.plane_laws.proofs.Tagged.{tap-located, tagged}
 use Rattle.plane_laws.proofs.Sent.{trace_of, place_of, walk-on, trace-plain}
 use Rattle.plane_laws.proofs.SentLaw.{Lands}
@@ -71,7 +71,7 @@ module _ (rows : RowLists) (hosts : List Host) (good : FrameFacts rows) (synced 
     pub tap-found : tap_at h.tables q.id ≡ Some (tap_of q tag-here.0)
     tap-found =
         tap-located rows h.name h.tables real-at good q.id
-        ∙ ap (option_and_then (tap_row rows h.name h.tables.tags)) (find-only test (has_id q.id) rows.ports q (good.port_ids q.id) found (ident_self q.id))
+        ∙ ap (option_and_then (tap_row rows h.name h.tables.tags)) (find-only test (has_id q.id) rows.ports q (good.port_ids q.id) found (ident_itself q.id))
         ∙ ap (λ b. if b then option_map (tap_of q) (tag_of h.tables.tags q.network) else None) tap-here
         ∙ ap (option_map (tap_of q)) tag-here.1
 

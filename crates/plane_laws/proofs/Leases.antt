@@ -6,10 +6,11 @@ use Rattle.std.specs.Option.{option_or}
 use Rattle.std.specs.Str.{bytes_eq}
 use Rattle.std.proofs.lemmas.Bool.{and_parts, and_from, eqb-true, eq-eqb, or_right, and_right}
 use Rattle.std.proofs.lemmas.List.Folds.{find-append}
+use Rattle.row_laws.proofs.NameLemmas.{ident_same, bytes_same}
 use Rattle.plane_laws.proofs.ListLemmas.{find-passes, find-each, some_of, AtMostOne-less, find-filter_map, find-none_filter_map, find-ascending, AllOf-more, find-same_each, find-none_each}
-use Rattle.plane_laws.proofs.Located.{ident_same, and_true, tag-row, tag-apart, bridge_apart}
+use Rattle.plane_laws.proofs.Located.{and_true, tag-row, tag-apart, bridge_apart}
 use Rattle.plane_laws.proofs.Tagged.{tagged, inward-located, inward-none}
-use Rattle.plane_laws.proofs.Sent.{text_same, trace_of, walk-on, trace-plain}
+use Rattle.plane_laws.proofs.Sent.{trace_of, walk-on, trace-plain}
 use Rattle.plane_laws.proofs.SentLaw.{at_opt, wire_self, wire_carrier, wire_away}
 use Rattle.plane_laws.proofs.PortLaw.{LeaseLaw}
 use Rattle.api_types.specs.Ident.{Ident}
@@ -151,7 +152,7 @@ module _ (rows : RowLists) (host : List ℕ) (t : HostTables) (real : HostFacts 
 -- a DHCP port is no router's
 pub dhcp-plain : (d : PortRow) → is_dhcp d.owner ≡ true → is_router_port d.owner ≡ false
 unfolding is_dhcp is_interface is_gateway
-dhcp-plain d e = ap is_router_port (text_same d.owner (codes "network:dhcp") e)
+dhcp-plain d e = ap is_router_port (bytes_same d.owner (codes "network:dhcp") e)
 
 pub dhcp-end : (rows : RowLists) (host : List ℕ) (d : PortRow) → is_dhcp d.owner ≡ true → is_at host d ≡ true → end_of rows host d ≡ Some (ToTap d.id)
 dhcp-end rows host d e here = ap (λ b. if b then to_here rows d else to_there (segment rows d.network) d) here ∙ ap (λ b. if b then to_router d (router_of rows d) else Some (ToTap d.id)) (dhcp-plain d e)
@@ -302,7 +303,7 @@ module _ (rows : RowLists) (hosts : List Host) (good : FrameFacts rows) (synced 
                 go : (b c : Bool) → bytes_eq x.name h.name ≡ b → bytes_eq d.host x.name ≡ c → (not b && c) ≡ c
                 go true false k l = refl
                 go false c k l = refl
-                go true true k l = let bad : is_at h.name d ≡ true = subst (λ m. bytes_eq d.host m ≡ true) (text_same x.name h.name k) l in cc
+                go true true k l = let bad : is_at h.name d ≡ true = subst (λ m. bytes_eq d.host m ≡ true) (bytes_same x.name h.name k) l in cc
 
         by_tunnel : is_at h.name d ≡ false → (m : ℕ) → segment rows n ≡ Vxlan m → meant (walk hosts steps h (Bridge tag (dhcp_frame a)) run) ≡ ended (trace_of run) (leased rows n a d)
         by_tunnel away m f =

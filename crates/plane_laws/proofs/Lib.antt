@@ -31,3 +31,4 @@ pub mod BoundsLaw
 pub mod BoundsTables
 pub mod WorkedRouting
 pub mod WorkedRing
+pub mod WorkedWorld

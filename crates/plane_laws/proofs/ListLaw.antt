@@ -6,7 +6,7 @@ use Rattle.std.specs.Str.{bytes_eq}
 use Rattle.std.proofs.lemmas.Bool.{and_parts}
 use Rattle.std.proofs.lemmas.List.{append-nil}
 use Rattle.std.proofs.lemmas.List.Folds.{list_any-append}
-use Rattle.row_laws.proofs.ListLemmas.{any-weaker}
+use Rattle.row_laws.proofs.ListLemmas.{any-weaker, or_false}
 use Rattle.row_laws.proofs.NameLemmas.{ident_same, bytes_same}
 use Rattle.plane_laws.proofs.ListLemmas.{find-passes, find-each, find-some, any-only, find-map, AtMostOne-map, AllOf-more}
 use Rattle.plane_laws.proofs.Counted.{all-of}
@@ -111,10 +111,6 @@ module _ {M : Type 0} (F : List Entry → M) (op : M → M → M) (e0 : M) (empt
             ∙ ap (λ n. op (F h.entries) (F (made_by n fresh makers))) (sym (bytes_same home h.name (find-passes (is_named home) hosts h e)))
             ∙ (λ j. op (sym (one-host F op e0 empty joined left right (is_named home) hosts h (names home) e away) j) (sym (made-there fresh makers foreign) j))
             ∙ sym (joined (all_entries hosts) fresh)
-
-or_false : (b : Bool) → (b || false) ≡ b
-or_false true = refl
-or_false false = refl
 
 abbrev port_home : Option PortRow → List ℕ
 port_home None = []

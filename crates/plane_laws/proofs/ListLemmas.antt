@@ -6,12 +6,9 @@ use Rattle.std.specs.Option.{option_or}
 use Rattle.std.proofs.lemmas.List.Folds.{find-append, list_any-append}
 use Rattle.std.proofs.lemmas.Bool.{or_right}
 use Rattle.std.proofs.lemmas.List.{append-nil}
+use Rattle.row_laws.proofs.ListLemmas.{or_false}
 use Rattle.plane_types.specs.Ascending.{ascending, put_in}
 use Rattle.plane_laws.proofs.Facts.{AllOf, AtMostOne}
-
-or_false : (b : Bool) → (b || false) ≡ b
-or_false true = refl
-or_false false = refl
 
 -- equal tests find alike
 pub find-same : {X : Type 0} (p q : X → Bool) (xs : List X) → ((x : X) → p x ≡ q x) → find p xs ≡ find q xs

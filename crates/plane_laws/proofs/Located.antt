@@ -7,6 +7,7 @@ use Rattle.std.proofs.lemmas.Bool.{and_parts, eqb-true, eq-eqb, false_from_ne_tr
 use Rattle.std.proofs.lemmas.Option.{same_Some}
 use Rattle.std.proofs.lemmas.Bool.Decides.{nat_tests}
 use Rattle.std.proofs.lemmas.List.Folds.{find-append}
+use Rattle.row_laws.proofs.NameLemmas.{ident_same, ident_itself}
 use Rattle.plane_laws.proofs.ListLemmas.{find-passes, find-each, find-only, AtMostOne-less, find-none_filter_map, option_or-none, find-filter_map, find-ascending}
 use Rattle.api_types.specs.Ident.{Ident}
 use Rattle.api_types.specs.Owners.{is_dhcp}
@@ -25,14 +26,6 @@ use Rattle.plane_types.specs.declared.table.BridgeTo.{BridgeTo}
 use Rattle.plane_types.specs.declared.table.TagRow.{TagRow}
 use Rattle.plane_types.specs.declared.tables.HostTables.{HostTables}
 use Rattle.plane_laws.proofs.Facts.{FrameFacts, HostFacts, TagFact, TagFacts}
-
-pub ident_same : (a b : Ident) → ident_eq a b ≡ true → a ≡ b
-ident_same a b h =
-    let p = and_parts (a.ordinal == b.ordinal) (a.count == b.count) h in
-    ap (λ o. record { ordinal = o; count = a.count }) (eqb-true a.ordinal b.ordinal p.0) ∙ ap (λ c. record { ordinal = b.ordinal; count = c }) (eqb-true a.count b.count p.1)
-
-pub ident_self : (a : Ident) → ident_eq a a ≡ true
-ident_self a = ap (λ b. b && (a.count == a.count)) (eq-eqb a.ordinal a.ordinal refl) ∙ eq-eqb a.count a.count refl
 
 pub and_true : (b : Bool) → (b && true) ≡ b
 and_true true = refl
@@ -63,7 +56,7 @@ tag-apart rows host tags real n m tag other h k = go (other == tag) (ident_eq n 
         let a = tag-row rows host tags real n tag h in
         let b = tag-row rows host tags real m tag (k ∙ ap Some same) in
         let rowsame : n ≡ m = ap (λ (t : TagRow). t.network) (same_Some (record { network = n; tag = tag; wire = wire_of (segment rows n) }) (record { network = m; tag = tag; wire = wire_of (segment rows m) }) (sym a ∙ b)) in
-        let t : ident_eq n m ≡ true = subst (λ x. ident_eq n x ≡ true) rowsame (ident_self n) in
+        let t : ident_eq n m ≡ true = subst (λ x. ident_eq n x ≡ true) rowsame (ident_itself n) in
         cc
     go false true e f =
         let same : n ≡ m = ident_same n m f in

@@ -3,10 +3,11 @@ use Rattle.std.proofs.Common.{◌≡◌, ℕ, suc, ◌+◌, ◌-◌, ◌*◌, �
 use Rattle.std.specs.Prelude.{find, option_and_then, option_map, ◌&&◌, ◌||◌, if◌then◌else◌, is_some}
 use Rattle.std.specs.Str.{bytes_eq}
 use Rattle.std.proofs.lemmas.Bool.{and_from, and_right}
+use Rattle.row_laws.proofs.NameLemmas.{ident_same, bytes_same}
 use Rattle.plane_laws.proofs.ListLemmas.{find-passes, find-each, some_of, find-none_each, find-same_each, AllOf-more}
-use Rattle.plane_laws.proofs.Located.{ident_same, tag-row}
+use Rattle.plane_laws.proofs.Located.{tag-row}
 use Rattle.plane_laws.proofs.Tagged.{tap-located, tagged}
-use Rattle.plane_laws.proofs.Sent.{text_same, trace_of, walk-on, trace-plain}
+use Rattle.plane_laws.proofs.Sent.{trace_of, walk-on, trace-plain}
 use Rattle.plane_laws.proofs.SentLaw.{sent-law}
 use Rattle.plane_laws.proofs.RouterLaw.{trace-step, no-path}
 use Rattle.plane_laws.proofs.LandsLaw.{lands-law, tap-found, tag-here, passage-here, real-at}
@@ -42,7 +43,7 @@ LeaseLaw rows hosts = (steps : ℕ) (h : Host) (n : Ident) (net : NetworkRow) (t
 module _ (rows : RowLists) (hosts : List Host) (good : FrameFacts rows) (synced : SyncedFacts rows hosts) (leases : LeaseLaw rows hosts) where
   module _ (h : Host) (test : PortRow → Bool) (q : PortRow) (found : find test rows.ports ≡ Some q) (live : is_live rows q ≡ true) (plain_port : is_router_port q.owner ≡ false) (named : find (is_named q.host) hosts ≡ Some h) where
     host_is : q.host ≡ h.name
-    host_is = text_same q.host h.name (find-passes (is_named q.host) hosts h named)
+    host_is = bytes_same q.host h.name (find-passes (is_named q.host) hosts h named)
 
     self : find (is_named h.name) hosts ≡ Some h
     self = ap (λ m. find (is_named m) hosts) (sym host_is) ∙ named

@@ -4,9 +4,10 @@ use Rattle.std.specs.Prelude.{find, option_and_then, option_map, ◌&&◌, if◌
 use Rattle.std.specs.List.{filter}
 use Rattle.std.proofs.lemmas.Bool.{and_from}
 use Rattle.std.proofs.lemmas.List.{append-nil}
+use Rattle.row_laws.proofs.NameLemmas.{ident_itself, bytes_same}
 use Rattle.plane_laws.proofs.ListLemmas.{find-passes, find-each, find-only, some_of, find-filter}
-use Rattle.plane_laws.proofs.Located.{ident_self, tag-row}
-use Rattle.plane_laws.proofs.Sent.{text_same, trace_of, walk-on, trace-plain}
+use Rattle.plane_laws.proofs.Located.{tag-row}
+use Rattle.plane_laws.proofs.Sent.{trace_of, walk-on, trace-plain}
 use Rattle.plane_laws.proofs.SentLaw.{Lands, sent-law}
 use Rattle.plane_laws.proofs.EntriesLaw.{uses-located}
 use Rattle.plane_laws.proofs.Neighbours.{row_at, neighbour-located, holder-at}
@@ -81,7 +82,7 @@ module _ (rows : RowLists) (hosts : List Host) (good : FrameFacts rows) (synced 
     of_device z = device_is q.device z.id
 
     host_is : q.host ≡ h.name
-    host_is = text_same q.host h.name (find-passes (is_named q.host) hosts h named)
+    host_is = bytes_same q.host h.name (find-passes (is_named q.host) hosts h named)
 
     self : find (is_named h.name) hosts ≡ Some h
     self = ap (λ m. find (is_named m) hosts) (sym host_is) ∙ named
@@ -90,7 +91,7 @@ module _ (rows : RowLists) (hosts : List Host) (good : FrameFacts rows) (synced 
     here = ap (λ m. hosted m r) (sym host_is) ∙ ap (is_hosted q.host) (sym router_is) ∙ find-each (RouterPortStands rows) test rows.ports q good.router_ports found router live
 
     by_id : find (has_id q.id) rows.ports ≡ Some q
-    by_id = find-only test (has_id q.id) rows.ports q (good.port_ids q.id) found (ident_self q.id)
+    by_id = find-only test (has_id q.id) rows.ports q (good.port_ids q.id) found (ident_itself q.id)
 
     is_leg : is_leg_of rows r q ≡ true
     is_leg = and_from (is_router_port q.owner && device_is q.device r.id) (is_live rows q) (and_from (is_router_port q.owner) (device_is q.device r.id) router (find-passes (λ (z : RouterRow). device_is q.device z.id) rows.routers r router_is)) live
@@ -129,7 +130,7 @@ module _ (rows : RowLists) (hosts : List Host) (good : FrameFacts rows) (synced 
 
         by_id2 : find (has_id o.id) rows.ports ≡ Some o
         unfolding legs_of
-        by_id2 = from-filter (has_id out.port) (is_leg_of rows r) (has_id o.id) rows.ports o leg (ident_self o.id) (good.port_ids o.id)
+        by_id2 = from-filter (has_id out.port) (is_leg_of rows r) (has_id o.id) rows.ports o leg (ident_itself o.id) (good.port_ids o.id)
 
         tag2 : (tag : ℕ) × (tag_of h.tables.tags o.network ≡ Some tag)
         tag2 = some_of (tag_of h.tables.tags o.network) (leg-tagged rows h.name h.tables real good of_device r router_is here o by_id2 is_leg2)

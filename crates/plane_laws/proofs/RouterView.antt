@@ -4,10 +4,9 @@ use Rattle.std.specs.Prelude.{find, option_and_then, option_map, ◌&&◌, if◌
 use Rattle.std.specs.List.{filter_map, cons_option}
 use Rattle.std.specs.Str.{bytes_eq}
 use Rattle.std.proofs.lemmas.Bool.{and_parts, and_from}
+use Rattle.row_laws.proofs.NameLemmas.{ident_same, ident_itself, bytes_same, bytes_itself}
 use Rattle.plane_laws.proofs.ListLemmas.{find-each, find-only, find-filter_map, AtMostOne-filter, each-found, AllOf-filter, filter_map-one}
-use Rattle.plane_laws.proofs.Located.{ident_same, ident_self}
 use Rattle.plane_laws.proofs.Tagged.{tagged}
-use Rattle.plane_laws.proofs.Sent.{text_same, text_self}
 use Rattle.api_types.specs.Ident.{Ident}
 use Rattle.api_types.specs.Owners.{device_is, is_router_port}
 use Rattle.api_types.specs.RowLists.{RowLists}
@@ -46,7 +45,7 @@ legs_same rows tags (p ∷ ps) h = go (tag_of tags p.network) h.0 (legs_same row
 
 module _ (rows : RowLists) (host : List ℕ) (t : HostTables) (real : HostFacts rows host t) (good : FrameFacts rows) (test : RouterRow → Bool) (r : RouterRow) (found : find test rows.routers ≡ Some r) (here : hosted host r ≡ true) where
   by-id : find (λ (z : RouterRow). ident_eq r.id z.id) rows.routers ≡ Some r
-  by-id = find-only test (λ (z : RouterRow). ident_eq r.id z.id) rows.routers r (good.router_ids r.id) found (ident_self r.id)
+  by-id = find-only test (λ (z : RouterRow). ident_eq r.id z.id) rows.routers r (good.router_ids r.id) found (ident_itself r.id)
 
   pub router-located : router_at t r.id ≡ Some (router_row rows t.tags r)
   unfolding router_rows
@@ -62,7 +61,7 @@ module _ (rows : RowLists) (host : List ℕ) (t : HostTables) (real : HostFacts 
 
   -- each live port of the router is here, so its network has a tag
   ports-found : AllOf (λ (p : PortRow). find (has_id p.id) rows.ports ≡ Some p) rows.ports
-  ports-found = each-found (λ (p : PortRow). has_id p.id) rows.ports (λ p. ident_self p.id) (λ p. good.port_ids p.id)
+  ports-found = each-found (λ (p : PortRow). has_id p.id) rows.ports (λ p. ident_itself p.id) (λ p. good.port_ids p.id)
 
   pub leg-here : (p : PortRow) → find (has_id p.id) rows.ports ≡ Some p → is_leg_of rows r p ≡ true → p.host ≡ host
   leg-here p e leg =
@@ -75,11 +74,11 @@ module _ (rows : RowLists) (host : List ℕ) (t : HostTables) (real : HostFacts 
     where
       both : (o : Option (List ℕ)) → is_host_of p.host o ≡ true → is_host_of host o ≡ true → p.host ≡ host
       both None a b = cc
-      both (Some m) a b = sym (text_same m p.host a) ∙ text_same m host b
+      both (Some m) a b = sym (bytes_same m p.host a) ∙ bytes_same m host b
 
   pub leg-tagged : (p : PortRow) → find (has_id p.id) rows.ports ≡ Some p → is_leg_of rows r p ≡ true → is_some (tag_of t.tags p.network) ≡ true
   leg-tagged p e leg =
-      let at : is_at host p ≡ true = subst (λ h. bytes_eq p.host h ≡ true) (leg-here p e leg) (text_self p.host) in
+      let at : is_at host p ≡ true = subst (λ h. bytes_eq p.host h ≡ true) (leg-here p e leg) (bytes_itself p.host) in
       let tag = tagged rows host t real good (has_id p.id) p e (and_from (is_live rows p) (is_at host p) (and_parts (is_router_port p.owner && device_is p.device r.id) (is_live rows p) leg).1 at) in
       ap is_some tag.1
 
@@ -93,7 +92,7 @@ module _ (rows : RowLists) (host : List ℕ) (t : HostTables) (real : HostFacts 
       ap (ways_at r.id) real.routes
       ∙ filter_map-one (λ (z : RouterRow). ident_eq r.id z.id) (λ (x : RouteRow). if ident_eq r.id x.router then Some (way_at x) else None) (λ z. if hosted host z then map (route_row z.id) (ways_of rows z) else []) rows.routers r (good.router_ids r.id) by-id (λ z e. other z e (hosted host z))
       ∙ ap (λ b. ways_at r.id (if b then map (route_row r.id) (ways_of rows r) else [])) here
-      ∙ ways_one r.id r.id true (ident_self r.id) (ways_of rows r)
+      ∙ ways_one r.id r.id true (ident_itself r.id) (ways_of rows r)
     where
       other : (z : RouterRow) → ident_eq r.id z.id ≡ false → (b : Bool) → ways_at r.id (if b then map (route_row z.id) (ways_of rows z) else []) ≡ []
       other z e true = ways_one r.id z.id false e (ways_of rows z)

@@ -1,12 +1,11 @@
 -- A packet on a network's bridge gets to the port that the rows say.
 use Rattle.std.proofs.Common.{◌≡◌, ℕ, zero, suc, ◌-◌, ◌<◌, List, [], ◌++◌, Bool, true, false, Option, Some, None, refl, ap, sym, ◌∙◌, arith}
 use Rattle.std.specs.Prelude.{find, option_and_then, ◌&&◌, ◌==◌, if◌then◌else◌}
-use Rattle.std.specs.Str.{bytes_eq}
 use Rattle.std.proofs.lemmas.Bool.{and_parts, eqb-true, and_from}
 use Rattle.std.proofs.lemmas.List.{append-nil}
-use Rattle.std.proofs.lemmas.Slice.Eq.{bytes_eq-Decides}
+use Rattle.row_laws.proofs.NameLemmas.{ident_same}
 use Rattle.plane_laws.proofs.ListLemmas.{find-passes, find-each}
-use Rattle.plane_laws.proofs.Located.{ident_same, tag-row, bridge-located}
+use Rattle.plane_laws.proofs.Located.{tag-row, bridge-located}
 use Rattle.plane_laws.proofs.Tagged.{tagged, inward-located}
 use Rattle.api_types.specs.Ident.{Ident}
 use Rattle.api_types.specs.Owners.{is_router_port}
@@ -31,12 +30,6 @@ use Rattle.plane_types.specs.declared.tables.HostTables.{HostTables}
 use Rattle.plane_types.specs.declared.verdict.DropCause.TheVariants.{Unknown}
 use Rattle.plane_types.specs.declared.verdict.Toward.TheVariants.{Mac as TowardMac}
 use Rattle.plane_laws.proofs.Facts.{FrameFacts, HostFacts, RouterPortStands}
-
-pub text_same : (a b : List ℕ) → bytes_eq a b ≡ true → a ≡ b
-text_same a b h = (bytes_eq-Decides a b).0 h
-
-pub text_self : (a : List ℕ) → bytes_eq a a ≡ true
-text_self a = (bytes_eq-Decides a a).1 refl
 
 abbrev pub trace_of : Run → Trace
 trace_of run = record { path = run.path; fresh = run.fresh }

@@ -3,10 +3,11 @@ use Rattle.std.proofs.Common.{◌≡◌, ℕ, ◌+◌, ◌-◌, ◌*◌, ◌<◌
 use Rattle.std.specs.Prelude.{find, option_and_then, ◌&&◌, ◌||◌, ◌==◌, if◌then◌else◌, is_some}
 use Rattle.std.specs.Str.{bytes_eq}
 use Rattle.std.proofs.lemmas.Bool.{and_parts, eq-eqb, and_from, or_right, and_right}
+use Rattle.row_laws.proofs.NameLemmas.{ident_same, bytes_same, bytes_itself}
 use Rattle.plane_laws.proofs.ListLemmas.{find-passes, find-each, some_of, AllOf-more, find-same_each, find-none_each}
-use Rattle.plane_laws.proofs.Located.{ident_same, tag-row, bridge-located}
+use Rattle.plane_laws.proofs.Located.{tag-row, bridge-located}
 use Rattle.plane_laws.proofs.Tagged.{tagged, inward-located, inward-none}
-use Rattle.plane_laws.proofs.Sent.{text_same, text_self, trace_of, place_of, walk-on, trace-plain, end-here, live-found, network-found, row-located, step-located, step-unlocated, end-is, end-away, led-here, inner-step}
+use Rattle.plane_laws.proofs.Sent.{trace_of, place_of, walk-on, trace-plain, end-here, live-found, network-found, row-located, step-located, step-unlocated, end-is, end-away, led-here, inner-step}
 use Rattle.api_types.specs.Ident.{Ident}
 use Rattle.api_types.specs.RowLists.{RowLists}
 use Rattle.api_types.specs.Table.{ident_eq}
@@ -42,7 +43,7 @@ at_opt name None = false
 at_opt name (Some q) = is_at name q
 
 pub wire_self : (w : Wire) → wire_eq w w ≡ true
-wire_self w = ap (λ b. b && tag_eq w.tag w.tag) (text_self w.physical) ∙ tags w.tag
+wire_self w = ap (λ b. b && tag_eq w.tag w.tag) (bytes_itself w.physical) ∙ tags w.tag
   where
     tags : (o : Option ℕ) → tag_eq o o ≡ true
     tags None = refl
@@ -198,7 +199,7 @@ module _ (rows : RowLists) (hosts : List Host) (good : FrameFacts rows) (synced 
                 go : (b c : Bool) → bytes_eq x.name h.name ≡ b → bytes_eq q.host x.name ≡ c → (not b && c) ≡ c
                 go true false k l = refl
                 go false c k l = refl
-                go true true k l = let bad : is_at h.name q ≡ true = subst (λ m. bytes_eq q.host m ≡ true) (text_same x.name h.name k) l in cc
+                go true true k l = let bad : is_at h.name q ≡ true = subst (λ m. bytes_eq q.host m ≡ true) (bytes_same x.name h.name k) l in cc
 
         -- by a tunnel
         by_tunnel : is_at h.name q ≡ false → (m : ℕ) → segment rows n ≡ Vxlan m → meant (walk hosts steps h (Bridge tag (ip_frame p)) run) ≡ got rows (all_entries hosts) many q p (trace_of run)
@@ -230,7 +231,7 @@ module _ (rows : RowLists) (hosts : List Host) (good : FrameFacts rows) (synced 
             let to = end-here rows good (has_mac rows n p.dst) q e live in
             let step : bridge_step h.tables false tag (ip_frame p) ≡ Next (place_of to.0 p) =
             step-located rows good h.name h.tables real n tag is_tagged p q e false to.0 (end-is rows good h.name h.tables real n tag is_tagged p q e here to.0 to.1) ∙ led-here rows q to.0 to.1 false tag p in
-            let mine : find (is_named q.host) hosts ≡ Some h = ap (λ m. find (is_named m) hosts) (text_same q.host h.name here) ∙ named in
+            let mine : find (is_named q.host) hosts ≡ Some h = ap (λ m. find (is_named m) hosts) (bytes_same q.host h.name here) ∙ named in
             by-step (Next (place_of to.0 p)) step
             ∙ lands (steps - 1) (has_mac rows n p.dst) q h to.0 p (after_step h (Bridge tag (ip_frame p)) (plain (Next (place_of to.0 p))) run) (omega arith) e live mine to.1 lives
             ∙ ap (got rows (all_entries hosts) many q p) (trace-plain h (Bridge tag (ip_frame p)) (Next (place_of to.0 p)) run refl)

@@ -4,8 +4,9 @@ use Rattle.std.specs.Prelude.{find, option_and_then, option_map, ◌&&◌, ◌==
 use Rattle.std.specs.List.{filter, list_any}
 use Rattle.std.proofs.lemmas.Option.{same_Some}
 use Rattle.std.proofs.lemmas.Bool.{and_from}
+use Rattle.row_laws.proofs.NameLemmas.{ident_same, ident_itself}
 use Rattle.plane_laws.proofs.ListLemmas.{find-passes, find-each, find-only, find-filter_map, AtMostOne-map, AtMostOne-from_map, AtMostOne-filter, list_any-filter, find-some, list_any-found, list_any-map, list_any-kept, some_of}
-use Rattle.plane_laws.proofs.Located.{ident_same, ident_self, tag-row}
+use Rattle.plane_laws.proofs.Located.{tag-row}
 use Rattle.api_types.specs.Ident.{Ident}
 use Rattle.api_types.specs.RowLists.{RowLists}
 use Rattle.api_types.specs.Table.{ident_eq}
@@ -40,7 +41,7 @@ module _ (rows : RowLists) (host : List ℕ) (t : HostTables) (real : HostFacts 
       let net = some_of (network_of rows p.network) (find-each (λ (q : PortRow). is_some (network_of rows q.network) ≡ true) test rows.ports p good.networks_stand found) in
       let id : ident_eq p.network (net.0).id ≡ true = find-passes (λ (n : NetworkRow). ident_eq p.network n.id) rows.networks net.0 net.1 in
       let is = ident_same p.network (net.0).id id in
-      let tagged : is_tagged rows host net.0 ≡ true = list_any-found test (λ q. ident_eq (net.0).id q.network && is_here rows host q) rows.ports p found (and_from (ident_eq (net.0).id p.network) (is_here rows host p) (subst (λ i. ident_eq i p.network ≡ true) is (ident_self p.network)) here) in
+      let tagged : is_tagged rows host net.0 ≡ true = list_any-found test (λ q. ident_eq (net.0).id q.network && is_here rows host q) rows.ports p found (and_from (ident_eq (net.0).id p.network) (is_here rows host p) (subst (λ i. ident_eq i p.network ≡ true) is (ident_itself p.network)) here) in
       let any : list_any (ident_eq p.network) (map (λ (t : TagRow). t.network) t.tags) ≡ true =
       ap (list_any (ident_eq p.network)) real.tags.networks ∙ list_any-map (ident_eq p.network) (λ (n : NetworkRow). n.id) (filter (is_tagged rows host) rows.networks)
       ∙ list_any-kept (λ (n : NetworkRow). ident_eq p.network n.id) (λ (n : NetworkRow). ident_eq p.network n.id) (is_tagged rows host) rows.networks net.0 net.1 id tagged in
@@ -97,14 +98,14 @@ module _ (rows : RowLists) (host : List ℕ) (t : HostTables) (real : HostFacts 
       go None e = refl
       go (Some row) e =
           let carried : carried_by rows c row.network ≡ true = find-passes (λ (x : TagRow). carried_by rows c x.network) t.tags row e in
-          let any : list_any (ident_eq row.network) (map (λ (x : TagRow). x.network) t.tags) ≡ true = list_any-map (ident_eq row.network) (λ (x : TagRow). x.network) t.tags ∙ list_any-found (λ (x : TagRow). carried_by rows c x.network) (λ (x : TagRow). ident_eq row.network x.network) t.tags row e (ident_self row.network) in
+          let any : list_any (ident_eq row.network) (map (λ (x : TagRow). x.network) t.tags) ≡ true = list_any-map (ident_eq row.network) (λ (x : TagRow). x.network) t.tags ∙ list_any-found (λ (x : TagRow). carried_by rows c x.network) (λ (x : TagRow). ident_eq row.network x.network) t.tags row e (ident_itself row.network) in
           let any2 : list_any (λ (m : NetworkRow). ident_eq row.network m.id) (filter (is_tagged rows host) rows.networks) ≡ true = sym (list_any-map (ident_eq row.network) (λ (m : NetworkRow). m.id) (filter (is_tagged rows host) rows.networks)) ∙ ap (list_any (ident_eq row.network)) (sym real.tags.networks) ∙ any in
           let other = some_of (find (λ (m : NetworkRow). ident_eq row.network m.id) rows.networks) (find-some (λ (m : NetworkRow). ident_eq row.network m.id) rows.networks ∙ list_any-filter (λ (m : NetworkRow). ident_eq row.network m.id) (is_tagged rows host) rows.networks any2) in
           let its : row.network ≡ (other.0).id = ident_same row.network (other.0).id (find-passes (λ (m : NetworkRow). ident_eq row.network m.id) rows.networks other.0 other.1) in
           let second = find-only (λ (m : NetworkRow). ident_eq row.network m.id) (λ (m : NetworkRow). carried_by rows c m.id) rows.networks other.0 (good.segments c) other.1 (ap (λ i. carried_by rows c i) (sym its) ∙ carried) in
           let same : net ≡ other.0 = same_Some net other.0 (sym first ∙ second) in
           let ids : n ≡ row.network = mine ∙ ap (λ (m : NetworkRow). m.id) same ∙ sym its in
-          let has : list_any (λ (x : TagRow). ident_eq n x.network) t.tags ≡ true = list_any-found (λ (x : TagRow). carried_by rows c x.network) (λ (x : TagRow). ident_eq n x.network) t.tags row e (subst (λ i. ident_eq n i ≡ true) ids (ident_self n)) in
+          let has : list_any (λ (x : TagRow). ident_eq n x.network) t.tags ≡ true = list_any-found (λ (x : TagRow). carried_by rows c x.network) (λ (x : TagRow). ident_eq n x.network) t.tags row e (subst (λ i. ident_eq n i ≡ true) ids (ident_itself n)) in
           let found = some_of (find (λ (x : TagRow). ident_eq n x.network) t.tags) (find-some (λ (x : TagRow). ident_eq n x.network) t.tags ∙ has) in
           let bad : Some ((found.0).tag) ≡ None = ap (option_map (λ (x : TagRow). x.tag)) (sym found.1) ∙ none in
           cc

@@ -4,10 +4,11 @@ use Rattle.std.specs.Prelude.{find, option_and_then, option_map, ◌&&◌, ◌||
 use Rattle.std.specs.List.{filter, list_any}
 use Rattle.std.specs.Str.{bytes_eq}
 use Rattle.std.proofs.lemmas.Bool.{and_parts, and_from, eqb-true}
+use Rattle.row_laws.proofs.NameLemmas.{ident_same, ident_itself, bytes_same}
 use Rattle.plane_laws.proofs.ListLemmas.{find-passes, find-each, find-only, some_of, find-none_each, find-same_each, AllOf-more, find-filter_map, find-some, list_any-found, list_any-map, list_any-filter}
-use Rattle.plane_laws.proofs.Located.{ident_same, ident_self, tag-row}
+use Rattle.plane_laws.proofs.Located.{tag-row}
 use Rattle.plane_laws.proofs.Tagged.{tagged, inward-located, inward-none, inward_hit, one-carrier}
-use Rattle.plane_laws.proofs.Sent.{text_same, walk-on}
+use Rattle.plane_laws.proofs.Sent.{walk-on}
 use Rattle.plane_laws.proofs.SentLaw.{at_opt, wire_self, wire_carrier, takes-law, carried}
 use Rattle.plane_laws.proofs.LandsLaw.{lands-law}
 use Rattle.plane_laws.proofs.Neighbours.{row_at, neighbour-located, holder-at}
@@ -41,7 +42,7 @@ use Rattle.plane_types.specs.declared.verdict.Outcome.TheVariants.{Answered, Dro
 use Rattle.plane_laws.proofs.Facts.{AllOf, FrameFacts, HostFacts, SyncedFacts, carried_by, is_carrier}
 
 wire_same : (v w : Wire) → wire_eq v w ≡ true → v ≡ w
-wire_same v w h = let p = and_parts (bytes_eq v.physical w.physical) (tag_eq v.tag w.tag) h in ap (λ x. record { physical = x; tag = v.tag }) (text_same v.physical w.physical p.0) ∙ ap (λ x. record { physical = w.physical; tag = x }) (tags v.tag w.tag p.1)
+wire_same v w h = let p = and_parts (bytes_eq v.physical w.physical) (tag_eq v.tag w.tag) h in ap (λ x. record { physical = x; tag = v.tag }) (bytes_same v.physical w.physical p.0) ∙ ap (λ x. record { physical = w.physical; tag = x }) (tags v.tag w.tag p.1)
   where
     tags : (a b : Option ℕ) → tag_eq a b ≡ true → a ≡ b
     tags None None e = refl
@@ -63,7 +64,7 @@ module _ (rows : RowLists) (hosts : List Host) (good : FrameFacts rows) (synced 
   segment-own : (test : NetworkRow → Bool) (net : NetworkRow) → find test rows.networks ≡ Some net → (network_of rows net.id ≡ Some net) × (segment rows net.id ≡ net.segment)
   unfolding segment
   segment-own test net e =
-      let own : network_of rows net.id ≡ Some net = find-only test (λ (m : NetworkRow). ident_eq net.id m.id) rows.networks net (good.network_ids net.id) e (ident_self net.id) in
+      let own : network_of rows net.id ≡ Some net = find-only test (λ (m : NetworkRow). ident_eq net.id m.id) rows.networks net (good.network_ids net.id) e (ident_itself net.id) in
       (own, ap segment_of own)
 
   -- no network on the wire: no host takes
@@ -78,7 +79,7 @@ module _ (rows : RowLists) (hosts : List Host) (good : FrameFacts rows) (synced 
       go None e = refl
       go (Some row) e =
           let carried : carried_by rows (ByWire w) row.network ≡ true = find-passes (λ (t : TagRow). carried_by rows (ByWire w) t.network) x.tables.tags row e in
-          let any : list_any (ident_eq row.network) (map (λ (t : TagRow). t.network) x.tables.tags) ≡ true = list_any-map (ident_eq row.network) (λ (t : TagRow). t.network) x.tables.tags ∙ list_any-found (λ (t : TagRow). carried_by rows (ByWire w) t.network) (λ (t : TagRow). ident_eq row.network t.network) x.tables.tags row e (ident_self row.network) in
+          let any : list_any (ident_eq row.network) (map (λ (t : TagRow). t.network) x.tables.tags) ≡ true = list_any-map (ident_eq row.network) (λ (t : TagRow). t.network) x.tables.tags ∙ list_any-found (λ (t : TagRow). carried_by rows (ByWire w) t.network) (λ (t : TagRow). ident_eq row.network t.network) x.tables.tags row e (ident_itself row.network) in
           let any2 : list_any (λ (m : NetworkRow). ident_eq row.network m.id) (filter (is_tagged rows x.name) rows.networks) ≡ true = sym (list_any-map (ident_eq row.network) (λ (m : NetworkRow). m.id) (filter (is_tagged rows x.name) rows.networks)) ∙ ap (list_any (ident_eq row.network)) (sym real.tags.networks) ∙ any in
           let other = some_of (find (λ (m : NetworkRow). ident_eq row.network m.id) rows.networks) (find-some (λ (m : NetworkRow). ident_eq row.network m.id) rows.networks ∙ list_any-filter (λ (m : NetworkRow). ident_eq row.network m.id) (is_tagged rows x.name) rows.networks any2) in
           let its : row.network ≡ (other.0).id = ident_same row.network (other.0).id (find-passes (λ (m : NetworkRow). ident_eq row.network m.id) rows.networks other.0 other.1) in
