@@ -1,0 +1,3 @@
+mod FreshLemmas
+mod NamedLemmas
+mod PieceLemmas

@@ -1,0 +1,118 @@
+ghost use Rattle.std.specs.Prelude.{◌≡◌, ◌<◌, ◌≤◌, None, IfOk, length};
+ghost use Rattle.std.specs.Io.KnownBytes.{WriteAppends, Keeps};
+ghost use Rattle.keeper_core.specs.Counts.{HasCause, HasRefusalCause};
+
+use crate::refusal::{Failed, SinkRefusal};
+use crate::sink::Sink;
+use crate::source::Source;
+use std::io::{Read, Write};
+use std::marker::Model;
+
+/// A reader of std as a source. It tells the bytes that its reader tells, so none of a file, a
+/// socket or standard input.
+#[derive(Drop)]
+pub struct ReaderSource<R> {
+    inner: R,
+    faults: u64,
+}
+
+impl<R> Model for ReaderSource<R> {
+    ghost use Rattle.keeper_core.specs.Ends.{Counting};
+
+    ghost Value = { Counting R };
+
+    ghost view = { λ s. record { inner = s.inner; faults = s.faults } };
+}
+
+impl<R> ReaderSource<R> {
+    /// A source over this reader, without faults yet.
+    pub fn make(inner: R) -> ReaderSource<R>
+        ensures { result ≡ record { inner = inner; faults = 0 } }
+    {
+        ReaderSource { inner, faults: 0 }
+    }
+}
+
+impl<R: Read> Source for ReaderSource<R> {
+    ghost left = { λ s. R.remaining s.inner };
+
+    ghost faults = { λ s. s.faults };
+
+    fn read(&mut self, buf: &mut [u8]) -> Result<usize, Failed> {
+        match self.inner.read(buf) {
+            Ok(count) => Ok(count),
+            Err(_) => {
+                self.faults = self.faults.saturating_add(1);
+                Err(Failed)
+            }
+        }
+    }
+}
+
+/// A writer of std as a sink. It tells nothing, and hands its pieces on to the writer as they are.
+#[derive(Drop)]
+pub struct WriterSink<W> {
+    inner: W,
+    faults: u64,
+}
+
+impl<W> Model for WriterSink<W> {
+    ghost use Rattle.keeper_core.specs.Ends.{Counting};
+
+    ghost Value = { Counting W };
+
+    ghost view = { λ s. record { inner = s.inner; faults = s.faults } };
+}
+
+impl<W> WriterSink<W> {
+    /// A sink over this writer, without faults yet.
+    pub fn make(inner: W) -> WriterSink<W>
+        ensures { result ≡ record { inner = inner; faults = 0 } }
+    {
+        WriterSink { inner, faults: 0 }
+    }
+
+    /// The writer.
+    pub fn into_inner(self) -> W
+        ensures { result ≡ self.inner }
+    {
+        self.inner
+    }
+}
+
+impl<W: Write> Sink for WriterSink<W> {
+    ghost written = { λ s. None };
+
+    ghost flushed = { λ s. None };
+
+    ghost faults = { λ s. s.faults };
+
+    /// A write that takes nothing of the piece counts as a fault.
+    fn write(&mut self, piece: &[u8]) -> Result<usize, SinkRefusal>
+        requires { 0 < length piece.now }
+        ensures count { IfOk result (λ n. (0 < n) × (n ≤ length piece.now)) }
+        ensures passes { WriteAppends (W.contents self.old.inner) (W.contents self.new.inner) result piece.now }
+        ensures cause { HasRefusalCause self.old.faults self.new.faults result }
+    {
+        match self.inner.write(piece) {
+            Ok(count) if count > 0 => Ok(count),
+            _ => {
+                self.faults = self.faults.saturating_add(1);
+                Err(SinkRefusal::Failed)
+            }
+        }
+    }
+
+    fn flush(&mut self) -> Result<(), Failed>
+        ensures passes { Keeps (W.contents self.old.inner) (W.contents self.new.inner) }
+        ensures cause { HasCause self.old.faults self.new.faults result }
+    {
+        match self.inner.flush() {
+            Ok(()) => Ok(()),
+            Err(_) => {
+                self.faults = self.faults.saturating_add(1);
+                Err(Failed)
+            }
+        }
+    }
+}

@@ -1,0 +1,173 @@
+ghost use Rattle.std.specs.Prelude.{◌≡◌, ◌<◌, ◌++◌, [], ◌∷◌, map, Some, None, Ok, IsTrue, IfOk, IfErr, OnOk, OnErr, vec_len, vec_capacity, option_copied};
+ghost use Rattle.keeper_core.specs.Counts.{IsWant};
+ghost use Rattle.keeper_core.specs.Desk.{file_named, opening_rows, opened_as, closed_as, asked, asked_in_vain, with_stores, with_returned, HandsOut, CountsOut, TakesBack, AddsAsk, end_of, are_fresh};
+
+use crate::ask::DeskAsk;
+use crate::connections::Connections;
+use crate::named::{Named, NamedBytes, NamedRows, value_of};
+use crate::refusal::DeskRefusal;
+use crate::shelf::{Shelf, copied_name};
+use crate::sink::Sink;
+use crate::source::Source;
+use api_types::Rows;
+use net_addr::{Bytes, Copies, OutOfMemory, Seq, Text};
+use std::alloc::Global;
+use std::marker::Model;
+
+/// What a desk in memory has and has noted.
+#[derive(Drop)]
+pub struct Book<I: Source, O: Sink> {
+    asks: Vec<DeskAsk>,
+    files: NamedBytes,
+    shelf: Shelf,
+    connections: Connections<I, O>,
+}
+
+impl<I: Source, O: Sink> Model for Book<I, O> {
+    ghost use Rattle.keeper_core.specs.Desk.{DeskTold};
+
+    ghost Value = { DeskTold (I × O) };
+
+    ghost view = { λ b. record { asks = b.asks.items; files = b.files; stores = b.shelf; to_come = b.connections.to_come; returned = b.connections.returned } };
+}
+
+/// Notes an ask, for which there is room.
+fn put_ask(asks: &mut Vec<DeskAsk>, ask: DeskAsk)
+    requires { vec_len asks.old < vec_capacity asks.old }
+    ensures { asks.new.items ≡ asks.old.items ++ ask ∷ [] }
+{
+    match asks.push(ask) {
+        Ok(()) => {}
+        Err(_) => unreachable!(),
+    }
+}
+
+/// The bytes with a name, or none.
+fn file_bytes(alloc: Global, files: &NamedBytes, name: &Text) -> Result<Bytes, OutOfMemory>
+    ensures { IfOk result (λ bytes. bytes ≡ file_named name.now files.now) }
+{
+    match value_of(files.as_slice(), name) {
+        Some(bytes) => Ok(Bytes::from_vec(Vec::from_slice(alloc, bytes.as_slice())?)),
+        None => Ok(Bytes::from_vec(Vec::new(alloc))),
+    }
+}
+
+impl<I: Source, O: Sink> Book<I, O> {
+    /// Nothing is asked yet, no store is open, and no connection is out.
+    pub fn make(
+        alloc: Global,
+        files: NamedBytes,
+        stores: NamedRows,
+        to_come: Seq<(I, O)>,
+    ) -> Book<I, O>
+        requires { IsTrue (are_fresh I.faults O.faults to_come) }
+        ensures { result ≡ record { asks = []; files = files; stores = record { named = stores; unnamed = None; opened = None }; to_come = to_come; returned = record { ended = []; out = 0 } } }
+    {
+        Book {
+            asks: Vec::new(alloc),
+            files,
+            shelf: Shelf::make(stores),
+            connections: Connections::make(alloc, to_come),
+        }
+    }
+
+    /// The asks so far.
+    pub fn asks(&self) -> &[DeskAsk]
+        ensures { result.now ≡ self.now.asks }
+    {
+        self.asks.as_slice()
+    }
+
+    /// The rows of stores by name.
+    pub fn stores(&self) -> &[Named<Rows>]
+        ensures { result.now ≡ self.now.stores.named }
+    {
+        self.shelf.named()
+    }
+
+    /// The connections that were handed back.
+    pub fn ended(&self) -> &[(I, O)]
+        ensures { map (end_of I.left I.faults O.written O.flushed O.faults) result.now ≡ self.now.returned.ended }
+    {
+        self.connections.ended()
+    }
+
+    /// Notes an ask that fails, and answers why it is refused.
+    pub fn fail(&mut self, ask: DeskAsk) -> DeskRefusal
+        ensures { self.new ≡ asked_in_vain result ask self.old }
+    {
+        match self.asks.push(ask) {
+            Ok(()) => DeskRefusal::Failed,
+            Err(_) => DeskRefusal::OutOfMemory,
+        }
+    }
+
+    /// The settings with a name, or all stays as it is.
+    pub fn settings(&mut self, alloc: Global, name: &Text) -> Result<Bytes, OutOfMemory>
+        ensures bytes { IfOk result (λ bytes. bytes ≡ file_named name.now self.old.files) }
+        ensures ok { OnOk result (self.new ≡ asked (DeskAsk.Settings name.now) self.old) }
+        ensures err { OnErr result (self.new ≡ self.old) }
+    {
+        let ask = DeskAsk::Settings(name.copy(alloc)?);
+        self.asks.reserve(1)?;
+        let bytes = file_bytes(alloc, &self.files, name)?;
+        put_ask(&mut self.asks, ask);
+        Ok(bytes)
+    }
+
+    /// Opens a store and answers its rows, or leaves all as it is.
+    pub fn open(&mut self, alloc: Global, name: Option<&Text>) -> Result<Rows, OutOfMemory>
+        ensures rows { IfOk result (λ rows. rows ≡ opening_rows (option_copied name.entry) self.old.stores) }
+        ensures ok { OnOk result (self.new ≡ asked (DeskAsk.Store (option_copied name.entry)) (with_stores (opened_as (option_copied name.entry) self.old.stores) self.old)) }
+        ensures err { OnErr result (self.new ≡ self.old) }
+    {
+        let ask = DeskAsk::Store(copied_name(alloc, name)?);
+        self.asks.reserve(1)?;
+        let rows = self.shelf.open(alloc, name)?;
+        put_ask(&mut self.asks, ask);
+        Ok(rows)
+    }
+
+    /// Closes the store that is open with these rows. It takes no memory.
+    pub fn close(&mut self, rows: Rows)
+        ensures { self.new ≡ with_stores (closed_as self.old.stores.opened rows self.old.stores) self.old }
+    {
+        self.shelf.close(rows);
+    }
+
+    /// Notes that someone listens, or all stays as it is.
+    pub fn listen(&mut self, alloc: Global, address: &Text) -> Result<(), OutOfMemory>
+        ensures ok { OnOk result (self.new ≡ asked (DeskAsk.Listen address.now) self.old) }
+        ensures err { OnErr result (self.new ≡ self.old) }
+    {
+        self.asks.push(DeskAsk::Listen(address.copy(alloc)?))?;
+        Ok(())
+    }
+
+    /// The next connection, or all stays as it is.
+    pub fn next(&mut self) -> Result<Option<(I, O)>, DeskRefusal>
+        ensures fresh { (input : I) (output : O) → result ≡ Ok (Some (input, output)) → (I.faults input ≡ 0) × (O.faults output ≡ 0) }
+        ensures to_come { HandsOut result (Some self.old.to_come) (Some self.new.to_come) }
+        ensures returned { CountsOut result (Some self.old.returned) (Some self.new.returned) }
+        ensures asks { AddsAsk result DeskAsk.Next (Some self.old.asks) (Some self.new.asks) }
+        ensures files { self.new.files ≡ self.old.files }
+        ensures stores { self.new.stores ≡ self.old.stores }
+        ensures sure { IfErr result IsWant }
+    {
+        self.asks.reserve(1)?;
+        let pair = self.connections.next()?;
+        put_ask(&mut self.asks, DeskAsk::Next);
+        Ok(pair)
+    }
+
+    /// Takes back a connection that is out. It takes no memory.
+    pub fn take_back(&mut self, input: I, output: O)
+    where
+        I: Drop,
+        O: Drop,
+        ensures returned { TakesBack (Some self.old.returned) (end_of I.left I.faults O.written O.flushed O.faults (input, output)) (Some self.new.returned) }
+        ensures others { self.new ≡ with_returned self.new.returned self.old }
+    {
+        self.connections.take_back(input, output);
+    }
+}
