@@ -1,5 +1,5 @@
 -- What is printed of a floating address (Networking API reference, Show floating IP details).
-use Rattle.std.specs.Prelude.{List, [], ◌∷◌, Option, codes, is_some}
+use Rattle.std.specs.Prelude.{List, [], ◌∷◌, codes, is_some}
 use Rattle.api_types.specs.Printed.{NamedTree, word}
 use Rattle.api_types.specs.declared.floating.FloatingRow.{FloatingRow}
 use Rattle.api_types.specs.declared.floating.Target.{Target}

@@ -1,5 +1,5 @@
 -- What is printed of a security group and of a rule (Networking API reference, Show security group; Show security group rule).
-use Rattle.std.specs.Prelude.{ℕ, List, [], ◌∷◌, map, Bool, ◌==◌, Option, Some, None, codes, decimal, if◌then◌else◌}
+use Rattle.std.specs.Prelude.{ℕ, List, [], ◌∷◌, ◌==◌, Option, Some, None, codes, decimal, if◌then◌else◌}
 use Rattle.std.specs.List.{filter}
 use Rattle.std.specs.Option.{unwrap_or}
 use Rattle.api_types.specs.Printed.{NamedTree, Tree, branches_of, number, object, word}

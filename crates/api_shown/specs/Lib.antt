@@ -7,3 +7,5 @@ pub mod Routers
 pub mod Floatings
 pub mod Policies
 pub mod Shown
+pub mod Filtered
+pub mod Listed

@@ -1,6 +1,6 @@
 -- What a caller is shown of a row: all that is printed of it, without what is for administrators alone, and cut to the fields that
 -- are asked for (Networking API reference, fields; its policies on provider attributes and bindings).
-use Rattle.std.specs.Prelude.{ℕ, List, [], ◌∷◌, Bool, not, ◌&&◌, ◌||◌, Option, None, codes, length, option_map, ◌==◌}
+use Rattle.std.specs.Prelude.{ℕ, List, Bool, not, ◌&&◌, ◌||◌, Option, None, codes, length, option_map, ◌==◌}
 use Rattle.std.specs.List.{list_any, filter}
 use Rattle.std.specs.Str.{bytes_eq}
 use Rattle.api_types.specs.Ident.{Ident}
@@ -37,13 +37,13 @@ abbrev pub shown_as : Kind → Bool → List (List ℕ) → List NamedTree → S
 shown_as kind admin fields members = record { kind = kind; members = shown_members admin fields members }
 
 -- of a row with this id; a project is no row that is shown
-abbrev pub shown_at : RowLists → Bool → Kind → Ident → List (List ℕ) → Option ShownRow
-shown_at rows admin Project i fields = None
-shown_at rows admin Network i fields = option_map (λ r. shown_as Network admin fields (network_members rows r)) (row_of (λ r. r.id) i rows.networks)
-shown_at rows admin Subnet i fields = option_map (λ r. shown_as Subnet admin fields (subnet_members r)) (row_of (λ r. r.id) i rows.subnets)
-shown_at rows admin Port i fields = option_map (λ r. shown_as Port admin fields (port_members rows r)) (row_of (λ r. r.id) i rows.ports)
-shown_at rows admin Group i fields = option_map (λ r. shown_as Group admin fields (group_members rows r)) (row_of (λ r. r.id) i rows.groups)
-shown_at rows admin Rule i fields = option_map (λ r. shown_as Rule admin fields (rule_members r)) (row_of (λ r. r.id) i rows.rules)
-shown_at rows admin Router i fields = option_map (λ r. shown_as Router admin fields (router_members rows r)) (row_of (λ r. r.id) i rows.routers)
-shown_at rows admin Floating i fields = option_map (λ r. shown_as Floating admin fields (floating_members r)) (row_of (λ r. r.id) i rows.floatings)
-shown_at rows admin Policy i fields = option_map (λ r. shown_as Policy admin fields (policy_members r)) (row_of (λ r. r.id) i rows.policies)
+abbrev pub shown_at : RowLists → Caller → Kind → Ident → List (List ℕ) → Option ShownRow
+shown_at rows caller Project i fields = None
+shown_at rows caller Network i fields = option_map (λ r. shown_as Network caller.admin fields (network_members rows caller r)) (row_of (λ r. r.id) i rows.networks)
+shown_at rows caller Subnet i fields = option_map (λ r. shown_as Subnet caller.admin fields (subnet_members r)) (row_of (λ r. r.id) i rows.subnets)
+shown_at rows caller Port i fields = option_map (λ r. shown_as Port caller.admin fields (port_members rows r)) (row_of (λ r. r.id) i rows.ports)
+shown_at rows caller Group i fields = option_map (λ r. shown_as Group caller.admin fields (group_members rows r)) (row_of (λ r. r.id) i rows.groups)
+shown_at rows caller Rule i fields = option_map (λ r. shown_as Rule caller.admin fields (rule_members r)) (row_of (λ r. r.id) i rows.rules)
+shown_at rows caller Router i fields = option_map (λ r. shown_as Router caller.admin fields (router_members rows r)) (row_of (λ r. r.id) i rows.routers)
+shown_at rows caller Floating i fields = option_map (λ r. shown_as Floating caller.admin fields (floating_members r)) (row_of (λ r. r.id) i rows.floatings)
+shown_at rows caller Policy i fields = option_map (λ r. shown_as Policy caller.admin fields (policy_members r)) (row_of (λ r. r.id) i rows.policies)

@@ -5,7 +5,7 @@ ghost use Rattle.api_shown.specs.Trees.{null_or};
 
 use crate::members::Shows;
 use crate::printable::{object_of, push, push_value, push_word};
-use api_types::{Direction, Ethertype, GroupRow, Members, Printed, Rows, RuleRow};
+use api_types::{Caller, Direction, Ethertype, GroupRow, Members, Printed, Rows, RuleRow};
 use net_addr::{OutOfMemory, Seq, Text};
 use std::alloc::Global;
 
@@ -67,9 +67,14 @@ fn protocol_of(alloc: Global, rule: &RuleRow) -> Result<Printed, OutOfMemory>
 }
 
 impl Shows for RuleRow {
-    ghost members_of = { λ _ r. rule_members r };
+    ghost members_of = { λ _ _ r. rule_members r };
 
-    fn members(&self, alloc: Global, _rows: &Rows) -> Result<Members, OutOfMemory> {
+    fn members(
+        &self,
+        alloc: Global,
+        _rows: &Rows,
+        _caller: &Caller,
+    ) -> Result<Members, OutOfMemory> {
         let protocol = protocol_of(alloc, self)?;
         let direction = direction_word(self.direction);
         let ethertype = ethertype_word(self.ethertype);
@@ -90,20 +95,30 @@ impl Shows for RuleRow {
     }
 }
 
-fn rule_printed(alloc: Global, rows: &Rows, rule: &RuleRow) -> Result<Printed, OutOfMemory>
+fn rule_printed(
+    alloc: Global,
+    rows: &Rows,
+    caller: &Caller,
+    rule: &RuleRow,
+) -> Result<Printed, OutOfMemory>
     ensures { IfOk result (λ p. tree_of p ≡ rule_object rule.now) }
 {
-    Ok(object_of(rule.members(alloc, rows)?))
+    Ok(object_of(rule.members(alloc, rows, caller)?))
 }
 
 // The rules of a group, as objects.
-fn rules_of(alloc: Global, rows: &Rows, group: &GroupRow) -> Result<Vec<Printed>, OutOfMemory>
+fn rules_of(
+    alloc: Global,
+    rows: &Rows,
+    caller: &Caller,
+    group: &GroupRow,
+) -> Result<Vec<Printed>, OutOfMemory>
     ensures { IfOk result (λ v. map tree_of v.items ≡ map rule_object (rules_of_group rows.now.rules group.now)) }
 {
     let mut objects = Vec::new(alloc);
     for rule in rows.rules().rows() {
         if group.id == rule.group {
-            objects.push(rule_printed(alloc, rows, rule)?)?;
+            objects.push(rule_printed(alloc, rows, caller, rule)?)?;
         }
     }
     Ok(objects)
@@ -112,10 +127,10 @@ fn rules_of(alloc: Global, rows: &Rows, group: &GroupRow) -> Result<Vec<Printed>
 impl Shows for GroupRow {
     ghost use Rattle.api_shown.specs.Groups.{group_members};
 
-    ghost members_of = { group_members };
+    ghost members_of = { λ rows _ g. group_members rows g };
 
-    fn members(&self, alloc: Global, rows: &Rows) -> Result<Members, OutOfMemory> {
-        let rules = rules_of(alloc, rows, self)?;
+    fn members(&self, alloc: Global, rows: &Rows, caller: &Caller) -> Result<Members, OutOfMemory> {
+        let rules = rules_of(alloc, rows, caller, self)?;
         let mut all = Seq::new(alloc);
         push(alloc, &mut all, "description", &self.description)?;
         push(alloc, &mut all, "id", &self.id)?;

@@ -1,7 +1,7 @@
 ghost use Rattle.std.specs.Prelude.{◌≡◌, IfOk, map};
 ghost use Rattle.api_types.specs.Printed.{member_of};
 
-use api_types::{Keyed, Members, Rows};
+use api_types::{Caller, Keyed, Members, Rows};
 use net_addr::OutOfMemory;
 use std::alloc::Global;
 
@@ -10,11 +10,13 @@ pub trait Shows: Keyed {
     ghost use Rattle.std.specs.Prelude.{List};
     ghost use Rattle.api_types.specs.Printed.{NamedTree};
     ghost use Rattle.api_types.specs.RowLists.{RowLists};
+    ghost use Rattle.api_types.specs.declared.call.Caller.{Caller as TheCaller};
 
-    ghost members_of: { RowLists → Self → List NamedTree };
+    ghost members_of: { RowLists → TheCaller → Self → List NamedTree };
 
-    /// All members that are printed of the row, in byte order of their names. Its cost grows with
-    /// the row, and with the subnets, rules and policies.
-    fn members(&self, alloc: Global, rows: &Rows) -> Result<Members, OutOfMemory>
-        ensures { IfOk result (λ m. map member_of m ≡ members_of rows.now self.now) };
+    /// All members that are printed of the row, in byte order of their names. Of a network's
+    /// subnets those are named that the caller sees. Its cost grows with the row, the rules, and
+    /// the subnets times the policies.
+    fn members(&self, alloc: Global, rows: &Rows, caller: &Caller) -> Result<Members, OutOfMemory>
+        ensures { IfOk result (λ m. map member_of m ≡ members_of rows.now caller.now self.now) };
 }

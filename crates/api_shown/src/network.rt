@@ -4,7 +4,8 @@ ghost use Rattle.api_shown.specs.Networks.{is_open as is_open_to_all, number_of,
 
 use crate::members::Shows;
 use crate::printable::{Printable, push, push_value, push_word};
-use api_types::{Action, Id, Members, NetworkRow, PolicyRow, Printed, Rows, Segment, SubnetRow};
+use api_policy::Visible;
+use api_types::{Action, Caller, Id, Members, NetworkRow, PolicyRow, Printed, Rows, Segment};
 use net_addr::{OutOfMemory, Seq};
 use std::alloc::Global;
 
@@ -23,13 +24,18 @@ fn is_open(policies: &[PolicyRow], network: Id, action: Action) -> bool
         .any(|policy| permits_all(policy, network, action))
 }
 
-// The ids of the subnets of a network.
-fn subnets_of(alloc: Global, subnets: &[SubnetRow], network: Id) -> Result<Seq<Id>, OutOfMemory>
-    ensures { IfOk result (λ s. s ≡ subnets_of_network subnets.now network) }
+// The ids of the subnets of a network that the caller sees.
+fn subnets_of(
+    alloc: Global,
+    rows: &Rows,
+    caller: &Caller,
+    network: Id,
+) -> Result<Seq<Id>, OutOfMemory>
+    ensures { IfOk result (λ s. s ≡ subnets_of_network rows.now caller.now network) }
 {
     let mut ids = Vec::new(alloc);
-    for subnet in subnets {
-        if network == subnet.network {
+    for subnet in rows.subnets().rows() {
+        if network == subnet.network && subnet.is_seen(rows, caller) {
             ids.push(subnet.id)?;
         }
     }
@@ -71,11 +77,11 @@ impl Shows for NetworkRow {
 
     ghost members_of = { network_members };
 
-    fn members(&self, alloc: Global, rows: &Rows) -> Result<Members, OutOfMemory> {
+    fn members(&self, alloc: Global, rows: &Rows, caller: &Caller) -> Result<Members, OutOfMemory> {
         let policies = rows.policies().rows();
         let external = is_open(policies, self.id, Action::External);
         let shared = is_open(policies, self.id, Action::Shared);
-        let subnets = subnets_of(alloc, rows.subnets().rows(), self.id)?;
+        let subnets = subnets_of(alloc, rows, caller, self.id)?;
         let physical = physical(alloc, &self.segment)?;
         let mut all = Seq::new(alloc);
         push(alloc, &mut all, "admin_state_up", &self.up)?;

@@ -4,7 +4,7 @@ ghost use Rattle.api_shown.specs.Ports.{status_word, vif_word as word_of_vif};
 
 use crate::members::Shows;
 use crate::printable::{push, push_word};
-use api_types::{Members, PortRow, Rows, Vif};
+use api_types::{Caller, Members, PortRow, Rows, Vif};
 use net_addr::{OutOfMemory, Seq};
 use std::alloc::Global;
 
@@ -44,9 +44,14 @@ pub(crate) fn status(active: bool) -> &'static str
 impl Shows for PortRow {
     ghost use Rattle.api_shown.specs.Ports.{port_members};
 
-    ghost members_of = { port_members };
+    ghost members_of = { λ rows _ p. port_members rows p };
 
-    fn members(&self, alloc: Global, rows: &Rows) -> Result<Members, OutOfMemory> {
+    fn members(
+        &self,
+        alloc: Global,
+        rows: &Rows,
+        _caller: &Caller,
+    ) -> Result<Members, OutOfMemory> {
         let status = status(is_live(rows, self));
         let mut all = Seq::new(alloc);
         push(alloc, &mut all, "admin_state_up", &self.up)?;

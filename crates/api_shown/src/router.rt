@@ -9,7 +9,9 @@ ghost use Rattle.api_shown.specs.Trees.{fixed_object, list_of, null_or};
 use crate::members::Shows;
 use crate::port::status;
 use crate::printable::{Printable, object_of, push, push_value, push_word};
-use api_types::{Action, FloatingRow, Gateway, Members, PolicyRow, Printed, RouterRow, Rows};
+use api_types::{
+    Action, Caller, FloatingRow, Gateway, Members, PolicyRow, Printed, RouterRow, Rows,
+};
 use net_addr::{OutOfMemory, Seq};
 use std::alloc::Global;
 
@@ -48,9 +50,14 @@ fn gateway_of(alloc: Global, rows: &Rows, router: &RouterRow) -> Result<Printed,
 impl Shows for RouterRow {
     ghost use Rattle.api_shown.specs.Routers.{router_members};
 
-    ghost members_of = { router_members };
+    ghost members_of = { λ rows _ r. router_members rows r };
 
-    fn members(&self, alloc: Global, rows: &Rows) -> Result<Members, OutOfMemory> {
+    fn members(
+        &self,
+        alloc: Global,
+        rows: &Rows,
+        _caller: &Caller,
+    ) -> Result<Members, OutOfMemory> {
         let gateway = gateway_of(alloc, rows, self)?;
         let mut all = Seq::new(alloc);
         push(alloc, &mut all, "admin_state_up", &self.up)?;
@@ -69,9 +76,14 @@ impl Shows for RouterRow {
 impl Shows for FloatingRow {
     ghost use Rattle.api_shown.specs.Floatings.{floating_members};
 
-    ghost members_of = { λ _ f. floating_members f };
+    ghost members_of = { λ _ _ f. floating_members f };
 
-    fn members(&self, alloc: Global, _rows: &Rows) -> Result<Members, OutOfMemory> {
+    fn members(
+        &self,
+        alloc: Global,
+        _rows: &Rows,
+        _caller: &Caller,
+    ) -> Result<Members, OutOfMemory> {
         let fixed = self.target.map(|target| target.fixed);
         let port = self.target.map(|target| target.port);
         let router = self.target.map(|target| target.router);
@@ -103,9 +115,14 @@ fn action_word(action: Action) -> &'static str
 impl Shows for PolicyRow {
     ghost use Rattle.api_shown.specs.Policies.{policy_members};
 
-    ghost members_of = { λ _ p. policy_members p };
+    ghost members_of = { λ _ _ p. policy_members p };
 
-    fn members(&self, alloc: Global, _rows: &Rows) -> Result<Members, OutOfMemory> {
+    fn members(
+        &self,
+        alloc: Global,
+        _rows: &Rows,
+        _caller: &Caller,
+    ) -> Result<Members, OutOfMemory> {
         let mut all = Seq::new(alloc);
         push_word(alloc, &mut all, "action", action_word(self.action))?;
         push(alloc, &mut all, "id", &self.id)?;

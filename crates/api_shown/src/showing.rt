@@ -1,9 +1,9 @@
-ghost use Rattle.std.specs.Prelude.{◌≡◌, IfOk, map, option_map};
+ghost use Rattle.std.specs.Prelude.{◌≡◌, IfOk, IsTrue, Some, is_some, map, option_map};
 ghost use Rattle.std.specs.List.{list_any};
 ghost use Rattle.std.specs.Str.{bytes_eq};
 ghost use Rattle.api_types.specs.Table.{row_of};
 ghost use Rattle.api_types.specs.Printed.{member_of, shown_row};
-ghost use Rattle.api_shown.specs.Shown.{is_asked as is_asked_for, is_for_admins as is_for_administrators, shown_as, shown_at, shown_members};
+ghost use Rattle.api_shown.specs.Shown.{is_asked as is_asked_for, is_for_admins as is_for_administrators, is_told as is_told_to, shown_as, shown_at, shown_members};
 
 use crate::members::Shows;
 use api_types::{Caller, Id, Kind, Members, Rows, Shown, Table};
@@ -22,6 +22,12 @@ fn is_for_admins(name: &Text) -> bool
         || name == "provider:segmentation_id"
 }
 
+pub(crate) fn is_told(admin: bool, name: &Text) -> bool
+    ensures { result ≡ is_told_to admin name.now }
+{
+    admin || !is_for_admins(name)
+}
+
 fn is_among(names: &[Text], name: &Text) -> bool
     ensures { result ≡ list_any (bytes_eq name.now) names.now }
 {
@@ -35,7 +41,7 @@ fn is_asked(fields: &Names, name: &Text) -> bool
 }
 
 // The members that are told to the caller and asked for.
-fn kept(
+pub(crate) fn kept(
     alloc: Global,
     admin: bool,
     fields: &Names,
@@ -45,8 +51,7 @@ fn kept(
 {
     let mut kept = Vec::new(alloc);
     for member in members.into_vec() {
-        let told = admin || !is_for_admins(&member.0);
-        if told && is_asked(fields, &member.0) {
+        if is_told(admin, &member.0) && is_asked(fields, &member.0) {
             kept.push(member)?;
         }
     }
@@ -63,16 +68,16 @@ pub fn shown_of<R: Shows>(
     row: &R,
     fields: &Names,
 ) -> Result<Shown, OutOfMemory>
-    ensures { IfOk result (λ s. shown_row s ≡ shown_as kind caller.now.admin fields.now (R.members_of rows.now row.now)) }
+    ensures { IfOk result (λ s. shown_row s ≡ shown_as kind caller.now.admin fields.now (R.members_of rows.now caller.now row.now)) }
 {
-    let members = row.members(alloc, rows)?;
+    let members = row.members(alloc, rows, caller)?;
     Ok(Shown {
         kind,
         members: kept(alloc, caller.admin, fields, members)?,
     })
 }
 
-// What a caller is shown of the row of a table with this id.
+// The same of the row of a table with this id, where it is there.
 fn shown_in<R: Shows>(
     alloc: Global,
     rows: &Rows,
@@ -82,7 +87,7 @@ fn shown_in<R: Shows>(
     fields: &Names,
     table: &Table<R>,
 ) -> Result<Option<Shown>, OutOfMemory>
-    ensures { IfOk result (λ s. option_map shown_row s ≡ option_map (λ r. shown_as kind caller.now.admin fields.now (R.members_of rows.now r)) (row_of R.id_of id table.now)) }
+    ensures { IfOk result (λ s. option_map shown_row s ≡ option_map (λ r. shown_as kind caller.now.admin fields.now (R.members_of rows.now caller.now r)) (row_of R.id_of id table.now)) }
 {
     let _own_ids = table.rows();
     match table.get(id) {
@@ -91,9 +96,7 @@ fn shown_in<R: Shows>(
     }
 }
 
-/// What a caller is shown of the row of this kind with this id, where there is one. Whether the
-/// caller sees it isn't looked at. Its cost is that of `shown_of`.
-pub fn shown(
+fn shown_if_there(
     alloc: Global,
     rows: &Rows,
     caller: &Caller,
@@ -101,7 +104,7 @@ pub fn shown(
     id: Id,
     fields: &Names,
 ) -> Result<Option<Shown>, OutOfMemory>
-    ensures { IfOk result (λ s. option_map shown_row s ≡ shown_at rows.now caller.now.admin kind id fields.now) }
+    ensures { IfOk result (λ s. option_map shown_row s ≡ shown_at rows.now caller.now kind id fields.now) }
 {
     match kind {
         Kind::Project => Ok(None),
@@ -113,5 +116,24 @@ pub fn shown(
         Kind::Router => shown_in(alloc, rows, caller, kind, id, fields, rows.routers()),
         Kind::Floating => shown_in(alloc, rows, caller, kind, id, fields, rows.floatings()),
         Kind::Policy => shown_in(alloc, rows, caller, kind, id, fields, rows.policies()),
+    }
+}
+
+/// What a caller is shown of the row of this kind with this id, which has to be there. Whether the
+/// caller sees it isn't looked at. Its cost is that of `shown_of`.
+pub fn shown(
+    alloc: Global,
+    rows: &Rows,
+    caller: &Caller,
+    kind: Kind,
+    id: Id,
+    fields: &Names,
+) -> Result<Shown, OutOfMemory>
+    requires { IsTrue (is_some (shown_at rows.now caller.now kind id fields.now)) }
+    ensures { IfOk result (λ s. Some (shown_row s) ≡ shown_at rows.now caller.now kind id fields.now) }
+{
+    match shown_if_there(alloc, rows, caller, kind, id, fields)? {
+        Some(shown) => Ok(shown),
+        None => unreachable!(),
     }
 }

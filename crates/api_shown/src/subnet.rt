@@ -1,15 +1,20 @@
 use crate::members::Shows;
 use crate::printable::{push, push_value};
-use api_types::{Members, Printed, Rows, SubnetRow};
+use api_types::{Caller, Members, Printed, Rows, SubnetRow};
 use net_addr::{OutOfMemory, Seq};
 use std::alloc::Global;
 
 impl Shows for SubnetRow {
     ghost use Rattle.api_shown.specs.Subnets.{subnet_members};
 
-    ghost members_of = { λ _ s. subnet_members s };
+    ghost members_of = { λ _ _ s. subnet_members s };
 
-    fn members(&self, alloc: Global, _rows: &Rows) -> Result<Members, OutOfMemory> {
+    fn members(
+        &self,
+        alloc: Global,
+        _rows: &Rows,
+        _caller: &Caller,
+    ) -> Result<Members, OutOfMemory> {
         let mut all = Seq::new(alloc);
         push(alloc, &mut all, "allocation_pools", &self.pools)?;
         push(alloc, &mut all, "cidr", &self.prefix)?;

@@ -1,4 +1,4 @@
-use Rattle.std.proofs.Common.{◌≡◌, ap, ◌∙◌}
+use Rattle.std.proofs.Common.{ap, ◌∙◌}
 use Rattle.api_types.specs.Printed.{branches_of, object}
 use Rattle.api_shown.proofs.group.rule_printed.Goals as goal
 

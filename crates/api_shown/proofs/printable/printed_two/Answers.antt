@@ -1,4 +1,4 @@
-use Rattle.std.proofs.Common.{◌≡◌, ap, ◌∙◌, map}
+use Rattle.std.proofs.Common.{ap, ◌∙◌, map}
 use Rattle.api_types.specs.Printed.{branches_of, member_of, object}
 use Rattle.api_shown.proofs.ListLemmas.{grown}
 use Rattle.api_shown.proofs.printable.printed_two.Goals as goal

@@ -1,4 +1,4 @@
-use Rattle.std.proofs.Common.{◌≡◌, ap, ◌∙◌, map, [], ◌∷◌}
+use Rattle.std.proofs.Common.{ap, ◌∙◌, map, [], ◌∷◌}
 use Rattle.std.specs.Prelude.{codes}
 use Rattle.api_types.specs.Printed.{branches_of, member_of, object, truth}
 use Rattle.api_shown.specs.Trees.{id_word}

@@ -1,0 +1,203 @@
+ghost use Rattle.std.specs.Prelude.{◌≡◌, ◌&&◌, IfOk, IsTrue, None, Some, drop, if◌then◌else◌, map, option_map};
+ghost use Rattle.std.specs.Result.{IfErr};
+ghost use Rattle.api_types.specs.Lists.{is_some_so};
+ghost use Rattle.api_types.specs.Printed.{shown_row};
+ghost use Rattle.api_policy.specs.Visibility.{sees_row};
+ghost use Rattle.api_shown.specs.Filtered.{meets as meets_all};
+ghost use Rattle.api_shown.specs.Listed.{IsListRefusal, behind as rows_behind, behind_marker as rows_behind_marker, cut, has_marker, is_full as is_at_limit, listed as rows_listed, listed_in as rows_listed_in, listed_of as rows_listed_of};
+ghost use Rattle.api_shown.specs.Shown.{shown_as};
+
+use crate::filtering::meets;
+use crate::members::Shows;
+use crate::showing::kept;
+use api_policy::{Visible, sees};
+use api_types::{Caller, Id, IdText, Kind, Query, Rows, Shown, ShownList, Table};
+use net_addr::{Copies, OutOfMemory, Seq, Text};
+use std::alloc::Global;
+
+/// Why rows aren't listed.
+#[derive(Drop)]
+pub enum ListRefusal {
+    /// The text of the marker, which is no row of the kind that the caller sees.
+    NoMarker(Text),
+    /// Memory could not be had.
+    OutOfMemory,
+}
+
+impl From<OutOfMemory> for ListRefusal {
+    ghost use Rattle.api_shown.specs.declared.listing.ListRefusal.TheVariants.{OutOfMemory as MemoryRefusal};
+
+    ghost from_gives = { λ _ e. e ≡ MemoryRefusal };
+
+    fn from(_e: OutOfMemory) -> ListRefusal {
+        ListRefusal::OutOfMemory
+    }
+}
+
+// What is shown of a row, where the caller sees it and it meets the filters.
+fn shown_if_met<R: Shows + Visible>(
+    alloc: Global,
+    rows: &Rows,
+    caller: &Caller,
+    kind: Kind,
+    row: &R,
+    query: &Query,
+) -> Result<Option<Shown>, OutOfMemory>
+    ensures { IfOk result (λ s. option_map shown_row s ≡ (if R.seen rows.now caller.now row.now && meets_all caller.now.admin query.now.filters (R.members_of rows.now caller.now row.now)
+        then Some (shown_as kind caller.now.admin query.now.fields (R.members_of rows.now caller.now row.now)) else None)) }
+{
+    if !row.is_seen(rows, caller) {
+        return Ok(None);
+    }
+    let members = row.members(alloc, rows, caller)?;
+    if !meets(alloc, caller.admin, &members, query.filters.as_slice())? {
+        return Ok(None);
+    }
+    let members = kept(alloc, caller.admin, &query.fields, members)?;
+    Ok(Some(Shown { kind, members }))
+}
+
+// Whether so many rows are as many as the limit.
+fn is_full(limit: Option<u32>, many: usize) -> bool
+    ensures { result ≡ is_at_limit limit many }
+{
+    match limit {
+        Some(limit) => limit as usize <= many,
+        None => false,
+    }
+}
+
+// What is shown of the first rows, up to the limit, that the caller sees and that meet the filters.
+fn listed_of<R: Shows + Visible>(
+    alloc: Global,
+    rows: &Rows,
+    caller: &Caller,
+    kind: Kind,
+    candidates: &[R],
+    query: &Query,
+) -> Result<ShownList, OutOfMemory>
+    ensures { IfOk result (λ s. map shown_row s ≡ cut query.now.limit (rows_listed_of (R.seen rows.now caller.now) (R.members_of rows.now caller.now) kind caller.now.admin query.now candidates.now)) }
+{
+    let mut listed = Vec::new(alloc);
+    for row in candidates {
+        if is_full(query.limit, listed.len()) {
+            break;
+        }
+        if let Some(shown) = shown_if_met(alloc, rows, caller, kind, row, query)? {
+            listed.push(shown)?;
+        }
+    }
+    Ok(Seq::from_vec(listed))
+}
+
+// The rows behind the one with this id, and none where it isn't there.
+fn behind<R: Shows>(candidates: &[R], id: Id) -> &[R]
+    ensures { result.now ≡ rows_behind R.id_of id candidates.now }
+{
+    for (place, row) in candidates.iter().enumerate() {
+        if id == row.id() {
+            return &candidates[place + 1..];
+        }
+    }
+    &candidates[candidates.len()..]
+}
+
+// The rows behind the marker's, and all where there is no marker.
+fn behind_marker<'a, R: Shows>(candidates: &'a [R], marker: &Option<IdText>) -> &'a [R]
+    ensures { result.now ≡ rows_behind_marker R.id_of marker.now candidates.now }
+{
+    match marker {
+        Some(marker) => match marker.id {
+            Some(id) => behind(candidates, id),
+            None => &candidates[candidates.len()..],
+        },
+        None => candidates,
+    }
+}
+
+fn listed_in<R: Shows + Visible>(
+    alloc: Global,
+    rows: &Rows,
+    caller: &Caller,
+    kind: Kind,
+    table: &Table<R>,
+    query: &Query,
+) -> Result<ShownList, OutOfMemory>
+    ensures { IfOk result (λ s. map shown_row s ≡ rows_listed_in R.id_of (R.seen rows.now caller.now) (R.members_of rows.now caller.now) kind caller.now.admin query.now table.now) }
+{
+    let candidates = behind_marker(table.rows(), &query.marker);
+    listed_of(alloc, rows, caller, kind, candidates, query)
+}
+
+fn listed_by_kind(
+    alloc: Global,
+    rows: &Rows,
+    caller: &Caller,
+    kind: Kind,
+    query: &Query,
+) -> Result<ShownList, OutOfMemory>
+    ensures { IfOk result (λ s. map shown_row s ≡ rows_listed rows.now caller.now kind query.now) }
+{
+    match kind {
+        Kind::Project => Ok(Seq::new(alloc)),
+        Kind::Network => listed_in(alloc, rows, caller, kind, rows.networks(), query),
+        Kind::Subnet => listed_in(alloc, rows, caller, kind, rows.subnets(), query),
+        Kind::Port => listed_in(alloc, rows, caller, kind, rows.ports(), query),
+        Kind::Group => listed_in(alloc, rows, caller, kind, rows.groups(), query),
+        Kind::Rule => listed_in(alloc, rows, caller, kind, rows.rules(), query),
+        Kind::Router => listed_in(alloc, rows, caller, kind, rows.routers(), query),
+        Kind::Floating => listed_in(alloc, rows, caller, kind, rows.floatings(), query),
+        Kind::Policy => listed_in(alloc, rows, caller, kind, rows.policies(), query),
+    }
+}
+
+// Whether the marker is a row of the kind that the caller sees.
+fn is_seen(rows: &Rows, caller: &Caller, kind: Kind, marker: &IdText) -> bool
+    ensures { result ≡ is_some_so (sees_row rows.now caller.now kind) marker.now.id }
+{
+    match marker.id {
+        Some(id) => sees(rows, caller, kind, id),
+        None => false,
+    }
+}
+
+fn check_marker(
+    alloc: Global,
+    rows: &Rows,
+    caller: &Caller,
+    kind: Kind,
+    marker: &Option<IdText>,
+) -> Result<(), ListRefusal>
+    ensures marker { IfOk result (λ _. IsTrue (has_marker rows.now caller.now kind marker.now)) }
+    ensures refused { IfErr result (IsListRefusal rows.now caller.now kind marker.now) }
+{
+    match marker {
+        Some(marker) => {
+            if is_seen(rows, caller, kind, marker) {
+                return Ok(());
+            }
+            Err(ListRefusal::NoMarker(marker.text.copy(alloc)?))
+        }
+        None => Ok(()),
+    }
+}
+
+/// What a caller is shown of the rows of this kind: of those behind the marker's row, which has to
+/// be one of the kind that the caller sees, the ones that it sees and that meet the filters, up to
+/// the limit, in order of creation. The marker's row need not meet the filters. Only members that
+/// the caller is told are compared. Its cost grows with the rows of the kind, each by what it is to
+/// make its members and by the square of the filters.
+pub fn listed(
+    alloc: Global,
+    rows: &Rows,
+    caller: &Caller,
+    kind: Kind,
+    query: &Query,
+) -> Result<ShownList, ListRefusal>
+    ensures rows { IfOk result (λ s. map shown_row s ≡ rows_listed rows.now caller.now kind query.now) }
+    ensures marker { IfOk result (λ _. IsTrue (has_marker rows.now caller.now kind query.now.marker)) }
+    ensures refused { IfErr result (IsListRefusal rows.now caller.now kind query.now.marker) }
+{
+    check_marker(alloc, rows, caller, kind, &query.marker)?;
+    Ok(listed_by_kind(alloc, rows, caller, kind, query)?)
+}
