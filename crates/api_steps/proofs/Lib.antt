@@ -1,0 +1,9 @@
+pub mod ListLemmas
+pub mod FootingLemmas
+pub mod ShownAlike
+pub mod NetworksApart
+pub mod DrawnAlike
+pub mod NetworkMadeApart
+pub mod PortsApart
+pub mod ListsApart
+pub mod StepApart

@@ -1,0 +1,12 @@
+pub mod State
+pub mod Refusing
+pub mod Given
+pub mod Numbers
+pub mod Binding
+pub mod Reads
+pub mod Networks
+pub mod Ports
+pub mod NotBuilt
+pub mod Footing
+pub mod InForm
+pub mod Step

@@ -1,0 +1,21 @@
+//! What each call of the Networking API comes to, and the laws of it.
+//!
+//! Definitions and laws alone, over the rows of `api_types`: `api_step` is a function of settings,
+//! rows, version, caller and call. The functions here do nothing, and their contracts are the laws;
+//! the machine's code cites the definitions, so nothing is proved twice.
+#![tactic(auto)]
+
+ghost use Rattle.std.specs.Prelude.{◌≡◌, false};
+ghost use Rattle.api_types.specs.Consistent.{IsConsistent};
+ghost use Rattle.api_types.specs.declared.call.Call.{Call};
+ghost use Rattle.api_types.specs.declared.call.Caller.{Caller};
+ghost use Rattle.net_settings.specs.Settings.{SettingsParts};
+ghost use Rattle.api_steps.specs.Footing.{footing};
+ghost use Rattle.api_steps.specs.Refusing.{told};
+ghost use Rattle.api_steps.specs.State.{State};
+ghost use Rattle.api_steps.specs.Step.{api_step};
+
+/// A tenant is told the same at any two consistent states in which it has the same footing.
+pub fn tenants_stay_apart()
+    ensures apart { (settings : SettingsParts) (caller : Caller) (s t : State) → caller.admin ≡ false → IsConsistent s.rows → IsConsistent t.rows → footing settings s caller ≡ footing settings t caller → (call : Call) → told (api_step settings s caller call) ≡ told (api_step settings t caller call) }
+{}
