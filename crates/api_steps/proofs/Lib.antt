@@ -7,3 +7,4 @@ pub mod NetworkMadeApart
 pub mod PortsApart
 pub mod ListsApart
 pub mod StepApart
+pub mod HiddenNetwork
