@@ -1,0 +1,4 @@
+pub mod Broken
+pub mod Carrying
+pub mod Placing
+pub mod FirstBroken

@@ -1,0 +1,95 @@
+ghost use Rattle.std.specs.Prelude.{◌≡◌, ◌||◌, not, position};
+ghost use Rattle.std.specs.List.{list_any, list_all};
+ghost use Rattle.std.specs.Str.{bytes_eq};
+ghost use Rattle.api_types.specs.Lists.{stands_so, is_some_so};
+ghost use Rattle.api_types.specs.Owners.{is_port_of as port_of};
+ghost use Rattle.api_types.specs.declared.kind.Kind.TheVariants.{Port};
+ghost use Rattle.api_check.specs.Broken.{breaks};
+ghost use Rattle.api_check.specs.Carrying.{can_carry as carried_by, carries as carried_at};
+ghost use Rattle.api_check.specs.Placing.{port_placed};
+
+use crate::broken::{Inconsistent, told};
+use api_types::{Kind, NetworkRow, PortRow, RouterRow, Rows, Segment, Vif};
+use net_addr::Text;
+use net_settings::{Host, Settings};
+use row_tests::is_port_of;
+
+fn is_wired(host: &Host, physical: &Text) -> bool
+    ensures { result ≡ list_any (bytes_eq physical.now) host.now.physical }
+{
+    host.physical
+        .as_slice()
+        .iter()
+        .any(|other| physical == other)
+}
+
+fn can_carry(host: &Host, segment: &Segment) -> bool
+    ensures { result ≡ carried_by host.now segment.now }
+{
+    match segment {
+        Segment::Local => true,
+        Segment::Flat { physical } => is_wired(host, physical),
+        Segment::Vlan { physical, tag: _ } => is_wired(host, physical),
+        Segment::Vxlan { number: _ } => host.vxlan,
+    }
+}
+
+fn carries(hosts: &[Host], name: &Text, segment: &Segment) -> bool
+    ensures { result ≡ carried_at hosts.now name.now segment.now }
+{
+    hosts
+        .iter()
+        .any(|host| host.name == *name && can_carry(host, segment))
+}
+
+fn is_carried(hosts: &[Host], networks: &[NetworkRow], port: &PortRow) -> bool
+    ensures { result ≡ stands_so (λ n. n.id) port.now.network (λ n. carried_at hosts.now port.now.host n.segment) networks.now }
+{
+    networks.iter().any(|network| {
+        port.network == network.id && carries(hosts, &port.host, &network.segment)
+    })
+}
+
+fn is_on(port: &PortRow, router: &RouterRow) -> bool
+    ensures { result ≡ not (port_of router.now port.now) || is_some_so (bytes_eq port.now.host) router.now.host }
+{
+    let there = match &router.host {
+        Some(host) => port.host == *host,
+        None => false,
+    };
+    !is_port_of(router, port) || there
+}
+
+fn is_with_router(routers: &[RouterRow], port: &PortRow) -> bool
+    ensures { result ≡ list_all (λ r. not (port_of r port.now) || is_some_so (bytes_eq port.now.host) r.host) routers.now }
+{
+    routers.iter().all(|router| is_on(port, router))
+}
+
+fn is_placed(hosts: &[Host], rows: &Rows, port: &PortRow) -> bool
+    ensures { result ≡ port_placed (carried_at hosts.now) rows.now port.now }
+{
+    port.vif != Vif::Ovs
+        || (is_carried(hosts, rows.networks().rows(), port)
+            && is_with_router(rows.routers().rows(), port))
+}
+
+fn first_port(hosts: &[Host], rows: &Rows, ports: &[PortRow]) -> Option<usize>
+    ensures { result ≡ position (λ r. not (port_placed (carried_at hosts.now) rows.now r)) ports.now }
+{
+    ports.iter().position(|port| !is_placed(hosts, rows, port))
+}
+
+fn broken_port(hosts: &[Host], rows: &Rows) -> Option<Inconsistent>
+    ensures { result ≡ breaks 8 Port (λ r. r.id) (port_placed (carried_at hosts.now) rows.now) rows.now.ports }
+{
+    let ports = rows.ports().rows();
+    told(8, Kind::Port, ports, first_port(hosts, rows, ports))
+}
+
+/// Ports that are bound to hosts that can't carry them, or to another host than their router.
+pub(crate) fn broken_placing(settings: &Settings, rows: &Rows) -> Option<Inconsistent>
+    ensures { result ≡ breaks 8 Port (λ r. r.id) (port_placed (carried_at settings.now.hosts) rows.now) rows.now.ports }
+{
+    broken_port(settings.hosts(), rows)
+}
