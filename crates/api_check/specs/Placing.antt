@@ -1,4 +1,5 @@
--- What consistency asks of a bound port: its host can carry its network's segment, and is that of its router.
+-- What consistency asks of a bound port: its host can carry its network's segment, and is that of its router
+-- (Neutron ML2 guide, port binding).
 use Rattle.std.specs.Prelude.{ℕ, ◌&&◌, ◌||◌, not, Bool, List}
 use Rattle.std.specs.List.{list_all}
 use Rattle.std.specs.Str.{bytes_eq}

@@ -1,5 +1,5 @@
--- What consistency asks of a single row: its number, what it names, its form, what it holds and its segment. Where two rows break a
--- clause together, both fail.
+-- What consistency asks of a single row: its number, what it names, its form, what it holds and its segment (Networking API
+-- reference v2.0, the refusals of each call). Where two rows break a clause together, both fail.
 use Rattle.std.specs.Prelude.{ℕ, ◌+◌, ◌^◌, ◌==◌, ◌&&◌, ◌||◌, not, nat_lt, nat_le, Bool, List, count_by, sum_by}
 use Rattle.std.specs.List.{list_all}
 use Rattle.api_types.specs.Ident.{Ident}

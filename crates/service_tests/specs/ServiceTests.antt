@@ -1,5 +1,6 @@
 -- What consistency asks of a single row about services: the ports of DHCP, of routers and of floating addresses, groups, and what
--- policies permit. Where two rows break a clause together, both fail.
+-- policies permit (Networking API reference v2.0, the refusals of each call; Neutron's constants of device owners). Where two
+-- rows break a clause together, both fail.
 use Rattle.std.specs.Prelude.{◌==◌, ◌&&◌, ◌||◌, not, nat_le, cond, Bool, List, count_by}
 use Rattle.std.specs.List.{list_any, list_all}
 use Rattle.api_types.specs.Table.{ident_eq}
