@@ -1,0 +1,13 @@
+//! Security groups: who is a member of one.
+//!
+//! A rule may speak of the members of a remote group: the fixed addresses, and the prefixes of the
+//! allowed address pairs, of all ports that name it. `is_member` tells of an address whether it is
+//! among them, and `members` lists them as prefixes. It stands on the rows of `api_types`, and on
+//! the definitions of `plane_types`.
+#![tactic(auto)]
+
+mod listed;
+mod member;
+
+pub use listed::members;
+pub use member::is_member;

@@ -1,0 +1,13 @@
+use Rattle.std.proofs.Common.{◌≡◌, ◌==◌, drop}
+use Rattle.std.specs.Prelude.{find}
+use Rattle.std.specs.List.{filter_map}
+use Rattle.api_types.specs.declared.floating.FloatingRow.{FloatingRow}
+use Rattle.plane_types.specs.RouterRows.{float_by}
+use Rattle.plane_types.specs.Routing.{Float}
+use Rattle.plane_rows.proofs.routers.fixed_behind.Given as goal
+
+-- none so far is sought
+abbrev pub invariant-loop-row : goal.invariant-loop-row
+invariant-loop-row l =
+    find (λ (f : Float). f.floating == l.floating) (filter_map (λ (f : FloatingRow). float_by l.router.id f f.target) (drop l.row-index l.row-items))
+    ≡ find (λ (f : Float). f.floating == l.floating) (filter_map (λ (f : FloatingRow). float_by l.router.id f f.target) l.rows.floatings)

@@ -1,0 +1,251 @@
+ghost use Rattle.std.specs.Prelude.{◌≡◌, ◌++◌, IfOk, OnOk, Some, find, flat_map, map, option_copied, option_map, option_to_list};
+ghost use Rattle.std.specs.List.{filter_map};
+ghost use Rattle.api_types.specs.Table.{ident_eq};
+ghost use Rattle.api_types.specs.declared.port.Fixed.{Fixed as TheFixed};
+ghost use Rattle.api_types.specs.declared.port.PortRow.{PortRow as ThePort};
+ghost use Rattle.api_types.specs.declared.subnet.SubnetRow.{SubnetRow as TheSubnet};
+ghost use Rattle.plane_types.specs.Ascending.{ascending as in_order};
+ghost use Rattle.plane_types.specs.Holders.{gateway_port as gateway_by_rows};
+ghost use Rattle.plane_types.specs.RouterRows.{by_address, connected_by, connected_ways as connected_by_rows, default_of as default_by_rows, extra_way as extra_by_rows, extra_ways as extras_by_rows, default_by, holds_next as holds_next_hop, legs_of, subnet_named, way_by as way_by_port, ways_of as ways_by_rows};
+ghost use Rattle.plane_rows.specs.Ways.{default_of_port, way_of};
+
+use crate::holders::gateway_port;
+use crate::live::is_live;
+use crate::order::{Ordered, ascending};
+use crate::routers::{first_fixed, is_leg, leg_in};
+use api_types::{Fixed, Hop, Id, PortRow, RouterRow, Rows, SubnetRow};
+use net_addr::{Addr4, OutOfMemory, Prefix4};
+use plane_types::RouteRank;
+use std::alloc::Global;
+
+/// A route of a router: packets for its prefix go to the next hop, or where there is none to their
+/// destination, by the port.
+#[derive(Clone, Copy)]
+pub struct Way {
+    pub prefix: Prefix4,
+    pub rank: RouteRank,
+    pub next: Option<Addr4>,
+    pub port: Id,
+}
+
+impl Ordered for Fixed {
+    ghost use Rattle.plane_types.specs.RouterRows.{by_address};
+
+    ghost before = { by_address };
+
+    fn is_before(&self, other: &Fixed) -> bool {
+        self.address < other.address
+    }
+}
+
+// The route that leaves by the first port of the router in a subnet.
+fn way_by(
+    rows: &Rows,
+    router: &RouterRow,
+    subnet: Id,
+    prefix: Prefix4,
+    rank: RouteRank,
+    next: Option<Addr4>,
+) -> Option<Way>
+    ensures { option_map way_of result ≡ way_by_port (legs_of rows.now router.now) subnet prefix rank next }
+{
+    match leg_in(rows, router, subnet) {
+        Some(port) => Some(Way {
+            prefix,
+            rank,
+            next,
+            port: port.id,
+        }),
+        None => None,
+    }
+}
+
+/// The subnet with this id.
+pub fn named_subnet(rows: &Rows, id: Id) -> Option<&SubnetRow>
+    ensures { option_copied result ≡ subnet_named rows.now id }
+{
+    let subnets = rows.subnets();
+    let _own_ids = subnets.rows();
+    subnets.get(id)
+}
+
+fn connected_way(rows: &Rows, router: &RouterRow, fixed: Fixed) -> Option<Way>
+    ensures { option_map way_of result ≡ connected_by (legs_of rows.now router.now) (subnet_named rows.now fixed.subnet) }
+{
+    let subnet = named_subnet(rows, fixed.subnet)?;
+    way_by(
+        rows,
+        router,
+        subnet.id,
+        subnet.prefix,
+        RouteRank::Connected,
+        None,
+    )
+}
+
+// Adds the routes to the subnets of a port of the router.
+fn add_connected_of(
+    alloc: Global,
+    rows: &Rows,
+    router: &RouterRow,
+    port: &PortRow,
+    ways: &mut Vec<Way>,
+) -> Result<(), OutOfMemory>
+    ensures { OnOk result (map way_of ways.new.items ≡ map way_of ways.old.items ++ filter_map (λ (f : TheFixed). connected_by (legs_of rows.now router.now) (subnet_named rows.now f.subnet)) (in_order by_address port.now.fixed)) }
+{
+    let held = Vec::from_slice(alloc, port.fixed.as_slice())?;
+    let held = ascending(alloc, held)?;
+    for fixed in held.as_slice() {
+        if let Some(way) = connected_way(rows, router, *fixed) {
+            ways.push(way)?;
+        }
+    }
+    Ok(())
+}
+
+// Adds the routes to the subnets of all live ports of the router.
+#[tactic(auto, unfolding(plane_types::specs::RouterRows::connected_ways, plane_types::specs::RouterRows::legs_of))]
+fn add_connected(
+    alloc: Global,
+    rows: &Rows,
+    router: &RouterRow,
+    ways: &mut Vec<Way>,
+) -> Result<(), OutOfMemory>
+    ensures { OnOk result (map way_of ways.new.items ≡ map way_of ways.old.items ++ connected_by_rows rows.now (legs_of rows.now router.now)) }
+{
+    for port in rows.ports().rows() {
+        if is_leg(rows, router, port) {
+            add_connected_of(alloc, rows, router, port, ways)?;
+        }
+    }
+    Ok(())
+}
+
+// Whether the address lies in the subnet of a held one.
+fn holds_next(rows: &Rows, address: Addr4, fixed: Fixed) -> bool
+    ensures { result ≡ holds_next_hop rows.now address fixed }
+{
+    rows.subnets().rows().iter().any(|subnet| fixed.subnet == subnet.id
+        && subnet.prefix.contains(address))
+}
+
+fn fixed_of_port(rows: &Rows, port: &PortRow, address: Addr4) -> Option<Fixed>
+    ensures { result ≡ find (holds_next_hop rows.now address) port.now.fixed }
+{
+    for fixed in port.fixed.as_slice() {
+        if holds_next(rows, address, *fixed) {
+            return Some(*fixed);
+        }
+    }
+    None
+}
+
+// The first address of a live port of the router in whose subnet the address lies.
+#[tactic(auto, unfolding(plane_types::specs::RouterRows::legs_of))]
+fn fixed_toward(rows: &Rows, router: &RouterRow, address: Addr4) -> Option<Fixed>
+    ensures { result ≡ find (holds_next_hop rows.now address) (flat_map (λ (p : ThePort). p.fixed) (legs_of rows.now router.now)) }
+{
+    for port in rows.ports().rows() {
+        if is_leg(rows, router, port) {
+            if let Some(fixed) = fixed_of_port(rows, port, address) {
+                return Some(fixed);
+            }
+        }
+    }
+    None
+}
+
+fn extra_way(rows: &Rows, router: &RouterRow, hop: Hop) -> Option<Way>
+    ensures { option_map way_of result ≡ extra_by_rows rows.now (legs_of rows.now router.now) hop }
+{
+    let fixed = fixed_toward(rows, router, hop.next)?;
+    way_by(
+        rows,
+        router,
+        fixed.subnet,
+        hop.destination,
+        RouteRank::Extra,
+        Some(hop.next),
+    )
+}
+
+// Adds the router's own routes that lead somewhere.
+#[tactic(auto, unfolding(plane_types::specs::RouterRows::extra_ways))]
+fn add_extra(rows: &Rows, router: &RouterRow, ways: &mut Vec<Way>) -> Result<(), OutOfMemory>
+    ensures { OnOk result (map way_of ways.new.items ≡ map way_of ways.old.items ++ extras_by_rows rows.now (legs_of rows.now router.now) router.now.routes) }
+{
+    for hop in router.routes.as_slice() {
+        if let Some(way) = extra_way(rows, router, *hop) {
+            ways.push(way)?;
+        }
+    }
+    Ok(())
+}
+
+// 0.0.0.0/0.
+fn everything() -> Prefix4
+    ensures { result ≡ record { base = 0; len = 0 } }
+{
+    Prefix4 {
+        base: Addr4(0),
+        len: 0,
+    }
+}
+
+fn default_in(rows: &Rows, router: &RouterRow, subnet: &SubnetRow) -> Option<Way>
+    ensures { option_to_list (option_map way_of result) ≡ default_by (legs_of rows.now router.now) (Some subnet.now) }
+{
+    let gateway = subnet.gateway?;
+    way_by(
+        rows,
+        router,
+        subnet.id,
+        everything(),
+        RouteRank::Default,
+        Some(gateway),
+    )
+}
+
+fn live_gateway_port<'r>(rows: &'r Rows, router: &RouterRow) -> Option<&'r PortRow>
+    ensures { default_of_port rows.now (legs_of rows.now router.now) (option_copied result) ≡ default_by_rows rows.now (legs_of rows.now router.now) (gateway_by_rows rows.now router.now) }
+{
+    let port = gateway_port(rows, router)?;
+    if is_live(rows, port) {
+        Some(port)
+    } else {
+        None
+    }
+}
+
+// Adds the route by the gateway of the subnet of the gateway port's first address.
+fn add_default(rows: &Rows, router: &RouterRow, ways: &mut Vec<Way>) -> Result<(), OutOfMemory>
+    ensures { OnOk result (map way_of ways.new.items ≡ map way_of ways.old.items ++ default_by_rows rows.now (legs_of rows.now router.now) (gateway_by_rows rows.now router.now)) }
+{
+    let Some(port) = live_gateway_port(rows, router) else {
+        return Ok(());
+    };
+    let Some(fixed) = first_fixed(port) else {
+        return Ok(());
+    };
+    let Some(subnet) = named_subnet(rows, fixed.subnet) else {
+        return Ok(());
+    };
+    if let Some(way) = default_in(rows, router, subnet) {
+        ways.push(way)?;
+    }
+    Ok(())
+}
+
+/// The routes of a router: to the subnets of its live ports, then its own ones, then the default
+/// one. Its cost grows with the router's addresses and routes times the ports, and with the square
+/// of a port's addresses.
+#[tactic(auto, unfolding(plane_types::specs::RouterRows::ways_of))]
+pub fn ways_of(alloc: Global, rows: &Rows, router: &RouterRow) -> Result<Vec<Way>, OutOfMemory>
+    ensures { IfOk result (λ v. map way_of v.items ≡ ways_by_rows rows.now router.now) }
+{
+    let mut ways = Vec::new(alloc);
+    add_connected(alloc, rows, router, &mut ways)?;
+    add_extra(rows, router, &mut ways)?;
+    add_default(rows, router, &mut ways)?;
+    Ok(ways)
+}
