@@ -1,0 +1,4 @@
+mod LegLemmas
+mod RouteLemmas
+mod TurnLemmas
+mod UseLemmas

@@ -1,0 +1,155 @@
+ghost use Rattle.std.specs.Prelude.{◌≡◌, IfOk, find};
+ghost use Rattle.api_types.specs.Owners.{holds_in as held_in};
+ghost use Rattle.api_types.specs.declared.port.Fixed.{Fixed as TheFixed};
+ghost use Rattle.plane_types.specs.Meaning.{answered as lease_answer, asked as address_asked, lease_asked as lease_asked_of, lease_for as lease_of_port, lease_in as lease_by, lease_of as lease_from, leased as leased_by, out_of as out_or_dropped};
+ghost use Rattle.plane_types.specs.Packets.{address_ask, lease_ask};
+
+use api_types::{Fixed, Id, PortRow, Rows, SubnetRow};
+use net_addr::{Addr4, Copies, Mac, OutOfMemory, Text};
+use plane_rows::{dhcp_port, has_wire, holder, holds_in, joined_with, named_subnet, port_at};
+use plane_types::{AskAnswer, DropCause, Frame, Lease, Outcome, Toward};
+use std::alloc::Global;
+
+/// Out on a network that a physical one carries, else dropped.
+pub(crate) fn out_of(
+    rows: &Rows,
+    network: Id,
+    toward: Toward,
+    frame: Frame,
+    cause: DropCause,
+) -> Outcome
+    ensures { result ≡ out_or_dropped rows.now network toward frame cause }
+{
+    if has_wire(rows, network) {
+        Outcome::Out {
+            network,
+            toward,
+            frame,
+        }
+    } else {
+        Outcome::Dropped(cause)
+    }
+}
+
+/// What an ask for an address (RFC 826) by a port of a host comes to: its holder's MAC, where that
+/// is joined with the asker.
+pub(crate) fn asked(
+    rows: &Rows,
+    network: Id,
+    host: &Text,
+    src: Mac,
+    from: Addr4,
+    to: Addr4,
+) -> Outcome
+    ensures { result ≡ address_asked rows.now network host.now (address_ask src from to) }
+{
+    match joined_with(rows, host, holder(rows, network, to)) {
+        Some(port) => Outcome::Answered(AskAnswer::Arp {
+            address: to,
+            mac: port.mac,
+        }),
+        None => out_of(
+            rows,
+            network,
+            Toward::Address(to),
+            Frame::ArpAsk { src, from, to },
+            DropCause::NoHolder,
+        ),
+    }
+}
+
+fn lease_of(alloc: Global, fixed: Fixed, subnet: &SubnetRow) -> Result<Lease, OutOfMemory>
+    ensures { IfOk result (λ l. l ≡ lease_from fixed subnet.now) }
+{
+    Ok(Lease {
+        address: fixed.address,
+        length: subnet.prefix.len,
+        gateway: subnet.gateway,
+        name_servers: subnet.dns.copy(alloc)?,
+        host_routes: subnet.host_routes.copy(alloc)?,
+    })
+}
+
+fn lease_in(alloc: Global, rows: &Rows, fixed: Fixed) -> Result<Option<Lease>, OutOfMemory>
+    ensures { IfOk result (λ l. l ≡ lease_by rows.now fixed) }
+{
+    match named_subnet(rows, fixed.subnet) {
+        Some(subnet) => Ok(Some(lease_of(alloc, fixed, subnet)?)),
+        None => Ok(None),
+    }
+}
+
+// The first address of a port in a subnet in which the DHCP port holds one.
+fn fixed_leased(dhcp: &PortRow, port: &PortRow) -> Option<Fixed>
+    ensures { result ≡ find (λ (f : TheFixed). held_in f.subnet dhcp.now) port.now.fixed }
+{
+    for fixed in port.fixed.as_slice() {
+        if holds_in(fixed.subnet, dhcp) {
+            return Some(*fixed);
+        }
+    }
+    None
+}
+
+fn lease_for(
+    alloc: Global,
+    rows: &Rows,
+    dhcp: &PortRow,
+    port: &PortRow,
+) -> Result<Option<Lease>, OutOfMemory>
+    ensures { IfOk result (λ l. l ≡ lease_of_port rows.now dhcp.now port.now) }
+{
+    match fixed_leased(dhcp, port) {
+        Some(fixed) => lease_in(alloc, rows, fixed),
+        None => Ok(None),
+    }
+}
+
+fn answered(lease: Option<Lease>) -> Outcome
+    ensures { result ≡ lease_answer lease }
+{
+    match lease {
+        Some(lease) => Outcome::Answered(AskAnswer::Lease(lease)),
+        None => Outcome::Dropped(DropCause::NoLease),
+    }
+}
+
+/// What a DHCP port answers to an ask for a lease: what the live port with the MAC is leased.
+pub(crate) fn leased(
+    alloc: Global,
+    rows: &Rows,
+    network: Id,
+    src: Mac,
+    from: Addr4,
+    dhcp: &PortRow,
+) -> Result<Outcome, OutOfMemory>
+    ensures { IfOk result (λ o. o ≡ leased_by rows.now network (lease_ask src from) dhcp.now) }
+{
+    match port_at(rows, network, src) {
+        Some(port) => Ok(answered(lease_for(alloc, rows, dhcp, port)?)),
+        None => Ok(answered(None)),
+    }
+}
+
+/// What an ask for a lease (RFC 2131) by a port of a host comes to.
+pub(crate) fn lease_asked(
+    alloc: Global,
+    rows: &Rows,
+    network: Id,
+    host: &Text,
+    src: Mac,
+    from: Addr4,
+) -> Result<Outcome, OutOfMemory>
+    ensures { IfOk result (λ o. o ≡ lease_asked_of rows.now network host.now (lease_ask src from)) }
+{
+    match joined_with(rows, host, dhcp_port(rows, network)) {
+        Some(dhcp) => leased(alloc, rows, network, src, from, dhcp),
+        None => Ok(out_of(
+            rows,
+            network,
+            Toward::Dhcp,
+            Frame::Dhcp { src, from },
+            DropCause::NoLease,
+        )),
+    }
+}

@@ -1,0 +1,20 @@
+//! What a frame does, by the rows of the Networking API alone.
+//!
+//! `explain` computes the verdict on an event directly from the rows and the tracked entries, by
+//! searches over all rows: no tables of hosts, no tags and no tunnels. It stands on the questions of
+//! `plane_rows` and `api_secgroup`, and its contract is the definition of `plane_types`. Want of
+//! memory is its only refusal.
+#![tactic(auto)]
+
+mod ask;
+mod event;
+mod filter;
+mod guard;
+mod packet;
+mod passage;
+mod router;
+mod source;
+mod turn;
+mod uses;
+
+pub use event::explain;

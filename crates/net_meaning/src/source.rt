@@ -1,0 +1,156 @@
+ghost use Rattle.std.specs.Prelude.{◌≡◌, ◌==◌, ◌&&◌, ◌||◌, find, not, map, option_map};
+ghost use Rattle.plane_types.specs.Packets.{key_of};
+ghost use Rattle.plane_types.specs.RouterRows.{floats_of, gateway_address as gateway_by_rows, leg_of, router_view};
+ghost use Rattle.plane_types.specs.Routing.{Float, by_any as changed_at_all, by_float as changed_by_float, is_gateway_live, kept_source as kept, new_port as new_port_of, sourced as sourced_by, sourced_at as sourced_with, sourced_float as sourced_by_float, sourced_gateway as sourced_by_gateway, sourced_new as sourced_anew};
+ghost use Rattle.net_meaning.specs.Parts.{changed_of, packet_of, sourced_of, use_of};
+
+use crate::packet::{Packet, part_from};
+use crate::router::{Changed, Destined};
+use crate::uses::{Use, new_port, translates, with_key};
+use api_types::{Id, PortRow, RouterRow, Rows};
+use net_addr::Addr4;
+use plane_rows::{floating_for, gateway_address, has_live_gateway, is_interface};
+use plane_types::Entry;
+
+/// A packet whose source was looked at, and the entry that this made.
+#[derive(Clone, Copy)]
+pub(crate) struct Sourced {
+    pub(crate) packet: Packet,
+    pub(crate) made: Option<Entry>,
+}
+
+fn by_float(by: Changed) -> bool
+    ensures { result ≡ changed_by_float (changed_of by) }
+{
+    match by {
+        Changed::Floating => true,
+        Changed::Nothing | Changed::Entry => false,
+    }
+}
+
+fn by_any(by: Changed) -> bool
+    ensures { result ≡ changed_at_all (changed_of by) }
+{
+    match by {
+        Changed::Floating | Changed::Entry => true,
+        Changed::Nothing => false,
+    }
+}
+
+fn kept_source(packet: &Packet) -> Option<Sourced>
+    ensures { option_map sourced_of result ≡ kept (packet_of packet.now) }
+{
+    Some(Sourced {
+        packet: *packet,
+        made: None,
+    })
+}
+
+fn sourced_at(packet: &Packet, outer: Addr4, port: u16) -> Packet
+    ensures { packet_of result ≡ sourced_with (packet_of packet.now) outer port }
+{
+    Packet {
+        from: outer,
+        part: part_from(packet.part, port),
+        ..*packet
+    }
+}
+
+// With a new entry, where a port is left.
+fn sourced_new(router: Id, uses: &[Use], packet: &Packet, outer: Addr4) -> Option<Sourced>
+    ensures { option_map sourced_of result ≡ sourced_anew router (packet_of packet.now) outer (new_port_of (map use_of uses.now) (key_of (packet_of packet.now))) }
+{
+    let key = packet.key();
+    match new_port(uses, &key) {
+        Some(port) => Some(Sourced {
+            packet: sourced_at(packet, outer, port),
+            made: Some(Entry::Snat {
+                router,
+                key,
+                outer,
+                outer_port: port,
+            }),
+        }),
+        None => None,
+    }
+}
+
+// The source becomes the gateway address, with the port of the entry that has the same key.
+#[tactic(auto, unfolding(plane_types::specs::RouterRows::router_view))]
+fn sourced_gateway(
+    rows: &Rows,
+    router: &RouterRow,
+    uses: &[Use],
+    packet: &Packet,
+) -> Option<Sourced>
+    ensures { option_map sourced_of result ≡ sourced_by_gateway (router_view rows.now router.now) (map use_of uses.now) (packet_of packet.now) (gateway_by_rows rows.now router.now) }
+{
+    let Some(outer) = gateway_address(rows, router) else {
+        return kept_source(packet);
+    };
+    match with_key(uses, &packet.key()) {
+        Some(entry) => Some(Sourced {
+            packet: sourced_at(packet, outer, entry.port),
+            made: None,
+        }),
+        None => sourced_new(router.id, uses, packet, outer),
+    }
+}
+
+// Whether the source is translated: where the packet leaves by the gateway port, or a floating
+// address changed its destination, and the router translates and its gateway port is live.
+#[tactic(auto, using(crate::proofs::LegLemmas::gateway_among), unfolding(plane_types::specs::RouterRows::router_view))]
+fn is_translated(rows: &Rows, router: &RouterRow, out: &PortRow, by: Changed) -> bool
+    ensures { result ≡ ((not (leg_of out.now).inside || changed_by_float (changed_of by)) && (router_view rows.now router.now).snat && is_gateway_live (router_view rows.now router.now)) }
+{
+    (!is_interface(&out.owner) || by_float(by))
+        && translates(router)
+        && has_live_gateway(rows, router)
+}
+
+// A floating address of this router for the source replaces it; else it may be translated.
+#[tactic(auto, unfolding(plane_types::specs::RouterRows::router_view))]
+fn sourced_float(
+    rows: &Rows,
+    router: &RouterRow,
+    uses: &[Use],
+    out: &PortRow,
+    destined: &Destined,
+) -> Option<Sourced>
+    ensures { option_map sourced_of result ≡ sourced_by_float (router_view rows.now router.now) (map use_of uses.now) (leg_of out.now) (changed_of destined.now.by) (packet_of destined.now.packet) (find (λ (f : Float). f.fixed == destined.now.packet.from) (floats_of rows.now router.now)) }
+{
+    let packet = &destined.packet;
+    if let Some(from) = floating_for(rows, router, packet.from) {
+        return Some(Sourced {
+            packet: Packet { from, ..*packet },
+            made: None,
+        });
+    }
+    if is_translated(rows, router, out, destined.by) {
+        sourced_gateway(rows, router, uses, packet)
+    } else {
+        kept_source(packet)
+    }
+}
+
+/// The packet with the source that it leaves with, or none where no port is left. Only a packet
+/// that came in by an interface, and leaves by the gateway port or had its destination changed, is
+/// looked at.
+#[tactic(auto, unfolding(plane_types::specs::RouterRows::router_view))]
+pub(crate) fn find_source(
+    rows: &Rows,
+    router: &RouterRow,
+    uses: &[Use],
+    port: &PortRow,
+    out: &PortRow,
+    destined: &Destined,
+) -> Option<Sourced>
+    ensures { option_map sourced_of result ≡ sourced_by (router_view rows.now router.now) (map use_of uses.now) (leg_of port.now) (leg_of out.now) (changed_of destined.now.by) (packet_of destined.now.packet) }
+{
+    let leaves = !is_interface(&out.owner) || by_any(destined.by);
+    if is_interface(&port.owner) && leaves {
+        sourced_float(rows, router, uses, out, destined)
+    } else {
+        kept_source(&destined.packet)
+    }
+}

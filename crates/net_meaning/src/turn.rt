@@ -1,0 +1,216 @@
+ghost use Rattle.std.specs.Prelude.{◌≡◌, IfOk, OnOk, Some, option_to_list, suc};
+ghost use Rattle.plane_types.specs.Holders.{router_of as router_by_rows};
+ghost use Rattle.plane_types.specs.Meaning.{Onward, Trace as TheTrace, arrived as arrived_at, at_router as at_router_by, ended as ended_with, got as got_by, handed as handed_by, handed_out as handed_out_by, received as received_by, with_fresh, with_path};
+ghost use Rattle.plane_types.specs.RouterRows.{leg_of};
+ghost use Rattle.plane_types.specs.Routing.{RouteSends};
+ghost use Rattle.net_meaning.specs.Parts.{packet_of};
+ghost use Rattle.net_meaning.specs.Turns.{fate_of, passed_list, trace_of, turn_by};
+
+use crate::ask::out_of;
+use crate::packet::Packet;
+use crate::passage::passage_at;
+use crate::router::{Routed, Sent, route};
+use api_types::{Direction, Id, PortRow, RouterRow, Rows};
+use net_addr::{Mac, OutOfMemory, Seq};
+use plane_rows::{holder, is_router_port, joined_with, leg, router_of};
+use plane_types::{DropCause, Entry, Outcome, Toward};
+use std::alloc::Global;
+
+/// What an event has come to so far: the networks and routers that it passed, and the entries that
+/// it made.
+#[derive(Drop)]
+pub(crate) struct Trace {
+    pub(crate) path: Seq<Id>,
+    pub(crate) fresh: Seq<Entry>,
+}
+
+/// What an event comes to.
+#[derive(Drop)]
+pub(crate) struct Fate {
+    pub(crate) outcome: Outcome,
+    pub(crate) trace: Trace,
+}
+
+/// Where a packet is then.
+#[derive(Drop)]
+pub(crate) enum Next<'r> {
+    Ends(Outcome),
+    To(&'r PortRow, Packet),
+}
+
+/// What became of a packet at a port: the entry that this made, the router and the network that it
+/// passed, and where it is then.
+#[derive(Drop)]
+pub(crate) struct Turn<'r> {
+    made: Option<Entry>,
+    passed: Option<(Id, Id)>,
+    next: Next<'r>,
+}
+
+// An instance's or DHCP port filters the packet, and then has it.
+fn received<'r>(
+    rows: &Rows,
+    entries: &[Entry],
+    fresh: &[Entry],
+    port: &PortRow,
+    packet: &Packet,
+) -> Turn<'r>
+    ensures { (on : Onward) (t : TheTrace) → t.fresh ≡ fresh.now → turn_by on t result ≡ received_by rows.now entries.now port.now (packet_of packet.now) t }
+{
+    let passage = passage_at(rows, entries, fresh, port, Direction::Ingress, packet);
+    let outcome = if passage.passes {
+        Outcome::Delivered {
+            port: port.id,
+            frame: packet.frame(),
+        }
+    } else {
+        Outcome::Dropped(DropCause::Ingress)
+    };
+    Turn {
+        made: if passage.passes { passage.made } else { None },
+        passed: None,
+        next: Next::Ends(outcome),
+    }
+}
+
+// The joined holder of the next hop gets what a router sends on by a port.
+fn handed_out<'r>(rows: &'r Rows, router: &RouterRow, out: &PortRow, sent: &Sent<'r>) -> Turn<'r>
+    ensures { (on : Onward) (t : TheTrace) → turn_by on t result ≡ handed_out_by rows.now on router.now sent.now.hop (packet_of sent.now.packet) (with_fresh t (option_to_list sent.now.made)) (Some out.now) }
+{
+    let network = out.network;
+    let held = holder(rows, network, sent.hop);
+    let next = match joined_with(rows, &out.host, held) {
+        Some(port) => Next::To(
+            port,
+            Packet {
+                dst: port.mac,
+                ..sent.packet
+            },
+        ),
+        None => Next::Ends(out_of(
+            rows,
+            network,
+            Toward::Address(sent.hop),
+            Packet {
+                dst: Mac(0),
+                ..sent.packet
+            }
+            .frame(),
+            DropCause::NoHolder,
+        )),
+    };
+    Turn {
+        made: sent.made,
+        passed: Some((router.id, network)),
+        next,
+    }
+}
+
+// The port by which it leaves is one of the router's.
+fn handed<'r>(rows: &'r Rows, router: &RouterRow, sent: &Sent<'r>) -> Turn<'r>
+    ensures { (on : Onward) (t : TheTrace) → turn_by on t result ≡ handed_by rows.now on router.now t (RouteSends (option_to_list sent.now.made) (leg_of sent.now.out.now) sent.now.hop (packet_of sent.now.packet)) }
+{
+    match leg(rows, router, sent.out.id) {
+        Some(out) => handed_out(rows, router, out, sent),
+        None => Turn {
+            made: sent.made,
+            passed: None,
+            next: Next::Ends(Outcome::Dropped(DropCause::Unknown)),
+        },
+    }
+}
+
+fn ended<'r>(outcome: Outcome) -> Turn<'r>
+    ensures { (on : Onward) (t : TheTrace) → turn_by on t result ≡ ended_with t outcome }
+{
+    Turn {
+        made: None,
+        passed: None,
+        next: Next::Ends(outcome),
+    }
+}
+
+// A router's port hands the packet to the router that it names.
+fn at_router<'r>(
+    alloc: Global,
+    rows: &'r Rows,
+    entries: &[Entry],
+    fresh: &[Entry],
+    port: &PortRow,
+    packet: &Packet,
+) -> Result<Turn<'r>, OutOfMemory>
+    ensures { IfOk result (λ turn. (on : Onward) (t : TheTrace) → t.fresh ≡ fresh.now → turn_by on t turn ≡ at_router_by rows.now entries.now on port.now (packet_of packet.now) t (router_by_rows rows.now port.now)) }
+{
+    let Some(router) = router_of(rows, port) else {
+        return Ok(ended(Outcome::Dropped(DropCause::Unknown)));
+    };
+    match route(alloc, rows, entries, fresh, router, port, packet)? {
+        Routed::Ends(outcome) => Ok(ended(outcome)),
+        Routed::Sends(sent) => Ok(handed(rows, router, &sent)),
+    }
+}
+
+// What becomes of a packet at a port.
+fn arrived<'r>(
+    alloc: Global,
+    rows: &'r Rows,
+    entries: &[Entry],
+    fresh: &[Entry],
+    port: &PortRow,
+    packet: &Packet,
+) -> Result<Turn<'r>, OutOfMemory>
+    ensures { IfOk result (λ turn. (on : Onward) (t : TheTrace) → t.fresh ≡ fresh.now → turn_by on t turn ≡ arrived_at rows.now entries.now on port.now (packet_of packet.now) t) }
+{
+    if is_router_port(&port.owner) {
+        at_router(alloc, rows, entries, fresh, port, packet)
+    } else {
+        Ok(received(rows, entries, fresh, port, packet))
+    }
+}
+
+// Adds what a turn made and passed.
+fn note(trace: &mut Trace, made: Option<Entry>, passed: Option<(Id, Id)>) -> Result<(), OutOfMemory>
+    ensures { OnOk result (trace_of trace.new ≡ with_path (with_fresh (trace_of trace.old) (option_to_list made)) (passed_list passed)) }
+{
+    if let Some(entry) = made {
+        trace.fresh.push(entry)?;
+    }
+    if let Some((router, network)) = passed {
+        trace.path.push(router)?;
+        trace.path.push(network)?;
+    }
+    Ok(())
+}
+
+/// What becomes of a packet that a port gets, and that may pass so many routers. Its cost grows
+/// with the routers that it passes, for each with the rows and the entries.
+pub(crate) fn got<'r>(
+    alloc: Global,
+    rows: &'r Rows,
+    entries: &[Entry],
+    many: u16,
+    port: &'r PortRow,
+    packet: Packet,
+    mut trace: Trace,
+) -> Result<Fate, OutOfMemory>
+    ensures { IfOk result (λ f. fate_of f ≡ got_by rows.now entries.now many port.now (packet_of packet) (trace_of trace)) }
+{
+    let mut at = port;
+    let mut packet = packet;
+    for routers in 0..many {
+        let turn = arrived(alloc, rows, entries, trace.fresh.as_slice(), at, &packet)?;
+        let Turn { made, passed, next } = turn;
+        note(&mut trace, made, passed)?;
+        match next {
+            Next::Ends(outcome) => return Ok(Fate { outcome, trace }),
+            Next::To(next, sent) => {
+                at = next;
+                packet = sent;
+            }
+        }
+    }
+    Ok(Fate {
+        outcome: Outcome::Dropped(DropCause::Unknown),
+        trace,
+    })
+}
