@@ -7,13 +7,23 @@
 
 ghost use Rattle.std.specs.Prelude.{◌≡◌, false};
 ghost use Rattle.api_types.specs.Consistent.{IsConsistent};
+ghost use Rattle.api_types.specs.Outcome.{Moved};
+ghost use Rattle.api_types.specs.Printed.{Reply};
+ghost use Rattle.api_types.specs.RowLists.{RowLists};
 ghost use Rattle.api_types.specs.declared.call.Call.{Call};
 ghost use Rattle.api_types.specs.declared.call.Caller.{Caller};
+ghost use Rattle.net_settings.specs.Rules.{MeetsRules};
 ghost use Rattle.net_settings.specs.Settings.{SettingsParts};
 ghost use Rattle.api_steps.specs.Footing.{footing};
+ghost use Rattle.api_steps.specs.InForm.{IsInForm};
 ghost use Rattle.api_steps.specs.Refusing.{told};
 ghost use Rattle.api_steps.specs.State.{State};
 ghost use Rattle.api_steps.specs.Step.{api_step};
+
+/// Each accepted call leaves consistent rows consistent.
+pub fn calls_keep_rows_consistent()
+    ensures kept { (settings : SettingsParts) (state : State) (caller : Caller) (call : Call) (rows : RowLists) (reply : Reply) → MeetsRules settings → IsConsistent state.rows → IsInForm call → api_step settings state caller call ≡ Moved rows reply → IsConsistent rows }
+{}
 
 /// A tenant is told the same at any two consistent states in which it has the same footing.
 pub fn tenants_stay_apart()
