@@ -1,4 +1,12 @@
-pub mod CreateLemmas
 pub mod DrawLemmas
-pub mod SegmentLemmas
-pub mod ShowLemmas
+pub mod NumberLemmas
+pub mod ShownAfter
+pub mod DroppedLemmas
+pub mod PlaceLemmas
+pub mod FoundLemmas
+pub mod ReplacedLemmas
+pub mod GroupLemmas
+pub mod CallLemmas
+pub mod NetworkLemmas
+pub mod PortLemmas
+pub mod ApartLemmas

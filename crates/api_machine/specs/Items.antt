@@ -1,5 +1,5 @@
 -- The items of changes.
-use Rattle.std.specs.Prelude.{ℕ, ◌+◌, List, [], ◌∷◌, Some, None, length}
+use Rattle.std.specs.Prelude.{ℕ, ◌+◌, Bool, List, [], ◌∷◌, Some, None, length, if◌then◌else◌}
 use Rattle.api_types.specs.RowLists.{RowLists}
 use Rattle.api_types.specs.Registration.{default_group, default_rule}
 use Rattle.api_types.specs.declared.change.Item.{Item}
@@ -30,3 +30,14 @@ registration_items rows name ordinal count =
 abbrev pub raised_items : ℕ → ProjectRow → ℕ → List Item
 raised_items place project many =
     record { kind = ProjectKind; place = place; before = Some (ProjectOf project); after = Some (ProjectOf (record project { count = project.count + many })) } ∷ []
+
+-- an item that puts a row in the place of another
+abbrev pub set_item : Kind → ℕ → Row → Row → Item
+set_item kind place before after = record { kind = kind; place = place; before = Some before; after = Some after }
+
+-- the items that take out the rows that pass a test, each at the place that it has when those before it are gone
+abbrev pub dropped_items : {R : Type 0} → Kind → (R → Row) → (R → Bool) → ℕ → List R → List Item
+dropped_items kind row_of test place [] = []
+dropped_items kind row_of test place (r ∷ rs) =
+    if test r then record { kind = kind; place = place; before = Some (row_of r); after = None } ∷ dropped_items kind row_of test place rs
+    else dropped_items kind row_of test (place + 1) rs

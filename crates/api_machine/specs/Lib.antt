@@ -1,6 +1,6 @@
+pub mod Alike
+pub mod Groups
 pub mod Items
+pub mod Marks
+pub mod Open
 pub mod Plan
-pub mod Segments
-pub mod Shown
-pub mod State
-pub mod Step

@@ -1,11 +1,13 @@
-ghost use Rattle.std.specs.Prelude.{◌≡◌, ◌⊎◌, ◌+◌, ◌^◌, ◌<◌, ◌≤◌, None, Some, IfOk, IfErr, position};
+ghost use Rattle.std.specs.Prelude.{◌≡◌, ◌⊎◌, ◌+◌, ◌-◌, ◌^◌, ◌<◌, ◌≤◌, None, Some, IfOk, IfErr, position};
 ghost use Rattle.api_types.specs.Consistent.{IsConsistent};
 ghost use Rattle.api_types.specs.Registration.{is_named, default_rule as rule_of, default_group as group_of, draw_of};
 ghost use Rattle.api_types.specs.declared.kind.Kind.TheVariants.{Project as ProjectKind};
 ghost use Rattle.api_types.specs.declared.kind.Row.TheVariants.{Project as ProjectOf};
-ghost use Rattle.api_machine.specs.Items.{made_item, raised_items, registration_items};
+ghost use Rattle.api_steps.specs.State.{State, drawing_at};
+ghost use Rattle.api_machine.specs.Items.{raised_items, registration_items};
 ghost use Rattle.api_machine.specs.Plan.{Draws};
 
+use crate::items::made;
 use api_types::{
     Change, Direction, Ethertype, GroupRow, Id, Item, Kind, ProjectRow, Refusal, Row, Rows, RuleRow,
 };
@@ -19,6 +21,7 @@ const REGISTERED: u64 = 5;
 const COUNTS: u64 = 0x4000_0000_0000_0000;
 
 /// Ids drawn for a project, and the change that draws them.
+#[derive(Drop)]
 pub struct Drawn {
     pub change: Change,
     /// The project's ordinal.
@@ -32,18 +35,6 @@ pub fn place_of(projects: &[ProjectRow], name: &Text) -> Option<usize>
     ensures { result ≡ position (is_named name.now) projects.now }
 {
     projects.iter().position(|project| project.name == *name)
-}
-
-/// An item that makes a row at a place.
-pub fn made(kind: Kind, place: usize, row: Row) -> Item
-    ensures { result ≡ made_item kind place row }
-{
-    Item {
-        kind,
-        place,
-        before: None,
-        after: Some(row),
-    }
 }
 
 fn default_rule(
@@ -144,9 +135,8 @@ fn raise(
     Ok(change)
 }
 
-/// Draws so many ids for the project with this name, which is registered first where it is new. It
-/// refuses where a counter would pass its last value. Its cost grows with the projects.
-pub fn draw(alloc: Global, rows: &Rows, name: &Text, many: u64) -> Result<Drawn, Refusal>
+// Draws so many ids for the project with this name, which is registered first where it is new.
+fn draw_ids(alloc: Global, rows: &Rows, name: &Text, many: u64) -> Result<Drawn, Refusal>
     requires consistent { IsConsistent rows.now }
     requires few { many < 2 ^ 16 }
     ensures drawn { IfOk result (λ d. Draws rows.now name.now many d.change d.ordinal d.first) }
@@ -174,4 +164,27 @@ pub fn draw(alloc: Global, rows: &Rows, name: &Text, many: u64) -> Result<Drawn,
         ordinal: project.ordinal,
         first: project.count + 1,
     })
+}
+
+/// Draws so many ids for the project with this name, which is registered first where it is new. It
+/// refuses where the version or a counter would pass its last value. Its cost grows with the
+/// projects.
+pub fn draw(
+    alloc: Global,
+    rows: &Rows,
+    version: u64,
+    name: &Text,
+    many: u64,
+) -> Result<Drawn, Refusal>
+    requires consistent { IsConsistent rows.now }
+    requires few { many < 2 ^ 16 }
+    ensures drawn { IfOk result (λ d. Draws rows.now name.now many d.change d.ordinal d.first) }
+    ensures room { IfOk result (λ d. version < 2 ^ 64 - 1) }
+    ensures within { IfOk result (λ d. d.first + many ≤ 2 ^ 62) }
+    ensures spent { let state : State = record { rows = rows.now; version = version } in IfErr result (λ e. (e ≡ Refusal.OutOfMemory) ⊎ ((e ≡ Refusal.CountersSpent) × (drawing_at state name.now many ≡ None))) }
+{
+    if version == u64::MAX {
+        return Err(Refusal::CountersSpent);
+    }
+    draw_ids(alloc, rows, name, many)
 }

@@ -1,11 +1,20 @@
-ghost use Rattle.std.specs.Prelude.{◌≡◌, ◌+◌, ◌-◌, ◌^◌, ◌<◌, IfOk, IfErr};
+ghost use Rattle.std.specs.Prelude.{◌≡◌, ◌+◌, ◌-◌, ◌^◌, ◌<◌, None, IfOk, IfErr};
 ghost use Rattle.api_types.specs.Consistent.{IsConsistent};
+ghost use Rattle.api_types.specs.Outcome.{Told};
+ghost use Rattle.api_types.specs.Printed.{reply_of};
 ghost use Rattle.api_types.specs.Rows.{Fits, after, no_rows};
-ghost use Rattle.api_machine.specs.Step.{api_step, row_shown, row_created};
+ghost use Rattle.net_settings.specs.Defaults.{default_parts};
+ghost use Rattle.api_steps.specs.InForm.{IsForm, IsInForm};
+ghost use Rattle.api_steps.specs.Refusing.{told};
+ghost use Rattle.api_steps.specs.State.{State};
+ghost use Rattle.api_steps.specs.Step.{api_step, kind_listed, row_created, row_deleted, row_shown, row_updated};
+ghost use Rattle.api_machine.specs.Alike.{AreAlike};
 ghost use Rattle.api_machine.specs.Plan.{IsRefusalOf, Plans};
 
-use crate::network::{create_network, show_network};
-use api_types::{Answer, Call, Caller, Change, Form, IdText, Kind, Refusal, Rows};
+use crate::network::{create_network, delete_network, update_network};
+use crate::port::create_port;
+use crate::reads::{list, show};
+use api_types::{Answer, Call, Caller, Change, Form, IdText, Kind, Query, Refusal, Rows};
 use net_addr::{Names, OutOfMemory};
 use std::alloc::Global;
 use std::marker::Model;
@@ -19,7 +28,7 @@ pub struct Machine {
 
 impl Model for Machine {
     ghost use Rattle.api_types.specs.Consistent.{IsConsistent};
-    ghost use Rattle.api_machine.specs.State.{State};
+    ghost use Rattle.api_steps.specs.State.{State};
 
     ghost Value = { State };
 
@@ -44,11 +53,22 @@ pub struct Ready {
 }
 
 impl Model for Ready {
-    ghost use Rattle.api_machine.specs.State.{State};
+    ghost use Rattle.api_steps.specs.State.{State};
 
     ghost Value = { State };
 
     ghost view = { λ r. record { rows = r.rows; version = r.version } };
+}
+
+// A plan that changes nothing.
+fn unchanged(answer: Answer) -> Planned
+    ensures none { result.change ≡ None }
+    ensures answer { reply_of result.answer ≡ reply_of answer }
+{
+    Planned {
+        change: None,
+        answer,
+    }
 }
 
 impl Machine {
@@ -78,16 +98,50 @@ impl Machine {
     }
 
     /// What a call comes to: its answer, and the change that leads to the rows after it, which fits
-    /// the rows of now and leaves consistent ones. Nothing changes. Its cost grows with the rows.
+    /// the rows of now and leaves consistent ones. Nothing changes. A tenant is answered as at any
+    /// other state in which it has the same footing. Its cost grows with the rows.
     pub fn plan(&self, alloc: Global, caller: &Caller, call: &Call) -> Result<Planned, Refusal>
-        ensures ok { IfOk result (Plans self.now (api_step self.now caller.now call.now)) }
-        ensures err { IfErr result (IsRefusalOf (api_step self.now caller.now call.now)) }
+        requires in_form { IsInForm call.now }
+        ensures ok { IfOk result (Plans self.now (api_step default_parts self.now caller.now call.now)) }
+        ensures err { IfErr result (IsRefusalOf (api_step default_parts self.now caller.now call.now)) }
+        ensures answer_apart { (other : State) → AreAlike caller.now self.now other → IfOk result (λ p. told (api_step default_parts other caller.now call.now) ≡ Told (reply_of p.answer)) }
+        ensures refusal_apart { (other : State) → AreAlike caller.now self.now other → IfErr result (IsRefusalOf (told (api_step default_parts other caller.now call.now))) }
+    {
+        let _consistent = self.rows();
+        self.planned(alloc, caller, call)
+    }
+
+    fn planned(&self, alloc: Global, caller: &Caller, call: &Call) -> Result<Planned, Refusal>
+        requires { IsInForm call.now }
+        ensures ok { IfOk result (Plans self.now (api_step default_parts self.now caller.now call.now)) }
+        ensures err { IfErr result (IsRefusalOf (api_step default_parts self.now caller.now call.now)) }
     {
         match call {
+            Call::List { kind, query } => self.list(alloc, caller, *kind, query),
             Call::Show { kind, name, fields } => self.show(alloc, caller, *kind, name, fields),
             Call::Create { form } => self.create(alloc, caller, form),
-            _ => Err(Refusal::NotBuilt),
+            Call::Update { name, form } => self.update(alloc, caller, name, form),
+            Call::Delete { kind, name } => self.delete(alloc, caller, *kind, name),
+            Call::AddInterface { router: _, by: _ } => Err(Refusal::NotBuilt),
+            Call::RemoveInterface { router: _, by: _ } => Err(Refusal::NotBuilt),
         }
+    }
+
+    fn list(
+        &self,
+        alloc: Global,
+        caller: &Caller,
+        kind: Kind,
+        query: &Query,
+    ) -> Result<Planned, Refusal>
+        ensures ok { IfOk result (Plans self.now (kind_listed self.now caller.now kind query.now)) }
+        ensures err { IfErr result (IsRefusalOf (kind_listed self.now caller.now kind query.now)) }
+    {
+        if kind != Kind::Network && kind != Kind::Port {
+            return Err(Refusal::NotBuilt);
+        }
+        let answer = list(alloc, &self.rows, caller, kind, query)?;
+        Ok(unchanged(answer))
     }
 
     fn show(
@@ -98,24 +152,66 @@ impl Machine {
         name: &IdText,
         fields: &Names,
     ) -> Result<Planned, Refusal>
-        ensures ok { IfOk result (Plans self.now (row_shown self.now.rows caller.now kind name.now fields.now)) }
-        ensures err { IfErr result (IsRefusalOf (row_shown self.now.rows caller.now kind name.now fields.now)) }
+        ensures ok { IfOk result (Plans self.now (row_shown self.now caller.now kind name.now fields.now)) }
+        ensures err { IfErr result (IsRefusalOf (row_shown self.now caller.now kind name.now fields.now)) }
     {
-        if kind != Kind::Network || !fields.is_empty() {
-            return Err(Refusal::NotBuilt);
+        match kind {
+            Kind::Network => {
+                let networks = self.rows.networks();
+                let answer = show(alloc, &self.rows, caller, kind, networks, name, fields)?;
+                Ok(unchanged(answer))
+            }
+            Kind::Port => {
+                let ports = self.rows.ports();
+                let answer = show(alloc, &self.rows, caller, kind, ports, name, fields)?;
+                Ok(unchanged(answer))
+            }
+            _ => Err(Refusal::NotBuilt),
         }
-        Ok(Planned {
-            change: None,
-            answer: show_network(alloc, &self.rows, caller, name)?,
-        })
     }
 
     fn create(&self, alloc: Global, caller: &Caller, form: &Form) -> Result<Planned, Refusal>
-        ensures ok { IfOk result (Plans self.now (row_created self.now caller.now form.now)) }
-        ensures err { IfErr result (IsRefusalOf (row_created self.now caller.now form.now)) }
+        requires { IsForm form.now }
+        ensures ok { IfOk result (Plans self.now (row_created default_parts self.now caller.now form.now)) }
+        ensures err { IfErr result (IsRefusalOf (row_created default_parts self.now caller.now form.now)) }
     {
         match form {
             Form::Network(form) => create_network(alloc, &self.rows, self.version, caller, form),
+            Form::Port(form) => create_port(alloc, &self.rows, self.version, caller, form),
+            _ => Err(Refusal::NotBuilt),
+        }
+    }
+
+    fn update(
+        &self,
+        alloc: Global,
+        caller: &Caller,
+        name: &IdText,
+        form: &Form,
+    ) -> Result<Planned, Refusal>
+        ensures ok { IfOk result (Plans self.now (row_updated self.now caller.now name.now form.now)) }
+        ensures err { IfErr result (IsRefusalOf (row_updated self.now caller.now name.now form.now)) }
+    {
+        match form {
+            Form::Network(form) => {
+                update_network(alloc, &self.rows, self.version, caller, name, form)
+            }
+            _ => Err(Refusal::NotBuilt),
+        }
+    }
+
+    fn delete(
+        &self,
+        alloc: Global,
+        caller: &Caller,
+        kind: Kind,
+        name: &IdText,
+    ) -> Result<Planned, Refusal>
+        ensures ok { IfOk result (Plans self.now (row_deleted self.now caller.now kind name.now)) }
+        ensures err { IfErr result (IsRefusalOf (row_deleted self.now caller.now kind name.now)) }
+    {
+        match kind {
+            Kind::Network => delete_network(alloc, &self.rows, self.version, caller, name),
             _ => Err(Refusal::NotBuilt),
         }
     }

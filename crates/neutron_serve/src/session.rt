@@ -1,3 +1,6 @@
+ghost use Rattle.std.specs.Prelude.{IfOk, MatchOption, ⊤};
+ghost use Rattle.api_steps.specs.InForm.{IsInForm};
+
 use crate::body::network_form;
 use crate::head::{HttpRequest, read};
 use crate::reply::{answered, not_built, refused};
@@ -15,10 +18,14 @@ pub enum End {
 }
 
 // The call that a request makes, where it is understood.
-fn call_of(alloc: Global, request: &HttpRequest<'_>) -> Result<Option<Call>, OutOfMemory> {
+fn call_of(alloc: Global, request: &HttpRequest<'_>) -> Result<Option<Call>, OutOfMemory>
+    ensures { IfOk result (λ call. MatchOption call ⊤ IsInForm) }
+{
     if request.method == "POST" && request.path == "/v2.0/networks" {
-        let form = network_form(alloc, request.body)?;
-        return Ok(form.map(|form| Call::Create {
+        let Some(form) = network_form(alloc, request.body)? else {
+            return Ok(None);
+        };
+        return Ok(Some(Call::Create {
             form: Form::Network(form),
         }));
     }
@@ -44,7 +51,9 @@ fn handle(
     machine: &mut Machine,
     caller: &Caller,
     call: &Call,
-) -> Result<Option<Vec<u8>>, OutOfMemory> {
+) -> Result<Option<Vec<u8>>, OutOfMemory>
+    requires { IsInForm call.now }
+{
     let planned = match machine.plan(alloc, caller, call) {
         Ok(planned) => planned,
         Err(refusal) => return refused(alloc, &refusal),
