@@ -1,4 +1,6 @@
+ghost use Rattle.std.specs.Prelude.{IfOk};
 ghost use Rattle.api_types.specs.Rows.{Fits, no_rows};
+ghost use Rattle.api_steps.specs.InForm.{IsInForm};
 
 use api_machine::Machine;
 use api_types::{
@@ -16,7 +18,9 @@ fn caller(alloc: Global, project: &str) -> Result<Caller, OutOfMemory> {
     })
 }
 
-fn creation(alloc: Global, name: &str) -> Result<Call, OutOfMemory> {
+fn creation(alloc: Global, name: &str) -> Result<Call, OutOfMemory>
+    ensures { IfOk result IsInForm }
+{
     Ok(Call::Create {
         form: Form::Network(NetworkForm {
             name: Given::Is(Text::of(alloc, name)?),
@@ -33,7 +37,9 @@ fn creation(alloc: Global, name: &str) -> Result<Call, OutOfMemory> {
     })
 }
 
-fn showing(alloc: Global, id: &str) -> Result<Call, OutOfMemory> {
+fn showing(alloc: Global, id: &str) -> Result<Call, OutOfMemory>
+    ensures { IfOk result IsInForm }
+{
     Ok(Call::Show {
         kind: Kind::Network,
         name: IdText {
