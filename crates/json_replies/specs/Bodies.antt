@@ -1,0 +1,69 @@
+-- What each reply prints (OpenStack API reference, Networking API v2.0; the lab's replies are this server's own).
+use Rattle.std.specs.Prelude.{ℕ, List, [], ◌∷◌, map, codes, Option, Some, None}
+use Rattle.api_types.specs.Printed.{Tree, number, word, NamedTree, ShownRow, OneRow, ManyRows, NewRow, NoRow, InterfaceRow, reply_of}
+use Rattle.api_types.specs.Printed as answered
+use Rattle.api_types.specs.declared.kind.Kind.{Kind}
+use Rattle.api_types.specs.declared.kind.Kind.TheVariants.{Project, Network, Subnet, Port, Group, Rule, Router, Floating, Policy}
+use Rattle.api_types.specs.declared.refusal.Refusal.{Refusal}
+use Rattle.neutron_http.specs.Faults.{resource_of, type_of, message_of}
+use Rattle.plane_types.specs.declared.ask.HostState.{HostState}
+use Rattle.plane_types.specs.declared.ask.LabAnswer.{LabAnswer}
+use Rattle.plane_types.specs.declared.ask.LabAnswer.TheVariants.{Seen, Told, Hosts, Tables}
+use Rattle.plane_types.specs.declared.ask.Reply.{Reply}
+use Rattle.plane_types.specs.declared.ask.Reply.TheVariants.{Done, LabDone, Refused}
+use Rattle.json_replies.specs.Printed.{fields, list, or_null, body_text}
+use Rattle.json_replies.specs.Verdicts.{verdict_tree, heard_tree}
+use Rattle.json_replies.specs.Tables.{tables_tree}
+
+-- the member that holds the rows of a kind
+abbrev pub plural_of : Kind → List ℕ
+plural_of Project = codes "projects"
+plural_of Network = codes "networks"
+plural_of Subnet = codes "subnets"
+plural_of Port = codes "ports"
+plural_of Group = codes "security_groups"
+plural_of Rule = codes "security_group_rules"
+plural_of Router = codes "routers"
+plural_of Floating = codes "floatingips"
+plural_of Policy = codes "rbac_policies"
+
+-- an object with one member
+abbrev pub only : List ℕ → Tree → Tree
+only name t = fields ((name, t) ∷ [])
+
+abbrev pub row_tree : ShownRow → Tree
+row_tree row = fields row.members
+
+-- one row is an object with the one member named for its kind, and rows are one with the plural member; an interface is a plain object, and a deletion has no body
+abbrev pub answer_tree : answered.Reply → Option Tree
+answer_tree (OneRow row) = Some (only (resource_of row.kind) (row_tree row))
+answer_tree (ManyRows kind rows) = Some (only (plural_of kind) (list (map row_tree rows)))
+answer_tree (NewRow row) = Some (only (resource_of row.kind) (row_tree row))
+answer_tree NoRow = None
+answer_tree (InterfaceRow row) = Some (row_tree row)
+
+abbrev pub host_tree : HostState → Tree
+host_tree host = fields ((codes "held", or_null number host.held) ∷ (codes "name", word host.name) ∷ [])
+
+abbrev pub lab_tree : LabAnswer → Tree
+lab_tree (Seen verdict) = only (codes "verdict") (verdict_tree verdict)
+lab_tree (Told heard) = only (codes "heard") (heard_tree heard)
+lab_tree (Hosts hosts) = only (codes "hosts") (list (map host_tree hosts))
+lab_tree (Tables tables) = only (codes "tables") (tables_tree tables)
+
+-- what a refusal says
+abbrev pub words_tree : List ℕ → List ℕ → Tree
+words_tree kind message = fields (
+    (codes "detail", word []) ∷ (codes "message", word message) ∷ (codes "type", word kind) ∷ [])
+
+abbrev pub fault_tree : Refusal → Tree
+fault_tree refusal = only (codes "NeutronError") (words_tree (type_of refusal) (message_of refusal))
+
+abbrev pub reply_tree : Reply → Option Tree
+reply_tree (Done answer) = answer_tree (reply_of answer)
+reply_tree (LabDone answer) = Some (lab_tree answer)
+reply_tree (Refused refusal) = Some (fault_tree refusal)
+
+-- the body of a reply
+abbrev pub body_of : Reply → List ℕ
+body_of reply = body_text (reply_tree reply)

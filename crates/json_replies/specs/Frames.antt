@@ -1,0 +1,82 @@
+-- Frames, keys and tracked entries as they are printed.
+use Rattle.std.specs.Prelude.{ℕ, List, [], ◌∷◌, codes}
+use Rattle.net_addr.specs.Spelling.{address_text, mac_text, prefix_text}
+use Rattle.net_addr.specs.Prefixes.{Prefix}
+use Rattle.api_types.specs.Ident.{Ident, ident_text}
+use Rattle.api_types.specs.Printed.{Tree, number, word, NamedTree}
+use Rattle.api_types.specs.declared.group.Direction.{Direction}
+use Rattle.api_types.specs.declared.group.Direction.TheVariants.{Ingress, Egress}
+use Rattle.plane_types.specs.declared.entry.Entry.{Entry}
+use Rattle.plane_types.specs.declared.entry.Entry.TheVariants.{Flow, Snat}
+use Rattle.plane_types.specs.declared.frame.Frame.{Frame}
+use Rattle.plane_types.specs.declared.frame.Frame.TheVariants.{Ip4, ArpAsk, Dhcp, Other}
+use Rattle.plane_types.specs.declared.frame.KeyPart.{KeyPart}
+use Rattle.plane_types.specs.declared.frame.KeyPart.TheVariants as part
+use Rattle.plane_types.specs.declared.frame.KeyKind.{KeyKind}
+use Rattle.plane_types.specs.declared.frame.KeyKind.TheVariants.{Tcp, Udp, EchoAsk, EchoReply, Proto}
+use Rattle.plane_types.specs.declared.frame.Key.{Key}
+use Rattle.json_replies.specs.Printed.{fields}
+
+abbrev pub id_tree : Ident → Tree
+id_tree id = word (ident_text id)
+
+abbrev pub address_tree : ℕ → Tree
+address_tree address = word (address_text address)
+
+abbrev pub mac_tree : ℕ → Tree
+mac_tree mac = word (mac_text mac)
+
+abbrev pub prefix_tree : Prefix → Tree
+prefix_tree prefix = word (prefix_text prefix)
+
+abbrev pub direction_tree : Direction → Tree
+direction_tree Ingress = word (codes "ingress")
+direction_tree Egress = word (codes "egress")
+
+-- what a packet carries
+abbrev pub part_members : KeyPart → List NamedTree
+part_members (part.Tcp sport dport) = (codes "dport", number dport) ∷ (codes "proto", word (codes "tcp")) ∷ (codes "sport", number sport) ∷ []
+part_members (part.Udp sport dport) = (codes "dport", number dport) ∷ (codes "proto", word (codes "udp")) ∷ (codes "sport", number sport) ∷ []
+part_members (part.EchoAsk id) = (codes "id", number id) ∷ (codes "proto", word (codes "echo_ask")) ∷ []
+part_members (part.EchoReply id) = (codes "id", number id) ∷ (codes "proto", word (codes "echo_reply")) ∷ []
+part_members (part.Proto n) = (codes "number", number n) ∷ (codes "proto", word (codes "other")) ∷ []
+
+abbrev pub frame_members : Frame → List NamedTree
+frame_members (Ip4 src dst from to ttl part) =
+    (codes "dst", mac_tree dst) ∷ (codes "from", address_tree from) ∷ (codes "kind", word (codes "ip4"))
+    ∷ (codes "src", mac_tree src) ∷ (codes "to", address_tree to) ∷ (codes "ttl", number ttl) ∷ part_members part
+frame_members (ArpAsk src from to) =
+    (codes "from", address_tree from) ∷ (codes "kind", word (codes "arp_ask"))
+    ∷ (codes "src", mac_tree src) ∷ (codes "to", address_tree to) ∷ []
+frame_members (Dhcp src from) =
+    (codes "from", address_tree from) ∷ (codes "kind", word (codes "dhcp_ask")) ∷ (codes "src", mac_tree src) ∷ []
+frame_members (Other src dst ethertype) =
+    (codes "dst", mac_tree dst) ∷ (codes "ethertype", number ethertype) ∷ (codes "kind", word (codes "other"))
+    ∷ (codes "src", mac_tree src) ∷ []
+
+abbrev pub frame_tree : Frame → Tree
+frame_tree frame = fields (frame_members frame)
+
+-- a packet's protocol
+abbrev pub kind_members : KeyKind → List NamedTree
+kind_members Tcp = (codes "proto", word (codes "tcp")) ∷ []
+kind_members Udp = (codes "proto", word (codes "udp")) ∷ []
+kind_members EchoAsk = (codes "proto", word (codes "echo_ask")) ∷ []
+kind_members EchoReply = (codes "proto", word (codes "echo_reply")) ∷ []
+kind_members (Proto n) = (codes "number", number n) ∷ (codes "proto", word (codes "other")) ∷ []
+
+abbrev pub key_members : Key → List NamedTree
+key_members key =
+    (codes "dport", number key.dport) ∷ (codes "from", address_tree key.from) ∷ (codes "sport", number key.sport)
+    ∷ (codes "to", address_tree key.to) ∷ kind_members key.kind
+
+abbrev pub key_tree : Key → Tree
+key_tree key = fields (key_members key)
+
+abbrev pub entry_tree : Entry → Tree
+entry_tree (Flow port direction key) = fields (
+    (codes "direction", direction_tree direction) ∷ (codes "key", key_tree key) ∷ (codes "kind", word (codes "flow"))
+    ∷ (codes "port", id_tree port) ∷ [])
+entry_tree (Snat router key outer outer_port) = fields (
+    (codes "key", key_tree key) ∷ (codes "kind", word (codes "snat")) ∷ (codes "outer", address_tree outer)
+    ∷ (codes "outer_port", number outer_port) ∷ (codes "router", id_tree router) ∷ [])

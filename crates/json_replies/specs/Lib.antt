@@ -1,0 +1,5 @@
+pub mod Printed
+pub mod Frames
+pub mod Verdicts
+pub mod Tables
+pub mod Bodies

@@ -1,0 +1,157 @@
+//! The body of each reply.
+ghost use Rattle.std.specs.Prelude.{◌≡◌, IfOk};
+ghost use Rattle.serde_json.specs.Written.{compact_text};
+ghost use Rattle.api_types.specs.Printed.{shown_row, reply_of};
+ghost use Rattle.neutron_http.specs.Faults.{resource_of};
+ghost use Rattle.json_replies.specs.Printed.{tree_data, body_text};
+ghost use Rattle.json_replies.specs.Bodies.{plural_of, only, row_tree, answer_tree, host_tree, lab_tree, words_tree, fault_tree, body_of};
+
+use crate::frame::put;
+use crate::printed::{Prints, members_of};
+use api_types::{Answer, Kind, Refusal, Shown};
+use net_addr::{Bytes, OutOfMemory};
+use neutron_http::{Fault, fault_of};
+use plane_types::{HostState, LabAnswer, Reply};
+use serde_json::{Map, Value};
+use std::alloc::Global;
+
+// The member that holds one row of a kind.
+fn singular(kind: Kind) -> &'static str
+    ensures { result.now ≡ resource_of kind }
+{
+    match kind {
+        Kind::Project => "project",
+        Kind::Network => "network",
+        Kind::Subnet => "subnet",
+        Kind::Port => "port",
+        Kind::Group => "security_group",
+        Kind::Rule => "security_group_rule",
+        Kind::Router => "router",
+        Kind::Floating => "floatingip",
+        Kind::Policy => "rbac_policy",
+    }
+}
+
+// The member that holds the rows of a kind.
+fn plural(kind: Kind) -> &'static str
+    ensures { result.now ≡ plural_of kind }
+{
+    match kind {
+        Kind::Project => "projects",
+        Kind::Network => "networks",
+        Kind::Subnet => "subnets",
+        Kind::Port => "ports",
+        Kind::Group => "security_groups",
+        Kind::Rule => "security_group_rules",
+        Kind::Router => "routers",
+        Kind::Floating => "floatingips",
+        Kind::Policy => "rbac_policies",
+    }
+}
+
+impl Prints for Shown {
+    ghost tree = { λ s. row_tree (shown_row s) };
+
+    fn value(&self, alloc: Global) -> Result<Value, OutOfMemory> {
+        Ok(Value::Object(members_of(alloc, self.members.as_slice())?))
+    }
+}
+
+impl Prints for HostState {
+    ghost tree = { host_tree };
+
+    fn value(&self, alloc: Global) -> Result<Value, OutOfMemory> {
+        let mut map = Map::new(alloc);
+        put(&mut map, alloc, "held", &self.held)?;
+        put(&mut map, alloc, "name", &self.name)?;
+        Ok(Value::Object(map))
+    }
+}
+
+// A value as the text of a body.
+fn text<T: Prints>(alloc: Global, value: &T) -> Result<Bytes, OutOfMemory>
+    ensures { IfOk result (λ b. b ≡ compact_text (tree_data (T.tree value.now))) }
+{
+    Ok(Bytes::from_vec(value.value(alloc)?.to_vec(alloc)?))
+}
+
+// A body with one member.
+#[derive(Drop)]
+struct OneMember<'a, T> {
+    name: &'static str,
+    value: &'a T,
+}
+
+impl<'a, T: Prints> Prints for OneMember<'a, T> {
+    ghost tree = { λ o. only o.name.now (T.tree o.value.now) };
+
+    fn value(&self, alloc: Global) -> Result<Value, OutOfMemory> {
+        let mut map = Map::new(alloc);
+        put(&mut map, alloc, self.name, self.value)?;
+        Ok(Value::Object(map))
+    }
+}
+
+// The text of a body with one member.
+fn only<T: Prints>(alloc: Global, name: &'static str, value: &T) -> Result<Bytes, OutOfMemory>
+    ensures { IfOk result (λ b. b ≡ compact_text (tree_data (only name.now (T.tree value.now)))) }
+{
+    text(alloc, &OneMember { name, value })
+}
+
+// The body of an answer.
+fn answered(alloc: Global, answer: &Answer) -> Result<Bytes, OutOfMemory>
+    ensures { IfOk result (λ b. b ≡ body_text (answer_tree (reply_of answer.now))) }
+{
+    match answer {
+        Answer::One(row) => only(alloc, singular(row.kind), row),
+        Answer::Many { kind, rows } => only(alloc, plural(*kind), rows),
+        Answer::Created(row) => only(alloc, singular(row.kind), row),
+        Answer::Gone => Ok(Bytes::from_vec(Vec::new(alloc))),
+        Answer::Interface(row) => text(alloc, row),
+    }
+}
+
+// The body of an answer of the lab.
+fn seen(alloc: Global, answer: &LabAnswer) -> Result<Bytes, OutOfMemory>
+    ensures { IfOk result (λ b. b ≡ compact_text (tree_data (lab_tree answer.now))) }
+{
+    match answer {
+        LabAnswer::Seen(verdict) => only(alloc, "verdict", verdict),
+        LabAnswer::Told(heard) => only(alloc, "heard", heard),
+        LabAnswer::Hosts(hosts) => only(alloc, "hosts", hosts),
+        LabAnswer::Tables(tables) => only(alloc, "tables", tables),
+    }
+}
+
+impl Prints for Fault {
+    ghost tree = { λ f. words_tree f.kind f.message };
+
+    fn value(&self, alloc: Global) -> Result<Value, OutOfMemory> {
+        let mut map = Map::new(alloc);
+        put(&mut map, alloc, "detail", &"")?;
+        put(&mut map, alloc, "message", &self.message)?;
+        put(&mut map, alloc, "type", &self.kind)?;
+        Ok(Value::Object(map))
+    }
+}
+
+// The body of a refusal.
+fn refused(alloc: Global, refusal: &Refusal) -> Result<Bytes, OutOfMemory>
+    ensures { IfOk result (λ b. b ≡ compact_text (tree_data (fault_tree refusal.now))) }
+{
+    let fault = fault_of(alloc, refusal)?;
+    only(alloc, "NeutronError", &fault)
+}
+
+/// The body of a reply: JSON without spaces (RFC 8259), the members of each object in byte order of
+/// their names. A deletion has none. The cost grows with what is printed.
+pub fn write_reply(alloc: Global, reply: &Reply) -> Result<Bytes, OutOfMemory>
+    ensures { IfOk result (λ b. b ≡ body_of reply.now) }
+{
+    match reply {
+        Reply::Done(answer) => answered(alloc, answer),
+        Reply::LabDone(answer) => seen(alloc, answer),
+        Reply::Refused(refusal) => refused(alloc, refusal),
+    }
+}

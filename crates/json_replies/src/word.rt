@@ -1,0 +1,109 @@
+//! Truth values, numbers, texts, ids and addresses as JSON.
+ghost use Rattle.std.specs.Prelude.{◌≡◌, IfOk};
+ghost use Rattle.api_types.specs.Printed.{truth, number, word};
+ghost use Rattle.json_replies.specs.Frames.{id_tree, address_tree, mac_tree, prefix_tree, direction_tree};
+
+use crate::printed::Prints;
+use api_types::{Direction, Id};
+use net_addr::{Addr4, Mac, OutOfMemory, Prefix4, Text};
+use serde_json::Value;
+use std::alloc::Global;
+
+impl Prints for bool {
+    ghost tree = { truth };
+
+    fn value(&self, _alloc: Global) -> Result<Value, OutOfMemory> {
+        Ok(Value::Bool(*self))
+    }
+}
+
+impl Prints for u8 {
+    ghost tree = { number };
+
+    fn value(&self, _alloc: Global) -> Result<Value, OutOfMemory> {
+        Ok(Value::from(*self))
+    }
+}
+
+impl Prints for u16 {
+    ghost tree = { number };
+
+    fn value(&self, _alloc: Global) -> Result<Value, OutOfMemory> {
+        Ok(Value::from(*self))
+    }
+}
+
+impl Prints for u32 {
+    ghost tree = { number };
+
+    fn value(&self, _alloc: Global) -> Result<Value, OutOfMemory> {
+        Ok(Value::from(*self))
+    }
+}
+
+impl Prints for u64 {
+    ghost tree = { number };
+
+    fn value(&self, _alloc: Global) -> Result<Value, OutOfMemory> {
+        Ok(Value::from(*self))
+    }
+}
+
+impl Prints for &str {
+    ghost tree = { λ s. word s.now };
+
+    fn value(&self, alloc: Global) -> Result<Value, OutOfMemory> {
+        Ok(Value::try_from_str(alloc, *self)?)
+    }
+}
+
+impl Prints for Text {
+    ghost tree = { word };
+
+    fn value(&self, alloc: Global) -> Result<Value, OutOfMemory> {
+        Ok(Value::try_from_str(alloc, self.as_str())?)
+    }
+}
+
+impl Prints for Id {
+    ghost tree = { id_tree };
+
+    fn value(&self, alloc: Global) -> Result<Value, OutOfMemory> {
+        self.print(alloc)?.value(alloc)
+    }
+}
+
+impl Prints for Addr4 {
+    ghost tree = { address_tree };
+
+    fn value(&self, alloc: Global) -> Result<Value, OutOfMemory> {
+        self.print(alloc)?.value(alloc)
+    }
+}
+
+impl Prints for Mac {
+    ghost tree = { mac_tree };
+
+    fn value(&self, alloc: Global) -> Result<Value, OutOfMemory> {
+        self.print(alloc)?.value(alloc)
+    }
+}
+
+impl Prints for Prefix4 {
+    ghost tree = { prefix_tree };
+
+    fn value(&self, alloc: Global) -> Result<Value, OutOfMemory> {
+        self.print(alloc)?.value(alloc)
+    }
+}
+
+impl Prints for Direction {
+    ghost tree = { direction_tree };
+
+    fn value(&self, alloc: Global) -> Result<Value, OutOfMemory> {
+        match self {
+            Direction::Ingress => "ingress".value(alloc),
+            Direction::Egress => "egress".value(alloc),
+        }
+    }
+}

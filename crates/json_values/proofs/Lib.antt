@@ -1,0 +1,4 @@
+pub mod SoughtLemmas
+pub mod AddressLemmas
+pub mod IdLemmas
+pub mod ListLemmas

@@ -1,0 +1,6 @@
+pub mod Texts
+pub mod Values
+pub mod Items
+pub mod Grammars
+pub mod Frames
+pub mod Allowed

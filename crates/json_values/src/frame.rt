@@ -1,0 +1,235 @@
+//! Frames of the lab.
+ghost use Rattle.std.specs.Prelude.{◌≡◌, ◌++◌, IfOk};
+ghost use Rattle.serde_json.specs.Find.{as_object};
+ghost use Rattle.serde_json.specs.View.{view};
+ghost use Rattle.json_values.specs.Frames.{sixteen_bits, eight_bits, other_protocol, carried_of, packet_names, part_names, part_of, packet_with, packet_of, arp_of, dhcp_of, other_of, kind_of, frame_by, frame_of};
+ghost use Rattle.json_values.specs.Values.{member_of, is_only};
+ghost use Rattle.json_values.specs.Items.{mac_of, address_of};
+
+use crate::object::is_object_of;
+use crate::value::{address_of, mac_of, whole_of};
+use net_addr::{Addr4, Mac};
+use plane_types::{Frame, KeyPart};
+use serde_json::Value;
+
+/// What a packet carries, as its `proto` names it.
+#[derive(Clone, Copy)]
+enum Carried {
+    Tcp,
+    Udp,
+    EchoAsk,
+    EchoReply,
+    Other,
+}
+
+/// A kind of frame, as its `kind` names it.
+#[derive(Clone, Copy)]
+enum FrameKind {
+    Ip4,
+    ArpAsk,
+    Dhcp,
+    Other,
+}
+
+fn sixteen_bits(value: &Value) -> Option<u16>
+    ensures { result ≡ sixteen_bits (view value.now) }
+{
+    match whole_of(value, 0, 65535) {
+        Some(number) => Some(number as u16),
+        None => None,
+    }
+}
+
+fn eight_bits(value: &Value) -> Option<u8>
+    ensures { result ≡ eight_bits (view value.now) }
+{
+    match whole_of(value, 0, 255) {
+        Some(number) => Some(number as u8),
+        None => None,
+    }
+}
+
+// A protocol that has no name of its own.
+fn other_protocol(value: &Value) -> Option<u8>
+    ensures { result ≡ other_protocol (view value.now) }
+{
+    match eight_bits(value) {
+        Some(number) if !(number == 1 || (number == 6 || number == 17)) => Some(number),
+        _ => None,
+    }
+}
+
+fn carried_of(value: &Value) -> Option<Carried>
+    ensures { result ≡ carried_of (view value.now) }
+{
+    match value.as_str()? {
+        "tcp" => Some(Carried::Tcp),
+        "udp" => Some(Carried::Udp),
+        "echo_ask" => Some(Carried::EchoAsk),
+        "echo_reply" => Some(Carried::EchoReply),
+        "other" => Some(Carried::Other),
+        _ => None,
+    }
+}
+
+// Whether a packet has no other members than those of what it carries.
+fn is_packet_of(frame: &Value, carries: Carried) -> bool
+    ensures { result ≡ is_only (packet_names ++ part_names carries) (as_object (view frame.now)) }
+{
+    match carries {
+        Carried::Tcp | Carried::Udp => is_object_of(
+            frame,
+            &[
+                "kind", "src", "dst", "from", "to", "ttl", "proto", "sport", "dport",
+            ],
+        ),
+        Carried::EchoAsk | Carried::EchoReply => is_object_of(
+            frame,
+            &["kind", "src", "dst", "from", "to", "ttl", "proto", "id"],
+        ),
+        Carried::Other => is_object_of(
+            frame,
+            &["kind", "src", "dst", "from", "to", "ttl", "proto", "number"],
+        ),
+    }
+}
+
+fn mac_at(frame: &Value, name: &str) -> Option<Mac>
+    ensures { result ≡ member_of mac_of name.now (view frame.now) }
+{
+    mac_of(frame.get(name)?)
+}
+
+fn address_at(frame: &Value, name: &str) -> Option<Addr4>
+    ensures { result ≡ member_of address_of name.now (view frame.now) }
+{
+    address_of(frame.get(name)?)
+}
+
+fn number_at(frame: &Value, name: &str) -> Option<u16>
+    ensures { result ≡ member_of sixteen_bits name.now (view frame.now) }
+{
+    sixteen_bits(frame.get(name)?)
+}
+
+fn part_of(frame: &Value, carries: Carried) -> Option<KeyPart>
+    ensures { result ≡ part_of carries (view frame.now) }
+{
+    match carries {
+        Carried::Tcp => {
+            let sport = number_at(frame, "sport")?;
+            let dport = number_at(frame, "dport")?;
+            Some(KeyPart::Tcp { sport, dport })
+        }
+        Carried::Udp => {
+            let sport = number_at(frame, "sport")?;
+            let dport = number_at(frame, "dport")?;
+            Some(KeyPart::Udp { sport, dport })
+        }
+        Carried::EchoAsk => {
+            let id = number_at(frame, "id")?;
+            Some(KeyPart::EchoAsk { id })
+        }
+        Carried::EchoReply => {
+            let id = number_at(frame, "id")?;
+            Some(KeyPart::EchoReply { id })
+        }
+        Carried::Other => {
+            let number = other_protocol(frame.get("number")?)?;
+            Some(KeyPart::Proto { number })
+        }
+    }
+}
+
+// A packet that carries this.
+fn packet_with(frame: &Value, carries: Carried) -> Option<Frame>
+    ensures { result ≡ packet_with carries (view frame.now) }
+{
+    if !is_packet_of(frame, carries) {
+        return None;
+    }
+    let src = mac_at(frame, "src")?;
+    let dst = mac_at(frame, "dst")?;
+    let from = address_at(frame, "from")?;
+    let to = address_at(frame, "to")?;
+    let ttl = eight_bits(frame.get("ttl")?)?;
+    let part = part_of(frame, carries)?;
+    Some(Frame::Ip4 {
+        src,
+        dst,
+        from,
+        to,
+        ttl,
+        part,
+    })
+}
+
+fn packet_of(frame: &Value) -> Option<Frame>
+    ensures { result ≡ packet_of (view frame.now) }
+{
+    let carries = carried_of(frame.get("proto")?)?;
+    packet_with(frame, carries)
+}
+
+fn arp_of(frame: &Value) -> Option<Frame>
+    ensures { result ≡ arp_of (view frame.now) }
+{
+    if !is_object_of(frame, &["kind", "src", "from", "to"]) {
+        return None;
+    }
+    let src = mac_at(frame, "src")?;
+    let from = address_at(frame, "from")?;
+    let to = address_at(frame, "to")?;
+    Some(Frame::ArpAsk { src, from, to })
+}
+
+fn dhcp_of(frame: &Value) -> Option<Frame>
+    ensures { result ≡ dhcp_of (view frame.now) }
+{
+    if !is_object_of(frame, &["kind", "src", "from"]) {
+        return None;
+    }
+    let src = mac_at(frame, "src")?;
+    let from = address_at(frame, "from")?;
+    Some(Frame::Dhcp { src, from })
+}
+
+fn other_of(frame: &Value) -> Option<Frame>
+    ensures { result ≡ other_of (view frame.now) }
+{
+    if !is_object_of(frame, &["kind", "src", "dst", "ethertype"]) {
+        return None;
+    }
+    let src = mac_at(frame, "src")?;
+    let dst = mac_at(frame, "dst")?;
+    let ethertype = number_at(frame, "ethertype")?;
+    Some(Frame::Other {
+        src,
+        dst,
+        ethertype,
+    })
+}
+
+fn kind_of(value: &Value) -> Option<FrameKind>
+    ensures { result ≡ kind_of (view value.now) }
+{
+    match value.as_str()? {
+        "ip4" => Some(FrameKind::Ip4),
+        "arp_ask" => Some(FrameKind::ArpAsk),
+        "dhcp_ask" => Some(FrameKind::Dhcp),
+        "other" => Some(FrameKind::Other),
+        _ => None,
+    }
+}
+
+/// The frame that an object says, which has exactly the members of its kind.
+pub(crate) fn frame_of(frame: &Value) -> Option<Frame>
+    ensures { result ≡ frame_of (view frame.now) }
+{
+    match kind_of(frame.get("kind")?)? {
+        FrameKind::Ip4 => packet_of(frame),
+        FrameKind::ArpAsk => arp_of(frame),
+        FrameKind::Dhcp => dhcp_of(frame),
+        FrameKind::Other => other_of(frame),
+    }
+}
