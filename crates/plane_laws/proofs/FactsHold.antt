@@ -8,7 +8,7 @@ use Rattle.row_laws.proofs.ListLemmas.{and_both, both_and, any-at, any-weaker, f
 use Rattle.row_laws.proofs.NameLemmas.{ident_same, ident_itself, bytes_same, bytes_itself, all-at, by_test}
 use Rattle.plane_laws.proofs.ListLemmas.{find-passes, find-each, find-only, find-some, some_of, AllOf-more, any-only, each-found}
 use Rattle.plane_laws.proofs.Counted.{all-of, each-of, once-counted, once-weighed, counted, AtMostOne-less_each, AtMostOne-none, AtMostOne-unfound, AllOf-both}
-use Rattle.plane_laws.proofs.IdTexts.{one-text}
+use Rattle.row_laws.proofs.IdTexts.{one-text}
 use Rattle.api_types.specs.Consistent.{IsConsistent}
 use Rattle.api_types.specs.Consistent.Carried.{is_bound, is_unbound}
 use Rattle.api_types.specs.Consistent.HeldOnce.{holds_times}

@@ -17,7 +17,6 @@ pub mod PortLaw
 pub mod Leases
 pub mod WireLaw
 pub mod Counted
-pub mod IdTexts
 pub mod FactsHold
 pub mod SyncedHold
 pub mod Theorem

@@ -1,6 +1,7 @@
 pub mod ListLemmas
 pub mod NameLemmas
 pub mod IdLemmas
+pub mod IdTexts
 pub mod CountRaised
 pub mod NetworkPushed
 pub mod NetworkReplaced
@@ -15,3 +16,17 @@ pub mod RulesGone
 pub mod ProjectRegistered
 pub mod DrawnKept
 pub mod NetworkCreated
+pub mod SubnetPushed
+pub mod SubnetReplaced
+pub mod SubnetsGone
+pub mod RouterPushed
+pub mod RouterReplaced
+pub mod RoutersGone
+pub mod FloatingPushed
+pub mod FloatingReplaced
+pub mod FloatingsGone
+pub mod PolicyPushed
+pub mod PolicyReplaced
+pub mod PoliciesGone
+pub mod GroupReplaced
+pub mod RuleReplaced

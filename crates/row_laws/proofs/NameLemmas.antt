@@ -10,7 +10,7 @@ use Rattle.api_types.specs.Ident.{Ident}
 use Rattle.api_types.specs.Table.{ident_eq}
 use Rattle.api_types.specs.Lists.{Each, Pass, stands, if_some, is_some_so}
 use Rattle.api_types.specs.Owners.{is_dhcp, is_interface, is_gateway, is_floating}
-use Rattle.row_laws.proofs.ListLemmas.{and_both, both_and, false_true, none_some, some_equal, each-push, each-set, each-filter, sum-set_same, sum-filter-le}
+use Rattle.row_laws.proofs.ListLemmas.{any-push, or_false, and_both, both_and, false_true, none_some, some_equal, each-push, each-set, each-filter, sum-set_same, sum-filter-le}
 
 pub ident_same : (a b : Ident) → ident_eq a b ≡ true → a ≡ b
 ident_same a b h =
@@ -164,3 +164,17 @@ count-filter keep test xs n most = omega (arith, most, sum-filter-le keep (λ y.
 pub if_some-weaker_at : {X : Type 0} (p q : X → Bool) (o : Option X) → ((x : X) → o ≡ Some x → p x ≡ true → q x ≡ true) → if_some p o ≡ true → if_some q o ≡ true
 if_some-weaker_at p q None w h = refl
 if_some-weaker_at p q (Some x) w h = w x refl h
+
+pub or_left_weaker : (a b c : Bool) → (a ≡ true → b ≡ true) → a || c ≡ true → b || c ≡ true
+or_left_weaker true b c w h = ap (λ d. d || c) (w refl)
+or_left_weaker false true c w h = refl
+or_left_weaker false false c w h = h
+
+-- a test that passed less often asks less
+pub unless_weaker : (a b c : Bool) → (b ≡ true → a ≡ true) → not a || c ≡ true → not b || c ≡ true
+unless_weaker a true c w h = sym (ap (λ d. not d || c) (w refl)) ∙ h
+unless_weaker a false c w h = refl
+
+-- a test that doesn't pass of the row that is added
+pub any-push_other : {X : Type 0} (test : X → Bool) (xs : List X) (x : X) → test x ≡ false → list_any test (xs ++ x ∷ []) ≡ list_any test xs
+any-push_other test xs x fails = any-push test xs x ∙ ap (λ b. list_any test xs || b) fails ∙ or_false (list_any test xs)

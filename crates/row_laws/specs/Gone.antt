@@ -1,21 +1,38 @@
 -- Rows with fewer, and what has to hold of those that go.
-use Rattle.std.specs.Prelude.{◌≡◌, List, Bool, true, false}
+use Rattle.std.specs.Prelude.{◌≡◌, List, Bool, true, false, Some}
 use Rattle.std.specs.Prelude.{◌||◌, not, filter}
 use Rattle.std.specs.List.{list_any}
 use Rattle.api_types.specs.Ident.{Ident}
 use Rattle.api_types.specs.Table.{ident_eq}
 use Rattle.api_types.specs.RowLists.{RowLists}
 use Rattle.api_types.specs.Lists.{Each, is_some_so}
-use Rattle.api_types.specs.Owners.{is_interface, is_gateway, is_dhcp}
+use Rattle.api_types.specs.Owners.{is_interface, is_gateway, is_dhcp, is_port_of, holds_in}
+use Rattle.api_types.specs.Sharing.{is_shared_with, is_external_to}
 use Rattle.api_types.specs.Consistent.Named.{is_own_port}
+use Rattle.api_types.specs.declared.subnet.SubnetRow.{SubnetRow}
 use Rattle.api_types.specs.declared.port.PortRow.{PortRow}
 use Rattle.api_types.specs.declared.group.RuleRow.{RuleRow}
+use Rattle.api_types.specs.declared.router.RouterRow.{RouterRow}
+use Rattle.api_types.specs.declared.router.Gateway.{Gateway}
 use Rattle.api_types.specs.declared.floating.FloatingRow.{FloatingRow}
 use Rattle.api_types.specs.declared.floating.Target.{Target}
+use Rattle.api_types.specs.declared.policy.PolicyRow.{PolicyRow}
 
 -- the rows without the ports, the rules, .. that a test doesn't keep
 abbrev pub with_ports_kept : (PortRow → Bool) → RowLists → RowLists
 with_ports_kept keep rows = record rows { ports = filter keep rows.ports }
+
+abbrev pub with_subnets_kept : (SubnetRow → Bool) → RowLists → RowLists
+with_subnets_kept keep rows = record rows { subnets = filter keep rows.subnets }
+
+abbrev pub with_routers_kept : (RouterRow → Bool) → RowLists → RowLists
+with_routers_kept keep rows = record rows { routers = filter keep rows.routers }
+
+abbrev pub with_floatings_kept : (FloatingRow → Bool) → RowLists → RowLists
+with_floatings_kept keep rows = record rows { floatings = filter keep rows.floatings }
+
+abbrev pub with_policies_kept : (PolicyRow → Bool) → RowLists → RowLists
+with_policies_kept keep rows = record rows { policies = filter keep rows.policies }
 
 abbrev pub with_rules_kept : (RuleRow → Bool) → RowLists → RowLists
 with_rules_kept keep rows = record rows { rules = filter keep rows.rules }
@@ -55,3 +72,19 @@ without_group rows i = record rows {
 pub record IsUnusedGroup (rows : RowLists) (i : Ident) : Type 0 where
   pub plain : Each (λ g. ident_eq i g.id ≡ true → g.is_default ≡ false) rows.groups
   pub unnamed : Each (λ p. list_any (ident_eq i) p.groups ≡ false) rows.ports
+
+-- a subnet that is not leased by DHCP, and in which no port holds an address
+pub record IsUnusedSubnet (ports : List PortRow) (s : SubnetRow) : Type 0 where
+  pub plain : s.dhcp ≡ false
+  pub unheld : Each (λ p. holds_in s.id p ≡ false) ports
+
+-- a router that no port names, and by which no floating address leads
+pub record IsUnusedRouter (ports : List PortRow) (floatings : List FloatingRow) (r : RouterRow) : Type 0 where
+  pub unnamed : Each (λ p. is_port_of r p ≡ false) ports
+  pub unled : list_any (λ f. is_some_so (λ (t : Target). ident_eq r.id t.router) f.target) floatings ≡ false
+
+-- by other policies, what was permitted to the ports, the gateways and the floating addresses that stand still is
+pub record ArePermittedStill (rows : RowLists) (policies : List PolicyRow) : Type 0 where
+  pub ports : Each (λ p. is_shared_with rows.policies p.network p.project ≡ true → is_shared_with policies p.network p.project ≡ true) rows.ports
+  pub gateways : Each (λ r. (g : Gateway) → r.gateway ≡ Some g → is_external_to rows.policies g.network r.project ≡ true → is_external_to policies g.network r.project ≡ true) rows.routers
+  pub addresses : Each (λ f. is_external_to rows.policies f.network f.project ≡ true → is_external_to policies f.network f.project ≡ true) rows.floatings

@@ -1,16 +1,18 @@
 -- Rows with one more, last in the list of its kind, and what has to hold of it.
-use Rattle.std.specs.Prelude.{◌≡◌, ◌+◌, ◌<◌, ◌≤◌, ◌++◌, ◌∷◌, ℕ, [], List, true, false, length, sum_by}
+use Rattle.std.specs.Prelude.{◌≡◌, ◌+◌, ◌<◌, ◌≤◌, ◌++◌, ◌∷◌, ℕ, [], List, None, true, false, length, sum_by}
 use Rattle.std.specs.Prelude.{◌&&◌, ◌||◌, count_by}
 use Rattle.std.specs.List.{list_all}
 use Rattle.api_types.specs.RowLists.{RowLists}
 use Rattle.api_types.specs.Lists.{Each, if_some, is_empty}
-use Rattle.api_types.specs.Owners.{is_interface, is_gateway, is_dhcp}
+use Rattle.api_types.specs.Owners.{is_interface, is_gateway, is_dhcp, is_port_of}
 use Rattle.api_types.specs.Consistent.Numbered.{is_drawn, times_in}
 use Rattle.api_types.specs.Consistent.Named.{is_network, is_registered, names_subnet}
-use Rattle.api_types.specs.Consistent.InForm.{is_segment, is_group_of, is_port_form}
+use Rattle.api_types.specs.Consistent.InForm.{is_segment, is_network_of, is_group_of, is_subnet_form, is_port_form}
 use Rattle.api_types.specs.Consistent.HeldOnce.{has_mac, holds_times}
 use Rattle.api_types.specs.Consistent.Hosts.{is_host_in}
+use Rattle.api_types.specs.Consistent.Disjoint.{subnets_clash}
 use Rattle.api_types.specs.Consistent.Segments.{same_segment, most_networks}
+use Rattle.api_types.specs.Consistent.Permitted.{same_policy}
 use Rattle.api_types.specs.Consistent.Groups.{same_rule}
 use Rattle.api_types.specs.Consistent.Access.{may_be_there}
 use Rattle.api_types.specs.declared.network.NetworkRow.{NetworkRow}
@@ -91,3 +93,31 @@ pub record IsNewGroup (rows : RowLists) (g : GroupRow) : Type 0 where
   pub drawn : is_drawn rows.projects g.id ≡ true
   pub project : is_registered rows.projects g.project ≡ true
   pub plain : g.is_default ≡ false
+
+-- a subnet of its network's project that is not leased by DHCP
+pub record IsNewSubnet (rows : RowLists) (s : SubnetRow) : Type 0 where
+  pub fresh : times_in rows s.id ≡ 0
+  pub drawn : is_drawn rows.projects s.id ≡ true
+  pub network : is_network rows.networks s.network ≡ true
+  pub project : is_registered rows.projects s.project ≡ true
+  pub owner : is_network_of rows.networks s.project s.network ≡ true
+  pub form : is_subnet_form s ≡ true
+  pub plain : s.dhcp ≡ false
+  pub apart : Each (λ t. (subnets_clash t s ≡ false) × (subnets_clash s t ≡ false)) rows.subnets
+
+-- a router without gateway and routes
+pub record IsNewRouter (rows : RowLists) (r : RouterRow) : Type 0 where
+  pub fresh : times_in rows r.id ≡ 0
+  pub drawn : is_drawn rows.projects r.id ≡ true
+  pub project : is_registered rows.projects r.project ≡ true
+  pub no_gateway : r.gateway ≡ None
+  pub no_routes : r.routes ≡ []
+  pub unnamed : Each (λ p. is_port_of r p ≡ false) rows.ports
+
+-- a policy that doesn't stand yet
+pub record IsNewPolicy (rows : RowLists) (l : PolicyRow) : Type 0 where
+  pub fresh : times_in rows l.id ≡ 0
+  pub drawn : is_drawn rows.projects l.id ≡ true
+  pub network : is_network rows.networks l.object ≡ true
+  pub project : is_registered rows.projects l.project ≡ true
+  pub alone : (p : PolicyRow) → same_policy p l ≡ true → count_by (same_policy p) rows.policies ≡ 0

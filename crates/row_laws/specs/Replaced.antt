@@ -1,20 +1,26 @@
 -- Rows with another one in the place of one, and what has to hold of the two.
-use Rattle.std.specs.Prelude.{◌≡◌, ℕ, Bool, true, false, slice_set}
+use Rattle.std.specs.Prelude.{◌≡◌, ◌≤◌, ℕ, Bool, true, false, slice_set, length, count_by, nat_le}
 use Rattle.std.specs.Prelude.{◌==◌, ◌&&◌, ◌||◌, not}
 use Rattle.std.specs.List.{list_any, list_all}
+use Rattle.api_types.specs.Ident.{Ident}
 use Rattle.api_types.specs.Table.{ident_eq}
 use Rattle.api_types.specs.RowLists.{RowLists}
 use Rattle.api_types.specs.Lists.{Each, if_some, is_empty}
 use Rattle.api_types.specs.Owners.{is_interface, is_gateway, is_dhcp, is_floating}
-use Rattle.api_types.specs.Consistent.Named.{names_subnet, is_own_port}
+use Rattle.api_types.specs.Consistent.Named.{is_port, is_router, names_subnet, is_own_port}
 use Rattle.api_types.specs.Consistent.InForm.{is_group_of, is_port_form}
 use Rattle.api_types.specs.Consistent.HeldOnce.{AreHeldOnce}
 use Rattle.api_types.specs.Consistent.Hosts.{is_host_in}
+use Rattle.api_types.specs.Consistent.Floating.{leads_to, stands_for}
+use Rattle.api_types.specs.Consistent.Permitted.{same_policy}
+use Rattle.api_types.specs.Consistent.NextHops.{is_reached}
+use Rattle.row_laws.specs.Gone.{ArePermittedStill}
 use Rattle.api_types.specs.declared.network.NetworkRow.{NetworkRow}
 use Rattle.api_types.specs.declared.subnet.SubnetRow.{SubnetRow}
 use Rattle.api_types.specs.declared.port.PortRow.{PortRow}
 use Rattle.api_types.specs.declared.port.Fixed.{Fixed}
 use Rattle.api_types.specs.declared.group.GroupRow.{GroupRow}
+use Rattle.api_types.specs.declared.group.RuleRow.{RuleRow}
 use Rattle.api_types.specs.declared.router.RouterRow.{RouterRow}
 use Rattle.api_types.specs.declared.floating.FloatingRow.{FloatingRow}
 use Rattle.api_types.specs.declared.floating.Target.{Target}
@@ -31,6 +37,9 @@ with_port_at rows place r = record rows { ports = slice_set rows.ports place r }
 
 abbrev pub with_group_at : RowLists → ℕ → GroupRow → RowLists
 with_group_at rows place r = record rows { groups = slice_set rows.groups place r }
+
+abbrev pub with_rule_at : RowLists → ℕ → RuleRow → RowLists
+with_rule_at rows place r = record rows { rules = slice_set rows.rules place r }
 
 abbrev pub with_router_at : RowLists → ℕ → RouterRow → RowLists
 with_router_at rows place r = record rows { routers = slice_set rows.routers place r }
@@ -71,3 +80,63 @@ pub record IsReplacedPort (rows : RowLists) (place : ℕ) (old new : PortRow) : 
   pub groups : list_all (is_group_of rows.groups new.project) new.groups ≡ true
   pub bare : new.secured || (is_empty new.groups && is_empty new.pairs) ≡ true
   pub targets : Each (λ f. if_some (λ (t : Target). not (ident_eq t.port old.id) || list_all (is_held_still new t) old.fixed) f.target ≡ true) rows.floatings
+
+-- two subnets of one network that differ in name, description, gateway, pools and what DHCP tells
+pub record IsReplacedSubnet (old new : SubnetRow) : Type 0 where
+  pub id : new.id ≡ old.id
+  pub project : new.project ≡ old.project
+  pub network : new.network ≡ old.network
+  pub prefix : new.prefix ≡ old.prefix
+
+-- two groups that differ in name and description alone
+pub record IsRenamedGroup (old new : GroupRow) : Type 0 where
+  pub id : new.id ≡ old.id
+  pub project : new.project ≡ old.project
+  pub is_default : new.is_default ≡ old.is_default
+
+-- two rules that differ in their description alone
+pub record IsRedescribedRule (old new : RuleRow) : Type 0 where
+  pub id : new.id ≡ old.id
+  pub project : new.project ≡ old.project
+  pub group : new.group ≡ old.group
+  pub direction : new.direction ≡ old.direction
+  pub ethertype : new.ethertype ≡ old.ethertype
+  pub protocol : new.protocol ≡ old.protocol
+  pub low : new.low ≡ old.low
+  pub high : new.high ≡ old.high
+  pub remote_prefix : new.remote_prefix ≡ old.remote_prefix
+  pub remote_group : new.remote_group ≡ old.remote_group
+
+-- two routers on one host that differ in name, description, state, gateway and routes
+pub record IsReplacedRouter (old new : RouterRow) : Type 0 where
+  pub id : new.id ≡ old.id
+  pub project : new.project ≡ old.project
+  pub host : new.host ≡ old.host
+
+-- two floating addresses that differ in description and target alone
+pub record IsReplacedFloating (old new : FloatingRow) : Type 0 where
+  pub id : new.id ≡ old.id
+  pub project : new.project ≡ old.project
+  pub network : new.network ≡ old.network
+  pub own_port : new.own_port ≡ old.own_port
+  pub address : new.address ≡ old.address
+
+-- a floating address that leads in order or nowhere, and alone
+pub record IsRedirected (rows : RowLists) (place : ℕ) (new : FloatingRow) : Type 0 where
+  pub port : if_some (λ (t : Target). is_port rows.ports t.port) new.target ≡ true
+  pub router : if_some (λ (t : Target). is_router rows.routers t.router) new.target ≡ true
+  pub leads : if_some (leads_to rows.ports rows.routers new) new.target ≡ true
+  pub once : (network port : Ident) (x : ℕ) → count_by (stands_for network port x) (slice_set rows.floatings place new) ≤ 1
+
+-- a policy of the same project and network in place of an old one, by which what was permitted to rows that stand still is
+pub record IsRetargetedPolicy (rows : RowLists) (place : ℕ) (old new : PolicyRow) : Type 0 where
+  pub id : new.id ≡ old.id
+  pub project : new.project ≡ old.project
+  pub object : new.object ≡ old.object
+  pub once : (p : PolicyRow) → count_by (same_policy p) (slice_set rows.policies place new) ≤ 1
+  pub permitted : ArePermittedStill rows (slice_set rows.policies place new)
+
+-- a router whose routes are few and lead somewhere
+pub record IsRerouted (rows : RowLists) (new : RouterRow) : Type 0 where
+  pub few : nat_le (length new.routes) 30 ≡ true
+  pub reached : list_all (is_reached rows.subnets rows.ports new) new.routes ≡ true

@@ -6,20 +6,27 @@
 //! the rows of `api_types` alone.
 #![tactic(auto)]
 
-ghost use Rattle.std.specs.Prelude.{◌≡◌, ◌+◌, ◌<◌, ◌≤◌, ◌^◌, ℕ, Bool, false, List, Some, slice_get};
-ghost use Rattle.api_types.specs.Ident.{Ident};
+ghost use Rattle.std.specs.Prelude.{◌≡◌, ◌+◌, ◌<◌, ◌≤◌, ◌^◌, ℕ, Bool, true, false, List, Some, slice_get, filter};
+ghost use Rattle.api_types.specs.Ident.{Ident, IsDrawable};
 ghost use Rattle.api_types.specs.Lists.{Each};
+ghost use Rattle.api_types.specs.Owners.{is_port_of};
 ghost use Rattle.api_types.specs.Registration.{Drawing, draw_of};
 ghost use Rattle.api_types.specs.RowLists.{RowLists};
 ghost use Rattle.api_types.specs.Rows.{AreTables};
 ghost use Rattle.api_types.specs.Consistent.{IsConsistent};
+ghost use Rattle.api_types.specs.Consistent.Numbered.{times_in};
+ghost use Rattle.api_types.specs.Consistent.InForm.{is_subnet_form};
 ghost use Rattle.api_types.specs.declared.network.NetworkRow.{NetworkRow};
+ghost use Rattle.api_types.specs.declared.subnet.SubnetRow.{SubnetRow};
 ghost use Rattle.api_types.specs.declared.port.PortRow.{PortRow};
 ghost use Rattle.api_types.specs.declared.group.GroupRow.{GroupRow};
 ghost use Rattle.api_types.specs.declared.group.RuleRow.{RuleRow};
-ghost use Rattle.row_laws.specs.NewRows.{with_network, with_port, with_group, with_rule, IsNewPort, IsNewGroup, IsNewRule};
-ghost use Rattle.row_laws.specs.Replaced.{with_network_at, with_port_at, IsRenamedNetwork, IsReplacedPort};
-ghost use Rattle.row_laws.specs.Gone.{with_ports_kept, with_rules_kept, without_network, without_group, IsOfNoUse, IsUnused, IsUnusedGroup};
+ghost use Rattle.api_types.specs.declared.router.RouterRow.{RouterRow};
+ghost use Rattle.api_types.specs.declared.floating.FloatingRow.{FloatingRow};
+ghost use Rattle.api_types.specs.declared.policy.PolicyRow.{PolicyRow};
+ghost use Rattle.row_laws.specs.NewRows.{with_network, with_subnet, with_port, with_group, with_rule, with_router, with_policy, IsNewSubnet, IsNewPort, IsNewGroup, IsNewRule, IsNewRouter, IsNewPolicy};
+ghost use Rattle.row_laws.specs.Replaced.{with_network_at, with_subnet_at, with_port_at, with_group_at, with_rule_at, with_router_at, with_floating_at, with_policy_at, IsRenamedNetwork, IsReplacedSubnet, IsReplacedPort, IsRenamedGroup, IsRedescribedRule, IsReplacedRouter, IsRerouted, IsReplacedFloating, IsRedirected, IsRetargetedPolicy};
+ghost use Rattle.row_laws.specs.Gone.{with_subnets_kept, with_ports_kept, with_rules_kept, with_routers_kept, with_policies_kept, without_network, without_group, IsUnusedSubnet, IsOfNoUse, IsUnused, IsUnusedGroup, IsUnusedRouter, ArePermittedStill};
 ghost use Rattle.row_laws.specs.Drawn.{IsDrawing, AreNew};
 ghost use Rattle.row_laws.specs.NewNetwork.{IsMadeNetwork};
 
@@ -54,14 +61,53 @@ pub fn port_edits_keep()
     ensures gone { (rows : RowLists) (keep : PortRow → Bool) → IsConsistent rows → Each (λ p. keep p ≡ false → IsOfNoUse rows.floatings p) rows.ports → IsConsistent (with_ports_kept keep rows) }
 {}
 
-/// A group that is added leaves rows consistent, and so does one that goes with its rules.
+/// A subnet without DHCP that is added, a subnet that is changed and subnets that nothing uses and
+/// that go leave rows consistent.
+pub fn subnet_edits_keep()
+    ensures pushed { (rows : RowLists) (s : SubnetRow) → IsConsistent rows → IsNewSubnet rows s → IsConsistent (with_subnet rows s) }
+    ensures replaced { (rows : RowLists) (place : ℕ) (old new : SubnetRow) → IsConsistent rows → slice_get rows.subnets place ≡ Some old → IsReplacedSubnet old new → new.dhcp ≡ old.dhcp → is_subnet_form new ≡ true → IsConsistent (with_subnet_at rows place new) }
+    ensures gone { (rows : RowLists) (keep : SubnetRow → Bool) → IsConsistent rows → Each (λ s. keep s ≡ false → IsUnusedSubnet rows.ports s) rows.subnets → IsConsistent (with_subnets_kept keep rows) }
+{}
+
+/// A router without gateway and routes that is added, a router that is changed but for its gateway,
+/// and routers that nothing uses and that go leave rows consistent.
+pub fn router_edits_keep()
+    ensures pushed { (rows : RowLists) (r : RouterRow) → IsConsistent rows → IsNewRouter rows r → IsConsistent (with_router rows r) }
+    ensures replaced { (rows : RowLists) (place : ℕ) (old new : RouterRow) → IsConsistent rows → slice_get rows.routers place ≡ Some old → IsReplacedRouter old new → new.gateway ≡ old.gateway → IsRerouted rows new → IsConsistent (with_router_at rows place new) }
+    ensures gone { (rows : RowLists) (keep : RouterRow → Bool) → IsConsistent rows → Each (λ r. keep r ≡ false → IsUnusedRouter rows.ports rows.floatings r) rows.routers → IsConsistent (with_routers_kept keep rows) }
+{}
+
+/// In consistent rows no port names a router of a new id, where ids are drawable ones, whose texts
+/// differ.
+pub fn new_routers_are_unnamed()
+    ensures { (rows : RowLists) (r : RouterRow) → IsConsistent rows → times_in rows r.id ≡ 0 → IsDrawable r.id → Each (λ q. IsDrawable q.id) rows.routers → Each (λ p. is_port_of r p ≡ false) rows.ports }
+{}
+
+/// A floating address that is led elsewhere, or nowhere, leaves rows consistent.
+pub fn floating_edits_keep()
+    ensures { (rows : RowLists) (place : ℕ) (old new : FloatingRow) → IsConsistent rows → slice_get rows.floatings place ≡ Some old → IsReplacedFloating old new → IsRedirected rows place new → IsConsistent (with_floating_at rows place new) }
+{}
+
+/// A policy that is added leaves rows consistent, and so do one that is changed and policies that go
+/// where what was permitted to rows that stand still is.
+pub fn policy_edits_keep()
+    ensures pushed { (rows : RowLists) (l : PolicyRow) → IsConsistent rows → IsNewPolicy rows l → IsConsistent (with_policy rows l) }
+    ensures replaced { (rows : RowLists) (place : ℕ) (old new : PolicyRow) → IsConsistent rows → slice_get rows.policies place ≡ Some old → IsRetargetedPolicy rows place old new → IsConsistent (with_policy_at rows place new) }
+    ensures gone { (rows : RowLists) (keep : PolicyRow → Bool) → IsConsistent rows → ArePermittedStill rows (filter keep rows.policies) → IsConsistent (with_policies_kept keep rows) }
+{}
+
+/// A group that is added leaves rows consistent, and so do one that is given another name or
+/// description and one that goes with its rules.
 pub fn group_edits_keep()
     ensures pushed { (rows : RowLists) (g : GroupRow) → IsConsistent rows → IsNewGroup rows g → IsConsistent (with_group rows g) }
+    ensures replaced { (rows : RowLists) (place : ℕ) (old new : GroupRow) → IsConsistent rows → slice_get rows.groups place ≡ Some old → IsRenamedGroup old new → IsConsistent (with_group_at rows place new) }
     ensures gone { (rows : RowLists) (i : Ident) → IsConsistent rows → IsUnusedGroup rows i → IsConsistent (without_group rows i) }
 {}
 
-/// A rule that is added, and rules that go, leave rows consistent.
+/// A rule that is added, one that is given another description, and rules that go leave rows
+/// consistent.
 pub fn rule_edits_keep()
     ensures pushed { (rows : RowLists) (r : RuleRow) → IsConsistent rows → IsNewRule rows r → IsConsistent (with_rule rows r) }
+    ensures replaced { (rows : RowLists) (place : ℕ) (old new : RuleRow) → IsConsistent rows → slice_get rows.rules place ≡ Some old → IsRedescribedRule old new → IsConsistent (with_rule_at rows place new) }
     ensures gone { (rows : RowLists) (keep : RuleRow → Bool) → IsConsistent rows → IsConsistent (with_rules_kept keep rows) }
 {}

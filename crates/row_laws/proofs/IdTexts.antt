@@ -1,14 +1,13 @@
 -- Ids with one printed text are the same.
 use Rattle.std.proofs.Common.{◌≡◌, ℕ, zero, suc, [], ◌∷◌, ◌/◌, ◌%◌, ◌^◌, ◌<◌, List, arith, refl, ap, sym, ◌∙◌, inl, Some}
 use Rattle.std.specs.Prelude.{length}
-use Rattle.std.specs.List.{All}
+use Rattle.std.specs.List.{All, AllByRecursion}
 use Rattle.std.specs.Int.{w128, to_be_bytes, from_be_bytes}
 use Rattle.uuid.specs.Text.{lower, parsed_hyphenated}
 use Rattle.uuid.proofs.RoundTrips.{parses_hyphenated_text}
 use Rattle.api_types.proofs.IdentLemmas.{ordinal_back, count_back}
 use Rattle.std.proofs.lemmas.Option.{same_Some}
 use Rattle.api_types.specs.Ident.{Ident, IsDrawable, ident_text, uuid_bytes, uuid_number}
-use Rattle.plane_laws.proofs.Facts.{AllOf}
 
 bytes-long : (n : ℕ) → length (to_be_bytes w128 n) ≡ 16
 bytes-long n = refl
@@ -16,7 +15,7 @@ bytes-long n = refl
 mod256 : (n : ℕ) → n % 256 < 256
 mod256 n = omega arith
 
-small-all : (bs : List ℕ) → AllOf (λ b. b < 256) bs → All (λ b. b < 256) bs
+small-all : (bs : List ℕ) → AllByRecursion (λ b. b < 256) bs → All (λ b. b < 256) bs
 small-all [] h k d less = absurd (omega (arith, less))
 small-all (b ∷ bs) h zero d less = h.0
 small-all (b ∷ bs) h (suc k) d less = small-all bs h.1 k d (omega (arith, less))
