@@ -8,3 +8,4 @@ pub mod NamedLemmas
 pub mod PartLemmas
 pub mod HeadLemmas
 pub mod ReadLemmas
+pub mod Resuming

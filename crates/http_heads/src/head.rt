@@ -1,6 +1,6 @@
 //! Reading the head of a request from the bytes that have come.
 ghost use Rattle.std.specs.Prelude.{◌≡◌, ℕ, ◌≤◌, ◌<◌, length, take, true};
-ghost use Rattle.http_heads.specs.Heads.{Judgement, Decides};
+ghost use Rattle.http_heads.specs.Heads.{Judgement, Decides, IsUndecided};
 ghost use Rattle.http_heads.specs.Read.{IsHeadRead, IsReadAs, IsNumbered};
 
 use crate::HEAD_LIMIT;
@@ -53,15 +53,29 @@ pub enum HeadRead {
 ///
 /// A prefix is judged where it ends with a line feed or has 16,384 bytes; `ended` tells that no more
 /// bytes come. It takes no memory and copies nothing. Each judged prefix is read from its front, so
-/// a call costs at most the number of lines (66) times their bytes (16,384).
+/// the cost is at most the number of line feeds in the head times its bytes.
 pub fn read_head(buffer: &[u8], ended: bool) -> HeadRead
     requires { ended ≡ true → 0 < length buffer.now }
     ensures is { IsHeadRead buffer.now ended result }
     ensures only { (judgement : Judgement) → Decides buffer.now judgement → IsReadAs buffer.now judgement result }
     ensures number { IsNumbered result }
 {
+    resume_head(buffer, 0, ended)
+}
+
+/// The same of bytes of which the first `from` decide nothing, as an earlier look at them told.
+///
+/// Only prefixes that end behind those are judged. So a head that comes in pieces, each of which is
+/// looked at as it comes, has each of its prefixes judged once, as a head that comes whole.
+pub fn resume_head(buffer: &[u8], from: usize, ended: bool) -> HeadRead
+    requires some { ended ≡ true → 0 < length buffer.now }
+    requires open { IsUndecided (take from buffer.now) }
+    ensures is { IsHeadRead buffer.now ended result }
+    ensures only { (judgement : Judgement) → Decides buffer.now judgement → IsReadAs buffer.now judgement result }
+    ensures number { IsNumbered result }
+{
     let mut fields = [EMPTY_HEADER_SPAN; 65];
-    for at in 0..buffer.len().min(HEAD_LIMIT) {
+    for at in from..buffer.len().min(HEAD_LIMIT) {
         match judge_at(buffer, at, &mut fields) {
             Judged::Open => {}
             Judged::Wrong => return HeadRead::Refused(1),

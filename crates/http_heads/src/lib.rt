@@ -14,7 +14,7 @@ mod line_count;
 mod values;
 mod whole;
 
-pub use head::{HeadParts, HeadRead, Part, read_head};
+pub use head::{HeadParts, HeadRead, Part, read_head, resume_head};
 pub use laws::head_laws;
 pub use values::read_number;
 

@@ -1,7 +1,7 @@
 use Rattle.std.proofs.Common.{◌≡◌, ℕ, ◌≤◌, take, length}
 use Rattle.http_heads.specs.Heads.{IsOpen, IsJudged}
 use Rattle.http_heads.specs.Lines.{line_feeds, behind_blank}
-use Rattle.http_heads.proofs.head.read_head.Given as goal
+use Rattle.http_heads.proofs.head.resume_head.Given as goal
 
 abbrev pub invariant-loop-at : goal.invariant-loop-at
 invariant-loop-at l = record {
