@@ -1,5 +1,5 @@
 -- What a desk tells, and what its calls do to that.
-use Rattle.std.specs.Prelude.{◌≡◌, ℕ, ◌+◌, ◌-◌, ◌<◌, List, [], ◌∷◌, ◌++◌, Option, Some, None, option_map, unwrap_or, Result, Ok, Err, ⊤, Bool, ◌&&◌, nat_eq}
+use Rattle.std.specs.Prelude.{◌≡◌, ℕ, ◌+◌, ◌-◌, List, [], ◌∷◌, ◌++◌, Option, Some, None, option_map, unwrap_or, Result, Ok, Err, ⊤, Bool, ◌&&◌, nat_eq}
 use Rattle.std.specs.List.{list_all}
 use Rattle.api_types.specs.RowLists.{RowLists}
 use Rattle.api_types.specs.Rows.{no_rows}
@@ -84,10 +84,11 @@ CountsOut (Ok (Some pair)) old new = new ≡ option_map one_out old
 CountsOut (Ok None) old new = new ≡ old
 CountsOut (Err e) old new = new ≡ old
 
--- a connection that was out is handed back
+-- a connection is handed back, and comes last among those that were. A desk stops telling them only where none was out
 abbrev pub TakesBack : Option Returned → Ended → Option Returned → Type 0
 TakesBack None end new = new ≡ None
-TakesBack (Some returned) end new = 0 < returned.out → new ≡ Some (record { ended = returned.ended ++ end ∷ []; out = returned.out - 1 })
+TakesBack (Some returned) end None = returned.out ≡ 0
+TakesBack (Some returned) end (Some new) = new ≡ record { ended = returned.ended ++ end ∷ []; out = returned.out - 1 }
 
 -- ---- desks in memory
 
@@ -109,10 +110,10 @@ sure_end = end_of (λ input. Some input.left) (λ _. 0) (λ output. Some output.
 abbrev pub fresh_ends : List (FailingUnread × FailingWritten) → Bool
 fresh_ends pairs = are_fresh (λ input. input.calls.faults) (λ output. output.calls.faults) pairs
 
--- connections to come and those that were handed back
+-- connections to come and those that were handed back, as far as they are told
 pub record Handed (P : Type 0) : Type 0 where
   pub to_come : List P
-  pub returned : Returned
+  pub returned : Option Returned
 
 -- all that a desk in memory tells
 pub record DeskTold (P : Type 0) : Type 0 where
@@ -120,7 +121,7 @@ pub record DeskTold (P : Type 0) : Type 0 where
   pub files : List (Named (List ℕ))
   pub stores : Stores
   pub to_come : List P
-  pub returned : Returned
+  pub returned : Option Returned
 
 -- one more ask
 abbrev pub asked : {P : Type 0} → DeskAsk → DeskTold P → DeskTold P
@@ -134,7 +135,7 @@ asked_in_vain OutOfMemory ask told = told
 abbrev pub with_stores : {P : Type 0} → Stores → DeskTold P → DeskTold P
 with_stores stores told = record { asks = told.asks; files = told.files; stores = stores; to_come = told.to_come; returned = told.returned }
 
-abbrev pub with_returned : {P : Type 0} → Returned → DeskTold P → DeskTold P
+abbrev pub with_returned : {P : Type 0} → Option Returned → DeskTold P → DeskTold P
 with_returned returned told = record { asks = told.asks; files = told.files; stores = told.stores; to_come = told.to_come; returned = returned }
 
 -- a desk in memory that fails in listed calls

@@ -1,4 +1,4 @@
-ghost use Rattle.std.specs.Prelude.{◌≡◌, ◌<◌, ◌++◌, [], ◌∷◌, map, Some, None, Ok, IsTrue, IfOk, IfErr, OnOk, OnErr, vec_len, vec_capacity, option_copied};
+ghost use Rattle.std.specs.Prelude.{◌≡◌, ◌<◌, ◌++◌, [], ◌∷◌, map, Some, None, Ok, IsTrue, IfOk, IfErr, OnOk, OnErr, vec_len, vec_capacity, option_map, option_copied};
 ghost use Rattle.keeper_core.specs.Counts.{IsWant};
 ghost use Rattle.keeper_core.specs.Desk.{file_named, opening_rows, opened_as, closed_as, asked, asked_in_vain, with_stores, with_returned, HandsOut, CountsOut, TakesBack, AddsAsk, end_of, are_fresh};
 
@@ -61,7 +61,7 @@ impl<I: Source, O: Sink> Book<I, O> {
         to_come: Seq<(I, O)>,
     ) -> Book<I, O>
         requires { IsTrue (are_fresh I.faults O.faults to_come) }
-        ensures { result ≡ record { asks = []; files = files; stores = record { named = stores; unnamed = None; opened = None }; to_come = to_come; returned = record { ended = []; out = 0 } } }
+        ensures { result ≡ record { asks = []; files = files; stores = record { named = stores; unnamed = None; opened = None }; to_come = to_come; returned = Some (record { ended = []; out = 0 }) } }
     {
         Book {
             asks: Vec::new(alloc),
@@ -85,9 +85,9 @@ impl<I: Source, O: Sink> Book<I, O> {
         self.shelf.named()
     }
 
-    /// The connections that were handed back.
-    pub fn ended(&self) -> &[(I, O)]
-        ensures { map (end_of I.left I.faults O.written O.flushed O.faults) result.now ≡ self.now.returned.ended }
+    /// The connections that were handed back, where they are told.
+    pub fn ended(&self) -> Option<&[(I, O)]>
+        ensures { option_map (λ ended. map (end_of I.left I.faults O.written O.flushed O.faults) ended.now) result ≡ option_map (λ returned. returned.ended) self.now.returned }
     {
         self.connections.ended()
     }
@@ -148,7 +148,7 @@ impl<I: Source, O: Sink> Book<I, O> {
     pub fn next(&mut self) -> Result<Option<(I, O)>, DeskRefusal>
         ensures fresh { (input : I) (output : O) → result ≡ Ok (Some (input, output)) → (I.faults input ≡ 0) × (O.faults output ≡ 0) }
         ensures to_come { HandsOut result (Some self.old.to_come) (Some self.new.to_come) }
-        ensures returned { CountsOut result (Some self.old.returned) (Some self.new.returned) }
+        ensures returned { CountsOut result self.old.returned self.new.returned }
         ensures asks { AddsAsk result DeskAsk.Next (Some self.old.asks) (Some self.new.asks) }
         ensures files { self.new.files ≡ self.old.files }
         ensures stores { self.new.stores ≡ self.old.stores }
@@ -160,12 +160,12 @@ impl<I: Source, O: Sink> Book<I, O> {
         Ok(pair)
     }
 
-    /// Takes back a connection that is out. It takes no memory.
+    /// Takes back a connection. It takes no memory.
     pub fn take_back(&mut self, input: I, output: O)
     where
         I: Drop,
         O: Drop,
-        ensures returned { TakesBack (Some self.old.returned) (end_of I.left I.faults O.written O.flushed O.faults (input, output)) (Some self.new.returned) }
+        ensures returned { TakesBack self.old.returned (end_of I.left I.faults O.written O.flushed O.faults (input, output)) self.new.returned }
         ensures others { self.new ≡ with_returned self.new.returned self.old }
     {
         self.connections.take_back(input, output);

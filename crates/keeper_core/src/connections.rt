@@ -1,4 +1,4 @@
-ghost use Rattle.std.specs.Prelude.{◌≡◌, map, Some, Ok, [], IsTrue, IfErr};
+ghost use Rattle.std.specs.Prelude.{◌≡◌, map, Some, Ok, [], IsTrue, IfErr, option_map};
 ghost use Rattle.keeper_core.specs.Counts.{IsWant};
 ghost use Rattle.keeper_core.specs.Desk.{HandsOut, CountsOut, TakesBack, end_of, are_fresh};
 
@@ -16,16 +16,18 @@ pub struct Connections<I: Source, O: Sink> {
     to_come: VecDeque<(I, O)>,
     ended: Vec<(I, O)>,
     out: usize,
+    told: bool,
 }
 
-// There is room for each connection that is out, so that handing it back takes no memory.
+// There is room for each connection that is out, so that handing it back takes no memory. Where one
+// comes that never was out, and there is no room for it, those that came back are told no more.
 impl<I: Source, O: Sink> Model for Connections<I, O> {
-    ghost use Rattle.std.specs.Prelude.{◌+◌, ◌≤◌, IsTrue, map, vec_len, vec_capacity};
+    ghost use Rattle.std.specs.Prelude.{◌+◌, ◌≤◌, Some, None, IsTrue, if◌then◌else◌, map, vec_len, vec_capacity};
     ghost use Rattle.keeper_core.specs.Desk.{Handed, end_of, are_fresh};
 
     ghost Value = { Handed (I × O) };
 
-    ghost view = { λ c. record { to_come = c.to_come.items; returned = record { ended = map (end_of I.left I.faults O.written O.flushed O.faults) c.ended.items; out = c.out } } };
+    ghost view = { λ c. record { to_come = c.to_come.items; returned = if c.told then Some (record { ended = map (end_of I.left I.faults O.written O.flushed O.faults) c.ended.items; out = c.out }) else None } };
 
     ghost invariant = { λ c. (vec_len c.ended + c.out ≤ vec_capacity c.ended) × IsTrue (are_fresh I.faults O.faults c.to_come.items) };
 }
@@ -34,27 +36,32 @@ impl<I: Source, O: Sink> Connections<I, O> {
     /// These connections are to come.
     pub fn make(alloc: Global, to_come: Seq<(I, O)>) -> Connections<I, O>
         requires { IsTrue (are_fresh I.faults O.faults to_come) }
-        ensures { result ≡ record { to_come = to_come; returned = record { ended = []; out = 0 } } }
+        ensures { result ≡ record { to_come = to_come; returned = Some (record { ended = []; out = 0 }) } }
     {
         Connections {
             to_come: VecDeque::from(to_come.into_vec()),
             ended: Vec::new(alloc),
             out: 0,
+            told: true,
         }
     }
 
-    /// The connections that were handed back.
-    pub fn ended(&self) -> &[(I, O)]
-        ensures { map (end_of I.left I.faults O.written O.flushed O.faults) result.now ≡ self.now.returned.ended }
+    /// The connections that were handed back, where they are told.
+    pub fn ended(&self) -> Option<&[(I, O)]>
+        ensures { option_map (λ ended. map (end_of I.left I.faults O.written O.flushed O.faults) ended.now) result ≡ option_map (λ returned. returned.ended) self.now.returned }
     {
-        self.ended.as_slice()
+        if self.told {
+            Some(self.ended.as_slice())
+        } else {
+            None
+        }
     }
 
     /// The next connection, or all stays as it is.
     pub fn next(&mut self) -> Result<Option<(I, O)>, DeskRefusal>
         ensures fresh { (input : I) (output : O) → result ≡ Ok (Some (input, output)) → (I.faults input ≡ 0) × (O.faults output ≡ 0) }
         ensures to_come { HandsOut result (Some self.old.to_come) (Some self.new.to_come) }
-        ensures returned { CountsOut result (Some self.old.returned) (Some self.new.returned) }
+        ensures returned { CountsOut result self.old.returned self.new.returned }
         ensures sure { IfErr result IsWant }
     {
         let Some(out) = self.out.checked_add(1) else {
@@ -68,15 +75,19 @@ impl<I: Source, O: Sink> Connections<I, O> {
         Ok(Some(pair))
     }
 
-    /// Takes back a connection that is out. It takes no memory.
+    /// Takes back a connection. It takes no memory.
     pub fn take_back(&mut self, input: I, output: O)
     where
         I: Drop,
         O: Drop,
         ensures to_come { self.new.to_come ≡ self.old.to_come }
-        ensures returned { TakesBack (Some self.old.returned) (end_of I.left I.faults O.written O.flushed O.faults (input, output)) (Some self.new.returned) }
+        ensures returned { TakesBack self.old.returned (end_of I.left I.faults O.written O.flushed O.faults (input, output)) self.new.returned }
     {
-        self.out = self.out.saturating_sub(1);
-        let _ = self.ended.push((input, output));
+        if self.ended.len() < self.ended.capacity() {
+            self.out = self.out.saturating_sub(1);
+            self.ended.push_reserved((input, output));
+        } else {
+            self.told = false;
+        }
     }
 }

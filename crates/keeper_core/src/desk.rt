@@ -103,7 +103,9 @@ pub trait Desk {
         ensures store_faults { store_faults self.new ≡ store_faults self.old }
         ensures cause { HasRefusalCause (faults self.old) (faults self.new) result };
 
-    /// Takes back a connection that is out. It takes no memory.
+    /// Takes back a connection, which comes last among those that were handed back. It refuses
+    /// nothing and takes no memory. A desk that tells them may stop only where none was out, since it
+    /// keeps room for each that is.
     fn done(&mut self, input: Self::In, output: Self::Out)
         ensures returned { TakesBack (returned self.old) (record { left = Self.In.left input; written = Self.Out.written output; flushed = Self.Out.flushed output; input_faults = Self.In.faults input; output_faults = Self.Out.faults output }) (returned self.new) }
         ensures asks { asks self.new ≡ asks self.old }

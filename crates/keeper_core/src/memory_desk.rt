@@ -1,4 +1,4 @@
-ghost use Rattle.std.specs.Prelude.{◌≡◌, Some, None, Ok, [], map, IsOk, IsTrue, IfOk, IfErr, OnOk, OnErr, false, option_copied};
+ghost use Rattle.std.specs.Prelude.{◌≡◌, Some, None, Ok, [], map, IsOk, IsTrue, IfOk, IfErr, OnOk, OnErr, false, option_map, option_copied};
 ghost use Rattle.keeper_core.specs.Calls.{counted, fails_next};
 ghost use Rattle.keeper_core.specs.Counts.{HasRefusalCause, IsFailure};
 ghost use Rattle.keeper_core.specs.Desk.{file_named, opening_rows, opened_as, asked, asked_in_vain, with_stores, fresh_ends, memory_end, HandsOut, CountsOut, AddsAsk};
@@ -54,7 +54,7 @@ impl MemoryDesk {
         store_failing: Numbers,
     ) -> Result<MemoryDesk, OutOfMemory>
         requires { IsTrue (fresh_ends connections) }
-        ensures { IfOk result (λ desk. desk ≡ record { told = record { asks = []; files = files; stores = record { named = stores; unnamed = None; opened = None }; to_come = connections; returned = record { ended = []; out = 0 } }; calls = record { made = 0; failing = failing; faults = 0 }; store_failing = store_failing; store_faults = 0 }) }
+        ensures { IfOk result (λ desk. desk ≡ record { told = record { asks = []; files = files; stores = record { named = stores; unnamed = None; opened = None }; to_come = connections; returned = Some (record { ended = []; out = 0 }) }; calls = record { made = 0; failing = failing; faults = 0 }; store_failing = store_failing; store_faults = 0 }) }
     {
         Ok(MemoryDesk {
             book: Book::make(alloc, files, stores, connections),
@@ -78,9 +78,10 @@ impl MemoryDesk {
         self.book.stores()
     }
 
-    /// The connections that were handed back, in order.
-    pub fn ended(&self) -> &[(MemorySource, MemorySink)]
-        ensures { map memory_end result.now ≡ self.now.told.returned.ended }
+    /// The connections that were handed back, in order, where they are told. They are until one is
+    /// handed back that never was handed out, and for which there is no room.
+    pub fn ended(&self) -> Option<&[(MemorySource, MemorySink)]>
+        ensures { option_map (λ ended. map memory_end ended.now) result ≡ option_map (λ returned. returned.ended) self.now.told.returned }
     {
         self.book.ended()
     }
@@ -114,7 +115,7 @@ impl Desk for MemoryDesk {
 
     ghost to_come = { λ d. Some d.told.to_come };
 
-    ghost returned = { λ d. Some d.told.returned };
+    ghost returned = { λ d. d.told.returned };
 
     ghost faults = { λ d. d.calls.faults };
 
@@ -179,7 +180,7 @@ impl Desk for MemoryDesk {
     fn next(&mut self, _alloc: Global) -> Result<Option<(MemorySource, MemorySink)>, DeskRefusal>
         ensures fresh { (input : FailingUnread) (output : FailingWritten) → result ≡ Ok (Some (input, output)) → (input.calls.faults ≡ 0) × (output.calls.faults ≡ 0) }
         ensures to_come { HandsOut result (Some self.old.told.to_come) (Some self.new.told.to_come) }
-        ensures returned { CountsOut result (Some self.old.told.returned) (Some self.new.told.returned) }
+        ensures returned { CountsOut result self.old.told.returned self.new.told.returned }
         ensures asks { AddsAsk result DeskAsk.Next (Some self.old.told.asks) (Some self.new.told.asks) }
         ensures files { self.new.told.files ≡ self.old.told.files }
         ensures stores { self.new.told.stores ≡ self.old.told.stores }

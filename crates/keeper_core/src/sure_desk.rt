@@ -1,4 +1,4 @@
-ghost use Rattle.std.specs.Prelude.{◌≡◌, Some, None, [], map, IfOk, IfErr, OnOk, OnErr, option_copied};
+ghost use Rattle.std.specs.Prelude.{◌≡◌, Some, None, [], map, IfOk, IfErr, OnOk, OnErr, option_map, option_copied};
 ghost use Rattle.keeper_core.specs.Counts.{IsWant};
 ghost use Rattle.keeper_core.specs.Desk.{file_named, opening_rows, opened_as, asked, with_stores, sure_end};
 
@@ -42,7 +42,7 @@ impl SureDesk {
         stores: NamedRows,
         connections: SureEnds,
     ) -> Result<SureDesk, OutOfMemory>
-        ensures { IfOk result (λ desk. desk ≡ record { asks = []; files = files; stores = record { named = stores; unnamed = None; opened = None }; to_come = connections; returned = record { ended = []; out = 0 } }) }
+        ensures { IfOk result (λ desk. desk ≡ record { asks = []; files = files; stores = record { named = stores; unnamed = None; opened = None }; to_come = connections; returned = Some (record { ended = []; out = 0 }) }) }
     {
         Ok(SureDesk {
             book: Book::make(alloc, files, stores, connections),
@@ -63,9 +63,10 @@ impl SureDesk {
         self.book.stores()
     }
 
-    /// The connections that were handed back, in order.
-    pub fn ended(&self) -> &[(SureSource, SureSink)]
-        ensures { map sure_end result.now ≡ self.now.returned.ended }
+    /// The connections that were handed back, in order, where they are told. They are until one is
+    /// handed back that never was handed out, and for which there is no room.
+    pub fn ended(&self) -> Option<&[(SureSource, SureSink)]>
+        ensures { option_map (λ ended. map sure_end ended.now) result ≡ option_map (λ returned. returned.ended) self.now.returned }
     {
         self.book.ended()
     }
@@ -86,7 +87,7 @@ impl Desk for SureDesk {
 
     ghost to_come = { λ d. Some d.to_come };
 
-    ghost returned = { λ d. Some d.returned };
+    ghost returned = { λ d. d.returned };
 
     ghost faults = { λ d. 0 };
 

@@ -145,7 +145,20 @@ fn sure_desks_hand_out(rt: HostRuntime) -> Result<(), Fail> {
     let mut desk = SureDesk::make(alloc, files(alloc)?, Seq::new(alloc), ends)?;
     let got = visit(alloc, &mut desk, &Text::of(alloc, "a")?);
     assert!(rt; matches!(&got, Ok(bytes) if bytes.as_slice() == "x".as_bytes()));
-    assert!(rt; desk.asks().len() == 4 && desk.ended().len() == 1 && desk.stores().len() == 1);
+    assert!(rt; matches!(desk.ended(), Some(ended) if ended.len() == 1));
+    assert!(rt; desk.asks().len() == 4 && desk.stores().len() == 1);
+    Ok(())
+}
+
+// No room is kept for a connection that the desk never handed out.
+#[test]
+fn unknown_connections_are_not_told(rt: HostRuntime) -> Result<(), Fail> {
+    let alloc = rt.alloc();
+    let mut desk = SureDesk::make(alloc, files(alloc)?, Seq::new(alloc), Seq::new(alloc))?;
+    assert!(rt; matches!(desk.ended(), Some(ended) if ended.is_empty()));
+    let input = SureSource::make(bytes(alloc, "z")?, 1);
+    desk.done(input, SureSink::make(alloc));
+    assert!(rt; desk.ended().is_none());
     Ok(())
 }
 
