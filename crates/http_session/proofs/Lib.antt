@@ -1,0 +1,5 @@
+mod Pieces
+mod Heading
+mod Going
+mod Turning
+mod One

@@ -1,0 +1,56 @@
+-- Pieces of lists.
+use Rattle.std.proofs.Common.{[], ◌∷◌, append-nil, ◌≡◌, ℕ, ◌+◌, ◌-◌, ◌≤◌, ◌<◌, List, ◌++◌, length, take, drop, Option, sym, ap, subst, ◌∙◌, arith, length-drop}
+use Rattle.std.specs.Io.KnownBytes.{Appends, Consumes, Keeps, IsAtEnd, ReadConsumes}
+use Rattle.std.specs.Io.{ReadsAtMost}
+use Rattle.std.specs.Prelude.{Result, Ok, Err, IfOk, OnErr}
+use Rattle.std.proofs.KnownBytes.{Appends-trans}
+use Rattle.std.proofs.lemmas.List.{take-append-le, drop-take, drop-drop, length-take, length-take-le}
+use Rattle.std.proofs.Math.Seq.{take-add, take-append_seam, take-append-add}
+use lib.Seq.{paste}
+
+-- the first n elements of a list whose front has n
+take_front : (n : ℕ) (front back : List ℕ) → length front ≡ n → take n (front ++ back) ≡ front
+take_front n front back size = subst (λ k. take k (front ++ back) ≡ front) size (take-append_seam front back)
+
+-- bytes that are moved to the front
+pub moved_front : (bytes : List ℕ) (start len n : ℕ) → n ≡ len → start + len ≤ length bytes → take len (paste bytes 0 (drop start bytes) n) ≡ take len (drop start bytes)
+moved_front bytes start len n same fits =
+    subst (λ k. take len (paste bytes 0 (drop start bytes) k) ≡ take len (drop start bytes)) (sym same)
+    (take_front len (take len (drop start bytes)) _ (length-take-le len (drop start bytes) (omega (arith, length-drop start bytes, fits))))
+
+-- a part of a list without its first elements
+pub part_behind : (bytes : List ℕ) (start len count : ℕ) → count ≤ length (take len (drop start bytes)) → take (len - count) (drop (start + count) bytes) ≡ drop count (take len (drop start bytes))
+part_behind bytes start len count below =
+    let n = len - count in
+    let sum : count + n ≡ len = omega (arith, below, length-take len (drop start bytes)) in
+    ap (take n) (sym (drop-drop count start bytes)) ∙ sym (drop-take count n (drop start bytes)) ∙ ap (λ k. drop count (take k (drop start bytes))) sum
+
+-- one more piece is written
+pub one_more : (old mid new : Option (List ℕ)) (reply : List ℕ) (sent n : ℕ)
+    → Appends old mid (take sent reply) → Appends mid new (take n (drop sent reply)) → Appends old new (take (sent + n) reply)
+one_more old mid new reply sent n p q = subst (Appends old new) (sym (take-add sent n reply)) (Appends-trans old mid new (take sent reply) (take n (drop sent reply)) p q)
+
+-- what was read stands behind the first bytes
+read_on : (old buf post : List ℕ) (len n : ℕ) → len ≤ length old → n ≤ length buf → take (len + n) (take len old ++ (buf ++ post)) ≡ take len old ++ take n buf
+read_on old buf post len n fits below =
+    subst (λ k. take (k + n) (take len old ++ (buf ++ post)) ≡ take len old ++ take n (buf ++ post)) (length-take-le len old fits) (take-append-add (take len old) (buf ++ post) n)
+    ∙ ap (λ l. take len old ++ l) (take-append-le n buf post below)
+
+pub read_ok : {E : Type 0} (r : Result ℕ E) (a b : Option (List ℕ)) (old buf post : List ℕ) (len at_most : ℕ)
+    → len + length buf ≤ length old → length buf ≤ at_most → 0 < length buf
+    → ReadsAtMost r buf → ReadConsumes a b r buf
+    → IfOk r (λ n. (piece : List ℕ) × (take (len + n) (take len old ++ (buf ++ post)) ≡ take len old ++ piece)
+    × (length piece ≡ n) × (len + n ≤ length old) × (n ≤ at_most) × Consumes a b piece × (n ≡ 0 → IsAtEnd b))
+read_ok (Ok n) a b old buf post len at_most fits few some bound bytes =
+    (take n buf, read_on old buf post len n (omega (arith, fits)) bound.0, length-take-le n buf bound.0, omega (arith, fits, bound.0), omega (arith, few, bound.0), bytes.0, λ zero. bytes.1 zero some)
+read_ok (Err e) a b old buf post len at_most fits few some bound bytes = tt
+
+pub read_err : {E : Type 0} (r : Result ℕ E) (a b : Option (List ℕ)) (old buf rest : List ℕ) (len : ℕ)
+    → len ≤ length old → ReadConsumes a b r buf → OnErr r ((take len (take len old ++ rest) ≡ take len old) × Keeps a b)
+read_err (Ok n) a b old buf rest len fits bytes = tt
+read_err (Err e) a b old buf rest len fits bytes = (take_front len (take len old) rest (length-take-le len old fits), bytes)
+
+-- a piece without bytes adds nothing
+pub grew_none : (old new piece : List ℕ) (n : ℕ) → new ≡ old ++ piece → length piece ≡ n → n ≡ 0 → new ≡ old
+grew_none old new [] n grew size zero = grew ∙ append-nil old
+grew_none old new (b ∷ piece) n grew size zero = absurd (omega (arith, size, zero))

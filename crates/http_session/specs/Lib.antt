@@ -1,0 +1,7 @@
+pub mod Accounts
+pub mod Answers
+pub mod Reading
+pub mod Requests
+pub mod Serves
+pub mod Told
+pub mod Turns

@@ -1,0 +1,59 @@
+-- Reading on until a request has come.
+use Rattle.std.specs.Prelude.{◌≡◌, ℕ, ◌+◌, ◌<◌, ◌≤◌, Option, List, [], ◌++◌, length, drop}
+use Rattle.std.specs.Io.KnownBytes.{Consumes, IsAtEnd}
+use Rattle.httparse.specs.Grammar.{RequestHead, print_request}
+use Rattle.http_heads.specs.Fields.{body_length, closes}
+use Rattle.http_heads.specs.Heads.{Asked, Takes, Passes, Refuses, Decides, IsUndecided, IsWaiting}
+use Rattle.http_heads.specs.Parts.{ArePartsOf}
+use Rattle.http_session.specs.Requests.{IsRequest}
+use Rattle.http_session.specs.Serves.{IsRefused}
+use Rattle.http_session.specs.declared.request.Request.{Request}
+use Rattle.http_session.specs.declared.reading.Awaited.{Awaited}
+use Rattle.http_session.specs.declared.reading.Awaited.TheVariants.{Found, Stopped}
+use Rattle.http_session.specs.declared.reading.Looked.{Looked}
+use Rattle.http_session.specs.declared.reading.Looked.TheVariants.{Open, Whole, Wrong}
+use Rattle.http_session.specs.declared.reading.Stop.{Stop}
+use Rattle.http_session.specs.declared.reading.Stop.TheVariants.{Bad, AtEnd, NoRead, Spent}
+
+-- some more bytes were read
+pub record Reads (old new : List ℕ) (left left_new : Option (List ℕ)) (taken taken_new : ℕ) : Type 0 where
+  pub more : List ℕ
+  pub grew : new ≡ old ++ more
+  pub read : Consumes left left_new more
+  pub count : taken_new ≡ taken + length more
+
+-- the bytes begin with a head that passes, and the request's parts are those of the head and of the body behind it
+pub record HasHead (bytes : List ℕ) (request : Request) (head : RequestHead) : Type 0 where
+  pub decides : Decides bytes (Passes head)
+  pub parts : ArePartsOf bytes head request.parts
+  pub start : request.body.start ≡ length (print_request head)
+  pub end : request.body.end ≡ request.body.start + body_length head
+  pub close : request.close ≡ closes head
+
+-- what a look at the bytes tells
+abbrev pub IsLooked : List ℕ → Looked → Type 0
+IsLooked bytes Open = IsUndecided bytes
+IsLooked bytes (Whole request) = (head : RequestHead) × HasHead bytes request head
+IsLooked bytes (Wrong n) = Decides bytes (Refuses n) × (1 ≤ n) × (n ≤ 4)
+
+-- why no request came
+abbrev pub IsStop : ℕ → List ℕ → Option (List ℕ) → ℕ → Stop → Type 0
+IsStop limit buffer left taken (Bad n) = IsRefused limit buffer left taken n × (1 ≤ n) × (n ≤ 4)
+IsStop limit buffer left taken AtEnd = (buffer ≡ []) × IsAtEnd left × (taken < limit)
+IsStop limit buffer left taken NoRead = IsWaiting buffer × (taken < limit)
+IsStop limit buffer left taken Spent = IsWaiting buffer × (taken ≡ limit)
+
+-- a head was waited for
+abbrev pub IsHeadAwaited : ℕ → List ℕ → Option (List ℕ) → ℕ → Awaited → Type 0
+IsHeadAwaited limit buffer left taken (Found request) = (head : RequestHead) × HasHead buffer request head
+IsHeadAwaited limit buffer left taken (Stopped stop) = IsStop limit buffer left taken stop
+
+-- the buffer begins with this request
+abbrev pub IsFound : List ℕ → Request → Type 0
+IsFound buffer request = (request.body.end ≤ length buffer) × (0 < request.body.end)
+    × ((asked : Asked) × Takes buffer asked (drop request.body.end buffer) × IsRequest buffer request asked)
+
+-- a request was waited for
+abbrev pub IsAwaited : ℕ → List ℕ → Option (List ℕ) → ℕ → Awaited → Type 0
+IsAwaited limit buffer left taken (Found request) = IsFound buffer request
+IsAwaited limit buffer left taken (Stopped stop) = IsStop limit buffer left taken stop

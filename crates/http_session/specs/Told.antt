@@ -1,0 +1,41 @@
+-- How one request is answered.
+use Rattle.std.specs.Prelude.{◌≡◌, ℕ, ◌+◌, Bool, List, [], ◌∷◌}
+use Rattle.std.specs.List.{flat_map}
+use Rattle.http_heads.specs.Heads.{Asked}
+use Rattle.http_heads.specs.Fields.{closes}
+
+-- the machine's reply, or a refusal because the store failed or memory was wanting
+pub data Told : Type 0 where
+  Answered : List ℕ → Told
+  StoreFailed : List ℕ → Told
+  NoMemory : List ℕ → Told
+
+abbrev pub told_bytes : Told → List ℕ
+told_bytes (Answered reply) = reply
+told_bytes (StoreFailed reply) = reply
+told_bytes (NoMemory reply) = reply
+
+-- one where the store failed
+abbrev pub told_faults : Told → ℕ
+told_faults (Answered reply) = 0
+told_faults (StoreFailed reply) = 1
+told_faults (NoMemory reply) = 0
+
+abbrev pub replies : List Told → List ℕ
+replies tolds = flat_map told_bytes tolds
+
+abbrev pub faults : List Told → ℕ
+faults [] = 0
+faults (told ∷ tolds) = told_faults told + faults tolds
+
+-- the replies that aren't the machine's: of the store's failing, of want of memory, and of refusals 1 to 4
+pub record Fixed : Type 0 where
+  pub store_failed : Bool → List ℕ
+  pub no_memory : Bool → List ℕ
+  pub refusal : ℕ → List ℕ
+
+-- a request moves the world by the machine's step, or not at all
+abbrev pub Moves : {W : Type 0} → (W → Asked → List ℕ → W → Type 0) → Fixed → W → Asked → Told → W → Type 0
+Moves step fixed old asked (Answered reply) new = step old asked reply new
+Moves step fixed old asked (StoreFailed reply) new = (new ≡ old) × (reply ≡ fixed.store_failed (closes asked.head))
+Moves step fixed old asked (NoMemory reply) new = (new ≡ old) × (reply ≡ fixed.no_memory (closes asked.head))

@@ -1,0 +1,168 @@
+//! Waiting for a request.
+ghost use Rattle.std.specs.Prelude.{◌≡◌, ℕ, ◌+◌, ◌<◌, ◌≤◌, List, ◌++◌, length, take, OnOk, OnErr, IfErr};
+ghost use Rattle.std.specs.Io.KnownBytes.{Consumes};
+ghost use Rattle.httparse.specs.Grammar.{RequestHead};
+ghost use Rattle.http_heads.specs.Heads.{IsUndecided, IsWaiting};
+ghost use Rattle.keeper_core.specs.Counts.{RoseBy};
+ghost use Rattle.http_session.specs.Reading.{Reads, HasHead, IsLooked, IsStop, IsHeadAwaited, IsAwaited};
+
+use crate::buffer::Buffer;
+use crate::request::Request;
+use http_heads::{HeadRead, Part, resume_head};
+use keeper_core::Source;
+
+// Why no request came.
+#[derive(Clone, Copy)]
+pub(crate) enum Stop {
+    // The bytes are refused, with a number from 1 to 4.
+    Bad(u8),
+    // The input ended, and no byte is left.
+    AtEnd,
+    // A read failed.
+    NoRead,
+    // As many bytes were read as the limit allows.
+    Spent,
+}
+
+// What came.
+#[derive(Clone, Copy)]
+pub(crate) enum Awaited {
+    Found(Request),
+    Stopped(Stop),
+}
+
+// What a look at the bytes tells.
+#[derive(Clone, Copy)]
+enum Looked {
+    // Nothing yet.
+    Open,
+    // A head, and where the request's body is to stand.
+    Whole(Request),
+    // A refusal, from 1 to 4.
+    Wrong(u8),
+}
+
+// Looks at bytes of which the first `seen` decide nothing.
+fn look(bytes: &[u8], seen: usize) -> Looked
+    requires { IsUndecided (take seen bytes.now) }
+    ensures { IsLooked bytes.now result }
+{
+    match resume_head(bytes, seen, false) {
+        HeadRead::More => Looked::Open,
+        HeadRead::Head {
+            length,
+            body,
+            close,
+            parts,
+        } => Looked::Whole(Request {
+            parts,
+            body: Part {
+                start: body,
+                end: body + length as usize,
+            },
+            close,
+        }),
+        HeadRead::Refused(number) => Looked::Wrong(number),
+    }
+}
+
+// Reads some more bytes behind those that wait for them.
+fn read_more<I: Source>(
+    input: &mut I,
+    buffer: &mut Buffer,
+    taken: &mut u64,
+    limit: u64,
+) -> Result<(), Stop>
+    requires waits { IsWaiting buffer.old }
+    requires within { taken.old ≤ limit }
+    ensures reads { Reads buffer.old buffer.new (I.left input.old) (I.left input.new) taken.old taken.new }
+    ensures within { taken.new ≤ limit }
+    ensures some { OnOk result (taken.old < taken.new) }
+    ensures stop { IfErr result (IsStop limit buffer.new (I.left input.new) taken.new) }
+    ensures later { I.faults input.old ≤ I.faults input.new }
+    ensures fault { IfErr result (λ stop. stop ≡ Stop.NoRead → RoseBy 1 (I.faults input.old) (I.faults input.new)) }
+{
+    if *taken == limit {
+        return Err(Stop::Spent);
+    }
+    let Ok(count) = buffer.read_from(input, limit - *taken) else {
+        return Err(Stop::NoRead);
+    };
+    *taken += count as u64;
+    if count == 0 {
+        if buffer.as_slice().len() == 0 {
+            return Err(Stop::AtEnd);
+        }
+        return Err(Stop::Bad(1));
+    }
+    Ok(())
+}
+
+// Reads until the buffer begins with a head.
+fn await_head<I: Source>(input: &mut I, buffer: &mut Buffer, taken: &mut u64, limit: u64) -> Awaited
+    requires { taken.old ≤ limit }
+    ensures reads { Reads buffer.old buffer.new (I.left input.old) (I.left input.new) taken.old taken.new }
+    ensures within { taken.new ≤ limit }
+    ensures is { IsHeadAwaited limit buffer.new (I.left input.new) taken.new result }
+    ensures later { I.faults input.old ≤ I.faults input.new }
+    ensures fault { result ≡ Awaited.Stopped Stop.NoRead → RoseBy 1 (I.faults input.old) (I.faults input.new) }
+{
+    let mut seen = 0;
+    'heads: loop {
+        match look(buffer.as_slice(), seen) {
+            Looked::Whole(request) => return Awaited::Found(request),
+            Looked::Wrong(number) => return Awaited::Stopped(Stop::Bad(number)),
+            Looked::Open => {}
+        }
+        seen = buffer.as_slice().len();
+        if let Err(stop) = read_more(input, buffer, taken, limit) {
+            return Awaited::Stopped(stop);
+        }
+    }
+}
+
+// Reads until the body of the request is whole, whose head the buffer begins with.
+fn await_body<I: Source>(
+    input: &mut I,
+    buffer: &mut Buffer,
+    taken: &mut u64,
+    limit: u64,
+    request: Request,
+) -> Awaited
+    requires within { taken.old ≤ limit }
+    requires head { (head : RequestHead) × HasHead buffer.old request head }
+    ensures reads { Reads buffer.old buffer.new (I.left input.old) (I.left input.new) taken.old taken.new }
+    ensures within { taken.new ≤ limit }
+    ensures is { IsAwaited limit buffer.new (I.left input.new) taken.new result }
+    ensures later { I.faults input.old ≤ I.faults input.new }
+    ensures fault { result ≡ Awaited.Stopped Stop.NoRead → RoseBy 1 (I.faults input.old) (I.faults input.new) }
+{
+    'bodies: while buffer.as_slice().len() < request.body.end {
+        if let Err(stop) = read_more(input, buffer, taken, limit) {
+            return Awaited::Stopped(stop);
+        }
+    }
+    Awaited::Found(request)
+}
+
+// Reads until the buffer begins with a request, or tells why there is none. What was looked at is
+// not looked at again, so that the cost grows with the bytes that are read and with those of the
+// head's prefixes, in whatever pieces they come.
+pub(crate) fn await_request<I: Source>(
+    input: &mut I,
+    buffer: &mut Buffer,
+    taken: &mut u64,
+    limit: u64,
+) -> Awaited
+    requires { taken.old ≤ limit }
+    ensures reads { Reads buffer.old buffer.new (I.left input.old) (I.left input.new) taken.old taken.new }
+    ensures within { taken.new ≤ limit }
+    ensures is { IsAwaited limit buffer.new (I.left input.new) taken.new result }
+    ensures later { I.faults input.old ≤ I.faults input.new }
+    ensures fault { result ≡ Awaited.Stopped Stop.NoRead → RoseBy 1 (I.faults input.old) (I.faults input.new) }
+{
+    match await_head(input, buffer, taken, limit) {
+        Awaited::Found(request) => await_body(input, buffer, taken, limit, request),
+        Awaited::Stopped(stop) => Awaited::Stopped(stop),
+    }
+}

@@ -1,0 +1,298 @@
+ghost use Rattle.std.specs.Prelude.{◌≡◌, ◌<◌, ◌+◌, ◌%◌, ◌++◌, [], ◌∷◌, IfOk, OnOk, OnErr};
+ghost use Rattle.http_heads.specs.Heads.{Asked};
+ghost use Rattle.http_session.specs.Requests.{IsRequest, BeginsWith};
+
+use crate::{Answer, Handler, Request, SessionEnd, session};
+use api_types::Rows;
+use keeper_core::{
+    Keeper, KeeperRefusal, MemoryKeeper, MemorySink, MemorySource, SureKeeper, SureSink, SureSource,
+};
+use net_addr::{Bytes, Numbers, OutOfMemory, Seq};
+use std::alloc::Global;
+use std::marker::Model;
+use std::test::Fail;
+
+/// Answers each request with a digit, its body and a semicolon, after it asked the keeper for its
+/// rows. The digits go from 0 to 9 and on from 0.
+#[derive(Drop)]
+struct Echo {
+    digit: u8,
+}
+
+impl Model for Echo {
+    ghost use Rattle.std.specs.Prelude.{ℕ, ◌<◌};
+
+    ghost Value = { ℕ };
+
+    ghost view = { λ e. e.digit };
+
+    ghost invariant = { λ e. e.digit < 10 };
+}
+
+fn text(alloc: Global, text: &[u8]) -> Result<Bytes, OutOfMemory>
+    ensures { IfOk result (λ bytes. bytes ≡ text.now) }
+{
+    Ok(Bytes::from_vec(Vec::from_slice(alloc, text)?))
+}
+
+fn body_of(bytes: &[u8], request: Request) -> &[u8]
+    requires { BeginsWith bytes.now request }
+    ensures { (asked : Asked) → IsRequest bytes.now request asked → result.now ≡ asked.body }
+{
+    &bytes[request.body.start..request.body.end]
+}
+
+fn echoed(alloc: Global, digit: u8, body: &[u8]) -> Result<Bytes, OutOfMemory>
+    requires { digit < 10 }
+    ensures { IfOk result (λ reply. reply ≡ (48 + digit) ∷ (body.now ++ 59 ∷ [])) }
+{
+    let mut reply = Vec::new(alloc);
+    reply.push(b'0' + digit)?;
+    reply.extend_from_slice(body)?;
+    reply.push(b';')?;
+    Ok(Bytes::from_vec(reply))
+}
+
+impl Echo {
+    fn make() -> Echo
+        ensures { result ≡ 0 }
+    {
+        Echo { digit: 0 }
+    }
+
+    /// The reply with this body, after which the digit is the next one.
+    fn echo(&mut self, alloc: Global, body: &[u8]) -> Result<Bytes, OutOfMemory>
+        ensures reply { IfOk result (λ reply. reply ≡ (48 + self.old) ∷ (body.now ++ 59 ∷ [])) }
+        ensures ok { OnOk result ((self.old < 10) × (self.new ≡ (self.old + 1) % 10)) }
+        ensures err { OnErr result (self.new ≡ self.old) }
+    {
+        let reply = echoed(alloc, self.digit, body)?;
+        self.digit = (self.digit + 1) % 10;
+        Ok(reply)
+    }
+}
+
+impl Handler for Echo {
+    type World = Echo;
+
+    ghost use Rattle.std.specs.Prelude.{codes, ◌≡◌, ◌<◌, ◌+◌, ◌%◌, ◌++◌, [], ◌∷◌};
+    ghost use Rattle.api_types.specs.Rows.{no_rows};
+
+    ghost steps = { λ old asked reply new. (old < 10) × (reply ≡ (48 + old) ∷ (asked.body ++ 59 ∷ [])) × (new ≡ (old + 1) % 10) };
+
+    ghost fixed = { record { store_failed = λ close. codes "store failed;"; no_memory = λ close. codes "no memory;"; refusal = λ n. codes "refused " ++ (48 + n) ∷ 59 ∷ [] } };
+
+    ghost rows = { λ _. no_rows };
+
+    fn answer<K: Keeper>(
+        world: &mut Echo,
+        alloc: Global,
+        keeper: &mut K,
+        bytes: &[u8],
+        request: Request,
+    ) -> Answer {
+        match keeper.load(alloc) {
+            Ok(_) => match world.echo(alloc, body_of(bytes, request)) {
+                Ok(reply) => Answer::Reply(reply),
+                Err(_) => Answer::NoMemory,
+            },
+            Err(KeeperRefusal::Failed) => match text(alloc, b"store failed;") {
+                Ok(reply) => Answer::StoreFault(reply),
+                Err(_) => Answer::NoMemory,
+            },
+            Err(KeeperRefusal::OutOfMemory) => Answer::NoMemory,
+        }
+    }
+
+    fn no_memory(_close: bool) -> &'static [u8] {
+        b"no memory;"
+    }
+
+    fn refusal(alloc: Global, number: u8) -> Result<Bytes, OutOfMemory> {
+        let mut reply = Vec::from_slice(alloc, b"refused ")?;
+        reply.push(b'0' + number)?;
+        reply.push(b';')?;
+        Ok(Bytes::from_vec(reply))
+    }
+}
+
+/// Whether a session over these bytes, in pieces of so many, writes this and ends so.
+fn serves(
+    alloc: Global,
+    input: &[u8],
+    piece: usize,
+    limit: u64,
+    wanted: &[u8],
+    end: SessionEnd,
+) -> Result<bool, OutOfMemory>
+    requires { 0 < piece }
+{
+    let mut keeper = SureKeeper::make(Rows::empty(alloc)?);
+    let mut source = SureSource::make(text(alloc, input)?, piece);
+    let mut sink = SureSink::make(alloc);
+    let ended = session::<Echo, _, _, _>(
+        alloc,
+        &mut Echo::make(),
+        &mut keeper,
+        &mut source,
+        &mut sink,
+        limit,
+    );
+    Ok(ended == end && sink.as_slice() == wanted)
+}
+
+/// The same in pieces of 1, 7 and many bytes, without a limit.
+fn serves_all(
+    alloc: Global,
+    input: &[u8],
+    wanted: &[u8],
+    end: SessionEnd,
+) -> Result<bool, OutOfMemory> {
+    Ok(
+        serves(alloc, input, 1, u64::MAX, wanted, end)?
+            && serves(alloc, input, 7, u64::MAX, wanted, end)?
+            && serves(alloc, input, 100_000, u64::MAX, wanted, end)?,
+    )
+}
+
+// Whole requests, refusals of heads, and inputs that end anywhere.
+#[test]
+fn streams(rt: HostRuntime) -> Result<(), Fail> {
+    let alloc = rt.alloc();
+    let cases: [(&[u8], &[u8]); 12] = [
+        (b"", b""),
+        (b"GET / HTTP/1.1\r\n\r\n", b"0;"),
+        (
+            b"POST /a HTTP/1.1\r\nContent-Length: 3\r\n\r\nabcGET / HTTP/1.1\r\n\r\nPUT / HTTP/1.1\nContent-Length: 1\n\nd",
+            b"0abc;1;2d;",
+        ),
+        (b"\r\n\nGET / HTTP/1.1\r\n\r\n", b"0;"),
+        (b"GET / HTTP/1.1\r\n", b"refused 1;"),
+        (b"GET / HTTP/1.1\r\n\r\nGET", b"0;refused 1;"),
+        (
+            b"POST / HTTP/1.1\r\nContent-Length: 3\r\n\r\nab",
+            b"refused 1;",
+        ),
+        (b"GET / HTTP/1.0\r\n\r\nGET / HTTP/1.1\r\n\r\n", b"0;"),
+        (
+            b"GET / HTTP/1.1\r\nConnection: close\r\n\r\nGET / HTTP/1.1\r\n\r\n",
+            b"0;",
+        ),
+        (
+            b"POST / HTTP/1.1\r\n\r\nGET / HTTP/1.1\r\n\r\n",
+            b"refused 4;",
+        ),
+        (
+            b"PUT / HTTP/1.1\r\nContent-Length: 65537\r\n\r\nGET / HTTP/1.1\r\n\r\n",
+            b"refused 3;",
+        ),
+        (
+            b"GET / HTTP/1.1\r\n\r\nGET  / HTTP/1.1\r\n\r\nGET / HTTP/1.1\r\n\r\n",
+            b"0;refused 1;",
+        ),
+    ];
+    for (input, wanted) in cases {
+        let served = serves_all(alloc, input, wanted, SessionEnd::Done)?;
+        assert!(rt; served);
+    }
+    Ok(())
+}
+
+// The limit counts where more would have to be read.
+#[test]
+fn budgets(rt: HostRuntime) -> Result<(), Fail> {
+    let alloc = rt.alloc();
+    let input = b"GET / HTTP/1.1\r\n\r\nGET / HTTP/1.1\r\n\r\n";
+    let cases: [(u64, &[u8], SessionEnd); 6] = [
+        (0, b"", SessionEnd::Budget),
+        (17, b"", SessionEnd::Budget),
+        (18, b"0;", SessionEnd::Budget),
+        (35, b"0;", SessionEnd::Budget),
+        (36, b"0;1;", SessionEnd::Budget),
+        (37, b"0;1;", SessionEnd::Done),
+    ];
+    for (limit, wanted, end) in cases {
+        let by_one = serves(alloc, input, 1, limit, wanted, end)?;
+        let whole = serves(alloc, input, 100, limit, wanted, end)?;
+        assert!(rt; by_one && whole);
+    }
+    Ok(())
+}
+
+fn numbers(alloc: Global, numbers: &[u64]) -> Result<Numbers, OutOfMemory> {
+    Ok(Seq::from_vec(Vec::from_slice(alloc, numbers)?))
+}
+
+/// How a session over two requests ends, and what it writes, where these reads, these writes and
+/// flushes and these calls of the keeper fail.
+fn fails(
+    alloc: Global,
+    reads: &[u64],
+    writes: &[u64],
+    loads: &[u64],
+    wanted: &[u8],
+    end: SessionEnd,
+) -> Result<bool, OutOfMemory> {
+    let input = b"GET / HTTP/1.1\r\n\r\nPUT / HTTP/1.1\r\nContent-Length: 3\r\n\r\nabc";
+    let rows = Rows::empty(alloc)?;
+    let mut keeper = MemoryKeeper::make(alloc, rows, numbers(alloc, loads)?)?;
+    let mut source = MemorySource::make(text(alloc, input)?, 18, numbers(alloc, reads)?);
+    let mut sink = MemorySink::make(alloc, numbers(alloc, writes)?);
+    let ended = session::<Echo, _, _, _>(
+        alloc,
+        &mut Echo::make(),
+        &mut keeper,
+        &mut source,
+        &mut sink,
+        u64::MAX,
+    );
+    Ok(ended == end && sink.as_slice() == wanted)
+}
+
+// Reads, writes, flushes and the keeper failing in mid-stream.
+#[test]
+fn failures(rt: HostRuntime) -> Result<(), Fail> {
+    let alloc = rt.alloc();
+    let cases: [(&[u64], &[u64], &[u64], &[u8], SessionEnd); 9] = [
+        (&[], &[], &[], b"0;1abc;", SessionEnd::Done),
+        (&[1], &[], &[], b"", SessionEnd::ReadFault),
+        (&[2], &[], &[], b"0;", SessionEnd::ReadFault),
+        (&[3], &[], &[], b"0;", SessionEnd::ReadFault),
+        (&[], &[1], &[], b"", SessionEnd::WriteFault),
+        (&[], &[2], &[], b"0;", SessionEnd::WriteFault),
+        (&[], &[3], &[], b"0;", SessionEnd::WriteFault),
+        (&[], &[], &[1], b"store failed;0abc;", SessionEnd::Done),
+        (
+            &[],
+            &[],
+            &[1, 2],
+            b"store failed;store failed;",
+            SessionEnd::Done,
+        ),
+    ];
+    for (reads, writes, loads, wanted, end) in cases {
+        let failed = fails(alloc, reads, writes, loads, wanted, end)?;
+        assert!(rt; failed);
+    }
+    Ok(())
+}
+
+// More requests than the buffer has room for.
+#[test]
+fn long_streams(rt: HostRuntime) -> Result<(), Fail> {
+    let alloc = rt.alloc();
+    let mut input = Vec::new(alloc);
+    let mut wanted = Vec::new(alloc);
+    for _ in 0..600u16 {
+        for digit in b'0'..=b'9' {
+            input.extend_from_slice(b"GET / HTTP/1.1\r\n\r\n")?;
+            wanted.push(digit)?;
+            wanted.push(b';')?;
+        }
+    }
+    let input = input.as_slice();
+    let wanted = wanted.as_slice();
+    let served = serves_all(alloc, input, wanted, SessionEnd::Done)?;
+    assert!(rt; served);
+    Ok(())
+}
