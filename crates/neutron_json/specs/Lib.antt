@@ -1,0 +1,7 @@
+pub mod Attributes
+pub mod Tables
+pub mod Forms
+pub mod Events
+pub mod Bodies
+pub mod Asks
+pub mod Calls
