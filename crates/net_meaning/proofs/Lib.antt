@@ -1,4 +1,2 @@
 mod LegLemmas
-mod RouteLemmas
 mod TurnLemmas
-mod UseLemmas

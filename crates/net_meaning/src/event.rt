@@ -7,16 +7,16 @@ ghost use Rattle.plane_types.specs.Holders.{port_at as port_by_mac};
 ghost use Rattle.plane_types.specs.Packets.{is_unsupported as unsupported};
 ghost use Rattle.plane_types.specs.Told.{of_nobody, rows_verdict};
 ghost use Rattle.plane_types.specs.declared.verdict.DropCause.TheVariants.{Unsupported as DropUnsupported};
-ghost use Rattle.net_meaning.specs.Parts.{packet_of};
+ghost use Rattle.packet_rules.specs.Parts.{packet_of};
 ghost use Rattle.net_meaning.specs.Turns.{fate_of, trace_of};
 
 use crate::ask::{asked, lease_asked, leased, out_of};
 use crate::guard::passes_guard;
-use crate::packet::{Packet, is_unsupported};
 use crate::passage::passage_at;
 use crate::turn::{Fate, Trace, got};
 use api_types::{Direction, Id, NetworkRow, PortRow, Rows};
 use net_addr::{OutOfMemory, Seq, Text};
+use packet_rules::{Packet, is_unsupported};
 use plane_rows::{dhcp_port, holder, is_live, is_router_port, joined_with, network_on, port_at};
 use plane_types::{
     AskAnswer, DropCause, Entries, Entry, Event, Frame, Made, Outcome, Toward, Verdict,

@@ -1,27 +1,11 @@
-ghost use Rattle.std.specs.Prelude.{◌≡◌, ◌&&◌, ◌==◌};
-ghost use Rattle.std.specs.List.{list_any};
-ghost use Rattle.net_addr.specs.Prefixes.{contains};
-ghost use Rattle.api_types.specs.declared.port.Pair.{Pair as ThePair};
-ghost use Rattle.plane_types.specs.Guard.{guards as guarded, has_pair_mac as pair_has_mac, may_ask_lease as may_ask, may_send as may_send_from, passes_guard as passes};
+ghost use Rattle.std.specs.Prelude.{◌≡◌};
+ghost use Rattle.plane_types.specs.Guard.{guards as guarded, may_ask_lease as may_ask, may_send as may_send_from, passes_guard as passes};
 
-use api_types::{Pair, PortRow};
+use api_types::PortRow;
 use net_addr::{Addr4, Mac};
+use packet_rules::{has_pair_mac, is_allowed};
 use plane_rows::holds;
 use plane_types::Frame;
-
-fn has_pair_mac(pairs: &[Pair], mac: Mac) -> bool
-    ensures { result ≡ pair_has_mac pairs.now mac }
-{
-    pairs.iter().any(|pair| pair.mac == mac)
-}
-
-fn is_allowed(pairs: &[Pair], mac: Mac, from: Addr4) -> bool
-    ensures { result ≡ list_any (λ (x : ThePair). (x.mac == mac) && contains x.prefix from) pairs.now }
-{
-    pairs
-        .iter()
-        .any(|pair| pair.mac == mac && pair.prefix.contains(from))
-}
 
 // With its own MAC and one of its addresses, or by an allowed pair.
 fn may_send(port: &PortRow, mac: Mac, from: Addr4) -> bool

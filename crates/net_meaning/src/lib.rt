@@ -2,7 +2,7 @@
 //!
 //! `explain` computes the verdict on an event directly from the rows and the tracked entries, by
 //! searches over all rows: no tables of hosts, no tags and no tunnels. It stands on the questions of
-//! `plane_rows` and `api_secgroup`, and its contract is the definition of `plane_types`. Want of
+//! `plane_rows`, `api_secgroup` and `packet_rules`, and its contract is the definition of `plane_types`. Want of
 //! memory is its only refusal.
 #![tactic(auto)]
 
@@ -10,7 +10,6 @@ mod ask;
 mod event;
 mod filter;
 mod guard;
-mod packet;
 mod passage;
 mod router;
 mod source;

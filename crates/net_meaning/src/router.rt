@@ -1,36 +1,22 @@
-ghost use Rattle.std.specs.Prelude.{◌≡◌, ◌++◌, ◌-◌, ◌<◌, IfOk, Some, find, if◌then◌else◌, map, option_map};
+ghost use Rattle.std.specs.Prelude.{◌≡◌, ◌++◌, IfOk, Some, find, if◌then◌else◌, map, option_map};
 ghost use Rattle.std.specs.Option.{unwrap_or};
 ghost use Rattle.net_addr.specs.Prefixes.{contains};
-ghost use Rattle.plane_types.specs.Packets.{part_to as with_destination_port};
 ghost use Rattle.plane_types.specs.RouterRows.{gateway_address as gateway_by_rows, leg_of, router_view, ways_of as ways_by_rows};
-ghost use Rattle.plane_types.specs.Routing.{answers as answers_to, best_way as best_of_ways, better as better_of, destined as destined_by, rank_place as place_of_rank, beats as way_beats, routed as routed_by_view, routed_to as to_by_view, routed_way as way_by_view, sent as sent_by};
+ghost use Rattle.plane_types.specs.Routing.{answers as answers_to, best_way as best_of_ways, better as better_of, destined as destined_by, beats as way_beats, routed as routed_by_view, routed_to as to_by_view, routed_way as way_by_view, sent as sent_by};
 ghost use Rattle.plane_rows.specs.Ways.{way_of};
-ghost use Rattle.net_meaning.specs.Parts.{changed_of, destined_of, packet_of, sourced_of, use_of};
+ghost use Rattle.packet_rules.specs.Parts.{changed_of, destined_of, packet_of, sourced_of, use_of};
 ghost use Rattle.net_meaning.specs.Turns.{routed_of};
 
-use crate::packet::{Packet, part_to};
-use crate::source::{Sourced, find_source};
-use crate::uses::{Use, answering, valid_uses};
+use crate::source::find_source;
+use crate::uses::{answering, valid_uses};
 use api_types::{PortRow, RouterRow, Rows};
 use net_addr::{Addr4, OutOfMemory};
+use packet_rules::{
+    Changed, Destined, Packet, Sourced, Use, answered_to, lower, rank_place, with_destination,
+};
 use plane_rows::{Way, fixed_behind, gateway_address, is_own_address, leg, ways_of};
-use plane_types::{DropCause, Entry, KeyPart, Outcome, RouteRank};
+use plane_types::{DropCause, Entry, Outcome};
 use std::alloc::Global;
-
-/// By what a packet's destination was changed.
-#[derive(Clone, Copy)]
-pub(crate) enum Changed {
-    Nothing,
-    Floating,
-    Entry,
-}
-
-/// A packet whose destination was looked at.
-#[derive(Clone, Copy)]
-pub(crate) struct Destined {
-    pub(crate) packet: Packet,
-    pub(crate) by: Changed,
-}
 
 /// A packet that a router sends on by a port of it, toward the next hop.
 #[derive(Clone, Copy)]
@@ -48,30 +34,8 @@ pub(crate) enum Routed<'r> {
     Sends(Sent<'r>),
 }
 
-// The packet with another destination.
-fn with_destination(packet: &Packet, to: Addr4, part: KeyPart) -> Packet
-    ensures { packet_of result ≡ record (packet_of packet.now) { to = to; part = part } }
-{
-    Packet {
-        to,
-        part,
-        ..*packet
-    }
-}
-
-// The packet with the source that the entry keeps as its destination.
-fn answered_to(packet: &Packet, entry: &Use) -> Packet
-    ensures { packet_of result ≡ record (packet_of packet.now) { to = entry.now.key.from; part = with_destination_port packet.now.part entry.now.key.sport } }
-{
-    with_destination(
-        packet,
-        entry.key.from,
-        part_to(packet.part, entry.key.sport),
-    )
-}
-
 // The valid entry that a packet answers.
-#[tactic(auto, using(crate::proofs::UseLemmas::none_answers))]
+#[tactic(auto, using(packet_rules::proofs::UseLemmas::none_answers))]
 fn answer(rows: &Rows, router: &RouterRow, uses: &[Use], packet: &Packet) -> Option<Use>
     ensures { option_map use_of result ≡ find (answers_to (gateway_by_rows rows.now router.now) (packet_of packet.now)) (map use_of uses.now) }
 {
@@ -102,16 +66,6 @@ fn find_destination(rows: &Rows, router: &RouterRow, uses: &[Use], packet: &Pack
             packet: *packet,
             by: Changed::Nothing,
         },
-    }
-}
-
-fn rank_place(rank: RouteRank) -> u8
-    ensures { result ≡ place_of_rank rank }
-{
-    match rank {
-        RouteRank::Connected => 0,
-        RouteRank::Extra => 1,
-        RouteRank::Default => 2,
     }
 }
 
@@ -219,20 +173,6 @@ fn routed_on<'r>(
     match best_way(destined.packet.to, ways) {
         Some(way) => Ok(routed_by(rows, router, uses, port, destined, &way)),
         None => Ok(Routed::Ends(Outcome::Dropped(DropCause::NoRoute))),
-    }
-}
-
-// The packet with one step less to live.
-fn lower(destined: &Destined) -> Destined
-    requires { 1 < destined.now.packet.ttl }
-    ensures { destined_of result ≡ record { packet = record (packet_of destined.now.packet) { ttl = destined.now.packet.ttl - 1 }; by = changed_of destined.now.by } }
-{
-    Destined {
-        packet: Packet {
-            ttl: destined.packet.ttl - 1,
-            ..destined.packet
-        },
-        by: destined.by,
     }
 }
 

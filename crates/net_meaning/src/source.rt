@@ -1,60 +1,17 @@
 ghost use Rattle.std.specs.Prelude.{◌≡◌, ◌==◌, ◌&&◌, ◌||◌, find, not, map, option_map};
 ghost use Rattle.plane_types.specs.Packets.{key_of};
 ghost use Rattle.plane_types.specs.RouterRows.{floats_of, gateway_address as gateway_by_rows, leg_of, router_view};
-ghost use Rattle.plane_types.specs.Routing.{Float, by_any as changed_at_all, by_float as changed_by_float, is_gateway_live, kept_source as kept, new_port as new_port_of, sourced as sourced_by, sourced_at as sourced_with, sourced_float as sourced_by_float, sourced_gateway as sourced_by_gateway, sourced_new as sourced_anew};
-ghost use Rattle.net_meaning.specs.Parts.{changed_of, packet_of, sourced_of, use_of};
+ghost use Rattle.plane_types.specs.Routing.{Float, by_float as changed_by_float, is_gateway_live, new_port as new_port_of, sourced as sourced_by, sourced_float as sourced_by_float, sourced_gateway as sourced_by_gateway, sourced_new as sourced_anew};
+ghost use Rattle.packet_rules.specs.Parts.{changed_of, packet_of, sourced_of, use_of};
 
-use crate::packet::{Packet, part_from};
-use crate::router::{Changed, Destined};
-use crate::uses::{Use, new_port, translates, with_key};
+use crate::uses::{new_port, translates, with_key};
 use api_types::{Id, PortRow, RouterRow, Rows};
 use net_addr::Addr4;
+use packet_rules::{
+    Changed, Destined, Packet, Sourced, Use, by_any, by_float, kept_source, sourced_at,
+};
 use plane_rows::{floating_for, gateway_address, has_live_gateway, is_interface};
 use plane_types::Entry;
-
-/// A packet whose source was looked at, and the entry that this made.
-#[derive(Clone, Copy)]
-pub(crate) struct Sourced {
-    pub(crate) packet: Packet,
-    pub(crate) made: Option<Entry>,
-}
-
-fn by_float(by: Changed) -> bool
-    ensures { result ≡ changed_by_float (changed_of by) }
-{
-    match by {
-        Changed::Floating => true,
-        Changed::Nothing | Changed::Entry => false,
-    }
-}
-
-fn by_any(by: Changed) -> bool
-    ensures { result ≡ changed_at_all (changed_of by) }
-{
-    match by {
-        Changed::Floating | Changed::Entry => true,
-        Changed::Nothing => false,
-    }
-}
-
-fn kept_source(packet: &Packet) -> Option<Sourced>
-    ensures { option_map sourced_of result ≡ kept (packet_of packet.now) }
-{
-    Some(Sourced {
-        packet: *packet,
-        made: None,
-    })
-}
-
-fn sourced_at(packet: &Packet, outer: Addr4, port: u16) -> Packet
-    ensures { packet_of result ≡ sourced_with (packet_of packet.now) outer port }
-{
-    Packet {
-        from: outer,
-        part: part_from(packet.part, port),
-        ..*packet
-    }
-}
 
 // With a new entry, where a port is left.
 fn sourced_new(router: Id, uses: &[Use], packet: &Packet, outer: Addr4) -> Option<Sourced>

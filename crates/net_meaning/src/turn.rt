@@ -3,15 +3,15 @@ ghost use Rattle.plane_types.specs.Holders.{router_of as router_by_rows};
 ghost use Rattle.plane_types.specs.Meaning.{Onward, Trace as TheTrace, arrived as arrived_at, at_router as at_router_by, ended as ended_with, got as got_by, handed as handed_by, handed_out as handed_out_by, received as received_by, with_fresh, with_path};
 ghost use Rattle.plane_types.specs.RouterRows.{leg_of};
 ghost use Rattle.plane_types.specs.Routing.{RouteSends};
-ghost use Rattle.net_meaning.specs.Parts.{packet_of};
+ghost use Rattle.packet_rules.specs.Parts.{packet_of};
 ghost use Rattle.net_meaning.specs.Turns.{fate_of, passed_list, trace_of, turn_by};
 
 use crate::ask::out_of;
-use crate::packet::Packet;
 use crate::passage::passage_at;
 use crate::router::{Routed, Sent, route};
 use api_types::{Direction, Id, PortRow, RouterRow, Rows};
 use net_addr::{Mac, OutOfMemory, Seq};
+use packet_rules::Packet;
 use plane_rows::{holder, is_router_port, joined_with, leg, router_of};
 use plane_types::{DropCause, Entry, Outcome, Toward};
 use std::alloc::Global;

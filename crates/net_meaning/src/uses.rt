@@ -1,24 +1,16 @@
-ghost use Rattle.std.specs.Prelude.{◌≡◌, ◌==◌, ◌&&◌, ◌++◌, IfOk, OnOk, Some, find, map, option_map};
+ghost use Rattle.std.specs.Prelude.{◌≡◌, ◌++◌, IfOk, OnOk, Some, find, map, option_map};
 ghost use Rattle.std.specs.List.{filter_map};
-ghost use Rattle.plane_types.specs.Keys.{key_eq, kind_eq};
+ghost use Rattle.plane_types.specs.Keys.{key_eq};
 ghost use Rattle.plane_types.specs.RouterRows.{gateway_address as gateway_by_rows, has_snat};
-ghost use Rattle.plane_types.specs.Routing.{Use as TheUse, answers as answers_to, has_choice as may_choose, is_taken as taken, least_untaken as first_untaken, new_port as new_port_of, uses_by};
-ghost use Rattle.net_meaning.specs.Parts.{packet_of, use_if, use_of};
+ghost use Rattle.plane_types.specs.Routing.{Use as TheUse, answers as answers_to, is_taken as taken, least_untaken as first_untaken, new_port as new_port_of, uses_by};
+ghost use Rattle.packet_rules.specs.Parts.{packet_of, use_if, use_of};
 
-use crate::packet::Packet;
-use crate::passage::{is_key, is_kind};
 use api_types::{Id, RouterRow, Rows};
 use net_addr::{Addr4, OutOfMemory};
+use packet_rules::{Packet, Use, answers, has_choice, is_key, takes, use_of_entry};
 use plane_rows::gateway_address;
-use plane_types::{Entry, Key, KeyKind};
+use plane_types::{Entry, Key};
 use std::alloc::Global;
-
-/// What a valid translation entry of a router says: the key, and its port at the outer address.
-#[derive(Clone, Copy)]
-pub(crate) struct Use {
-    pub(crate) key: Key,
-    pub(crate) port: u16,
-}
 
 /// Whether the router translates sources.
 pub(crate) fn translates(router: &RouterRow) -> bool
@@ -27,24 +19,6 @@ pub(crate) fn translates(router: &RouterRow) -> bool
     match router.gateway {
         Some(gateway) => gateway.snat,
         None => false,
-    }
-}
-
-// What an entry says, where it is a translation of this router with this outer address.
-fn use_of_entry(router: Id, outer: Addr4, entry: &Entry) -> Option<Use>
-    ensures { option_map use_of result ≡ use_if router outer entry.now }
-{
-    match *entry {
-        Entry::Snat {
-            router: of,
-            key,
-            outer: at,
-            outer_port,
-        } if router == of && outer == at => Some(Use {
-            key,
-            port: outer_port,
-        }),
-        _ => None,
     }
 }
 
@@ -67,7 +41,7 @@ fn add_uses(
 
 /// The router's valid translation entries: those with the gateway address of now, where sources are
 /// translated now. Its cost grows with the entries.
-#[tactic(auto, using(crate::proofs::UseLemmas::uses_of_both))]
+#[tactic(auto, using(packet_rules::proofs::UseLemmas::uses_of_both))]
 pub(crate) fn valid_uses(
     alloc: Global,
     rows: &Rows,
@@ -86,21 +60,6 @@ pub(crate) fn valid_uses(
         add_uses(&mut uses, router.id, outer, fresh)?;
     }
     Ok(uses)
-}
-
-// Whether an entry answers to a packet: of the kind of the answer, to the outer address and port,
-// from the far end.
-fn answers(outer: Addr4, packet: &Packet, entry: &Use) -> bool
-    ensures { result ≡ answers_to (Some outer) (packet_of packet.now) (use_of entry.now) }
-{
-    let key = packet.key();
-    let (sport, dport) = (key.sport, key.dport);
-    let kind = key.reversed().kind;
-    outer == packet.to
-        && is_kind(entry.key.kind, kind)
-        && entry.port == dport
-        && entry.key.to == packet.from
-        && entry.key.dport == sport
 }
 
 /// The first entry, with this outer address, that answers to a packet.
@@ -127,15 +86,6 @@ pub(crate) fn with_key(uses: &[Use], key: &Key) -> Option<Use>
     None
 }
 
-fn takes(entry: &Use, key: &Key, port: u16) -> bool
-    ensures { result ≡ ((entry.now.port == port) && kind_eq entry.now.key.kind key.now.kind && (entry.now.key.to == key.now.to) && (entry.now.key.dport == key.now.dport)) }
-{
-    entry.port == port
-        && is_kind(entry.key.kind, key.kind)
-        && entry.key.to == key.to
-        && entry.key.dport == key.dport
-}
-
 // Whether an entry with the same kind and far end has the port.
 fn is_taken(uses: &[Use], key: &Key, port: u16) -> bool
     ensures { result ≡ taken (map use_of uses.now) key.now port }
@@ -158,15 +108,6 @@ fn least_untaken(uses: &[Use], key: &Key) -> Option<u16>
         }
     }
     None
-}
-
-fn has_choice(kind: KeyKind) -> bool
-    ensures { result ≡ may_choose kind }
-{
-    match kind {
-        KeyKind::Tcp | KeyKind::Udp | KeyKind::EchoAsk => true,
-        KeyKind::EchoReply | KeyKind::Proto(_) => false,
-    }
 }
 
 /// The outer port of a new entry: the same port where it isn't taken, else, for TCP, UDP and

@@ -2,10 +2,10 @@ use Rattle.std.proofs.Common.{◌∙◌, ap, sym, map}
 use Rattle.std.specs.Prelude.{option_copied, option_map}
 use Rattle.plane_types.specs.RouterRows.{leg_of, legs_of, router_view}
 use Rattle.plane_types.specs.Routing.{routed_out}
-use Rattle.net_meaning.specs.Parts.{changed_of, packet_of, sourced_of, use_of}
+use Rattle.packet_rules.specs.Parts.{changed_of, packet_of, sourced_of, use_of}
 use Rattle.net_meaning.specs.Turns.{routed_of}
 use Rattle.net_meaning.proofs.LegLemmas.{leg_among}
-use Rattle.net_meaning.proofs.RouteLemmas.{out_found}
+use Rattle.packet_rules.proofs.RouteLemmas.{out_found}
 use Rattle.net_meaning.proofs.router.routed_by.Goals as goal
 
 pub returns-in-Some : goal.returns-in-Some

@@ -1,9 +1,9 @@
 use Rattle.std.proofs.Common.{◌∙◌, sym, map}
 use Rattle.std.proofs.lemmas.Result.{IfOk-weaker}
 use Rattle.plane_types.specs.RouterRows.{leg_of, legs_of, router_view}
-use Rattle.net_meaning.specs.Parts.{destined_of, use_of}
+use Rattle.packet_rules.specs.Parts.{destined_of, use_of}
 use Rattle.net_meaning.proofs.LegLemmas.{own_among}
-use Rattle.net_meaning.proofs.RouteLemmas.{ends_expired, ends_own, goes_on}
+use Rattle.packet_rules.proofs.RouteLemmas.{ends_expired, ends_own, goes_on}
 use Rattle.net_meaning.proofs.router.routed_to.Goals as goal
 
 pub returns-then-is_own_address : goal.returns-then-is_own_address

@@ -1,24 +1,24 @@
 ghost use Rattle.std.specs.Prelude.{◌≡◌};
 ghost use Rattle.plane_types.specs.Packets.{ip_frame, is_for_many as names_many, is_unsupported as unsupported, key_of, part_from as with_source_port, part_to as with_destination_port};
-ghost use Rattle.net_meaning.specs.Parts.{packet_of};
+ghost use Rattle.packet_rules.specs.Parts.{packet_of};
 
 use net_addr::{Addr4, Mac};
 use plane_types::{Frame, Key, KeyPart};
 
 /// A packet of IPv4 (RFC 791) in its frame.
 #[derive(Clone, Copy)]
-pub(crate) struct Packet {
-    pub(crate) src: Mac,
-    pub(crate) dst: Mac,
-    pub(crate) from: Addr4,
-    pub(crate) to: Addr4,
-    pub(crate) ttl: u8,
-    pub(crate) part: KeyPart,
+pub struct Packet {
+    pub src: Mac,
+    pub dst: Mac,
+    pub from: Addr4,
+    pub to: Addr4,
+    pub ttl: u8,
+    pub part: KeyPart,
 }
 
 impl Packet {
     /// The frame that it is.
-    pub(crate) fn frame(&self) -> Frame
+    pub fn frame(&self) -> Frame
         ensures { result ≡ ip_frame (packet_of self.now) }
     {
         Frame::Ip4 {
@@ -32,7 +32,7 @@ impl Packet {
     }
 
     /// By what it is tracked.
-    pub(crate) fn key(&self) -> Key
+    pub fn key(&self) -> Key
         ensures { result ≡ key_of (packet_of self.now) }
     {
         match self.frame().key() {
@@ -43,7 +43,7 @@ impl Packet {
 }
 
 /// The part with another destination port, or another id of an echo's reply.
-pub(crate) fn part_to(part: KeyPart, port: u16) -> KeyPart
+pub fn part_to(part: KeyPart, port: u16) -> KeyPart
     ensures { result ≡ with_destination_port part port }
 {
     match part {
@@ -55,7 +55,7 @@ pub(crate) fn part_to(part: KeyPart, port: u16) -> KeyPart
 }
 
 /// The part with another source port, or another id of an echo.
-pub(crate) fn part_from(part: KeyPart, port: u16) -> KeyPart
+pub fn part_from(part: KeyPart, port: u16) -> KeyPart
     ensures { result ≡ with_source_port part port }
 {
     match part {
@@ -74,7 +74,7 @@ fn is_for_many(mac: Mac) -> bool
 }
 
 /// Whether a frame is carried nowhere: a packet to many, or neither a packet nor an ask.
-pub(crate) fn is_unsupported(frame: &Frame) -> bool
+pub fn is_unsupported(frame: &Frame) -> bool
     ensures { result ≡ unsupported frame.now }
 {
     match *frame {

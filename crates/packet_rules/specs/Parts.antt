@@ -7,13 +7,13 @@ use Rattle.plane_types.specs.Passage.{Passage as ThePassage}
 use Rattle.plane_types.specs.Routing.{ByEntry, ByFloating, ByNothing, Changed as TheChanged, Destined as TheDestined, Sourced as TheSourced, Use as TheUse}
 use Rattle.plane_types.specs.declared.entry.Entry.{Entry}
 use Rattle.plane_types.specs.declared.entry.Entry.TheVariants.{Flow, Snat}
-use Rattle.net_meaning.specs.declared.packet.Packet.{Packet}
-use Rattle.net_meaning.specs.declared.passage.Passage.{Passage}
-use Rattle.net_meaning.specs.declared.router.Changed.{Changed}
-use Rattle.net_meaning.specs.declared.router.Changed.TheVariants.{Nothing, Floating, Entry as OfEntry}
-use Rattle.net_meaning.specs.declared.router.Destined.{Destined}
-use Rattle.net_meaning.specs.declared.source.Sourced.{Sourced}
-use Rattle.net_meaning.specs.declared.uses.Use.{Use}
+use Rattle.packet_rules.specs.declared.packet.Packet.{Packet}
+use Rattle.packet_rules.specs.declared.flow.Passage.{Passage}
+use Rattle.packet_rules.specs.declared.routing.Changed.{Changed}
+use Rattle.packet_rules.specs.declared.routing.Changed.TheVariants.{Nothing, Floating, Entry as OfEntry}
+use Rattle.packet_rules.specs.declared.routing.Destined.{Destined}
+use Rattle.packet_rules.specs.declared.routing.Sourced.{Sourced}
+use Rattle.packet_rules.specs.declared.translation.Use.{Use}
 
 abbrev pub packet_of : Packet → ThePacket
 packet_of p = packet p.src p.dst p.from p.to p.ttl p.part

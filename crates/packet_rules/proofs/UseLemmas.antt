@@ -4,7 +4,7 @@ use Rattle.std.specs.Prelude.{◌&&◌, ◌==◌, Some, None, find, if◌then◌
 use Rattle.std.specs.List.{cons_option, filter_map}
 use Rattle.api_types.specs.Ident.{Ident}
 use Rattle.api_types.specs.Table.{ident_eq}
-use Rattle.net_meaning.specs.Parts.{use_if}
+use Rattle.packet_rules.specs.Parts.{use_if}
 use Rattle.plane_types.specs.Packets.{Packet}
 use Rattle.plane_types.specs.Routing.{Use, answers, is_taken, least_untaken, uses_at}
 use Rattle.plane_types.specs.declared.entry.Entry.{Entry}

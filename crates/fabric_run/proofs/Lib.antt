@@ -1,0 +1,4 @@
+mod FleetLemmas
+mod TellsLemmas
+mod TurnLemmas
+mod WalkLemmas

@@ -1,0 +1,107 @@
+-- Hosts, what is sought among them, and where an event is, as code has them.
+use Rattle.std.specs.Prelude.{ℕ, suc, [], ◌&&◌, ◌≡◌, ◌<◌, Bool, List, Option, Some, None, find, is_some, length, not, option_copied, slice_get, true}
+use Rattle.std.specs.Str.{bytes_eq}
+use Rattle.api_types.specs.Ident.{Ident}
+use Rattle.host_plane.specs.Seen.{step_seen}
+use Rattle.plane_types.specs.Fabric.{FabricFate, Going, Run as TheRun, at_inward, at_tap, finished, steps_for, takes}
+use Rattle.plane_types.specs.Hosts.{Host, is_named}
+use Rattle.plane_types.specs.Meaning.{life_of}
+use Rattle.plane_types.specs.Places.{End, Next, Place, Step, TapIn, ToTunnel, ToWire, WireIn}
+use Rattle.plane_types.specs.TableStep.{inward_at, tap_at}
+use Rattle.plane_types.specs.Told.{told_fresh, told_trail}
+use Rattle.plane_types.specs.declared.event.Event.{Event}
+use Rattle.plane_types.specs.declared.event.Event.TheVariants.{FromPort, FromWire}
+use Rattle.plane_types.specs.declared.table.Carrier.TheVariants.{Wire as ByWire}
+use Rattle.plane_types.specs.declared.verdict.DropCause.TheVariants.{Unknown}
+use Rattle.plane_types.specs.declared.verdict.Outcome.{Outcome}
+use Rattle.plane_types.specs.declared.verdict.Outcome.TheVariants.{Dropped}
+use Rattle.fabric_run.specs.declared.fleet.HostAt.{HostAt}
+use Rattle.fabric_run.specs.declared.run.Run.{Run}
+use Rattle.fabric_run.specs.declared.taker.Sought.{Sought}
+use Rattle.fabric_run.specs.declared.taker.Sought.TheVariants.{Named, Taker, WithTap}
+use Rattle.fabric_run.specs.declared.turn.Turn.{Turn}
+
+abbrev pub host_seen : HostAt → Host
+host_seen h = record { name = h.name.now; tables = h.tables.now; entries = h.entries.now }
+
+-- any host, or one with another name
+abbrev pub is_other_than : Option (List ℕ) → Host → Bool
+is_other_than None h = true
+is_other_than (Some name) h = not (bytes_eq h.name name)
+
+abbrev pub is_sought_in : Sought → Host → Bool
+is_sought_in (Named name) h = is_named name.now h
+is_sought_in (WithTap port) h = is_some (tap_at h.tables port)
+is_sought_in (Taker but physical tag frame) h = is_other_than (option_copied but) h && takes (record { physical = physical.now; tag = tag }) frame h
+
+-- the place of the first host that passes a test
+abbrev pub IsFirst : (Host → Bool) → List Host → Option ℕ → Type 0
+IsFirst test hosts None = find test hosts ≡ None
+IsFirst test hosts (Some at) = (at < length hosts) × (slice_get hosts at ≡ find test hosts)
+
+-- what code tells of a run is what the definition does
+pub record Tells (hosts : List Host) (run : Run) (r : TheRun) : Type 0 where
+  pub path : run.path ≡ r.path
+  pub fresh : run.fresh.items ≡ r.fresh
+  pub made : run.made ≡ told_fresh hosts r.fresh r.makers
+  pub makers : length r.makers ≡ length r.fresh
+  pub trail : run.trail ≡ told_trail r.trail
+
+abbrev pub gone_to : Going → Place → TheRun → Option Host → FabricFate
+gone_to on place r None = finished r (Dropped Unknown)
+gone_to on place r (Some h) = on h place r
+
+abbrev pub led_to : List Host → Going → ℕ → TheRun → Step → FabricFate
+led_to hosts on at r (Next place) = gone_to on place r (slice_get hosts at)
+led_to hosts on at r (End o way) = finished r o
+led_to hosts on at r (ToTunnel name number frame) = finished r (Dropped Unknown)
+led_to hosts on at r (ToWire w n toward frame) = finished r (Dropped Unknown)
+
+-- what a turn leads to
+abbrev pub turned : List Host → Going → Turn → TheRun → FabricFate
+turned hosts on t r = led_to hosts on t.at r (step_seen t.step)
+
+-- at a place there is a host
+abbrev pub is_within : List Host → ℕ → Step → Type 0
+is_within hosts at (Next place) = at < length hosts
+is_within hosts at (End o way) = Unit {0}
+is_within hosts at (ToTunnel name number frame) = Unit {0}
+is_within hosts at (ToWire w n toward frame) = Unit {0}
+
+abbrev pub IsWithin : List Host → Turn → Type 0
+IsWithin hosts t = is_within hosts t.at (step_seen t.step)
+
+-- from a run that is told on, this fate is that of the rest
+pub record Walks (hosts : List Host) (run : Run) (v : FabricFate) (rest : TheRun → FabricFate) : Type 0 where
+  pub next : TheRun
+  pub told : Tells hosts run next
+  pub same : v ≡ rest next
+
+-- how an event ends that has no look-up left
+abbrev pub ended_with : Step → Outcome
+ended_with (End o way) = o
+ended_with (Next place) = Dropped Unknown
+ended_with (ToTunnel name number frame) = Dropped Unknown
+ended_with (ToWire w n toward frame) = Dropped Unknown
+
+abbrev pub ended_by : Turn → Outcome
+ended_by t = ended_with (step_seen t.step)
+
+-- the fate that code tells
+pub record IsFate (hosts : List Host) (turn : Turn) (run : Run) (v : FabricFate) : Type 0 where
+  pub ended : ended_by turn ≡ v.outcome
+  pub told : Tells hosts run v.run
+
+-- how many look-ups an event may have
+abbrev pub looks_of : Event → ℕ
+looks_of (FromPort port frame) = suc (steps_for (life_of frame))
+looks_of (FromWire physical tag frame) = steps_for (life_of frame)
+
+-- the network on which an event begins
+abbrev pub path_from : Step → Option Host → List Ident
+path_from (Next (TapIn port frame)) (Some h) = at_tap h (tap_at h.tables port)
+path_from (Next (WireIn w frame)) (Some h) = at_inward h (inward_at h.tables (ByWire w))
+path_from step o = []
+
+abbrev pub start_path : List Host → Turn → List Ident
+start_path hosts t = path_from (step_seen t.step) (slice_get hosts t.at)

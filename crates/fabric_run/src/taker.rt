@@ -1,0 +1,113 @@
+ghost use Rattle.std.specs.Prelude.{◌≡◌, ◌&&◌, option_copied};
+ghost use Rattle.plane_types.specs.Fabric.{takes as taken_by, takes_to};
+ghost use Rattle.plane_types.specs.Hosts.{Host};
+ghost use Rattle.host_plane.specs.Ordered.{AreOrdered};
+ghost use Rattle.fabric_run.specs.Seen.{IsFirst, host_seen, is_other_than, is_sought_in};
+
+use crate::fleet::{Fleet, HostAt, host_at};
+use api_types::Id;
+use host_plane::{bridge_at, inward_wire, neighbour_at, tap_at};
+use net_addr::Text;
+use plane_types::{BridgeKey, BridgeRow, BridgeTo, Frame};
+
+/// What is sought among hosts.
+#[derive(Clone, Copy)]
+pub(crate) enum Sought<'s> {
+    /// The host with a name.
+    Named(&'s Text),
+    /// A host with a tap of a port.
+    WithTap(Id),
+    /// A host that takes a frame from a wire, and hasn't this name.
+    Taker {
+        but: Option<&'s Text>,
+        physical: &'s Text,
+        tag: Option<u16>,
+        frame: Frame,
+    },
+}
+
+// Whether an entry of the bridge leads to a port here.
+fn is_here(found: Option<&BridgeRow>) -> bool
+    ensures { result ≡ takes_to (option_copied found.entry) }
+{
+    match found {
+        Some(row) => match row.to {
+            BridgeTo::Tap(_) | BridgeTo::Router { .. } => true,
+            BridgeTo::Tunnel { .. } => false,
+        },
+        None => false,
+    }
+}
+
+// Whether a host takes a frame from a wire: a packet for a port here, an ask for a lease where the
+// DHCP port is here, and an ask for an address that it knows.
+fn takes(host: &HostAt<'_>, physical: &Text, tag: Option<u16>, frame: &Frame) -> bool
+    requires { AreOrdered host.now.tables.now }
+    ensures { result ≡ taken_by (record { physical = physical.now; tag = tag }) frame.now (host_seen host.now) }
+{
+    let Some(row) = inward_wire(host.tables, physical, tag) else {
+        return false;
+    };
+    match *frame {
+        Frame::Ip4 { dst, .. } => is_here(bridge_at(host.tables, row.tag, BridgeKey::Mac(dst))),
+        Frame::ArpAsk { to, .. } => neighbour_at(host.tables, row.tag, to).is_some(),
+        Frame::Dhcp { .. } => is_here(bridge_at(host.tables, row.tag, BridgeKey::Dhcp)),
+        Frame::Other { .. } => false,
+    }
+}
+
+fn is_other(host: &HostAt<'_>, but: Option<&Text>) -> bool
+    ensures { result ≡ is_other_than (option_copied but.entry) (host_seen host.now) }
+{
+    match but {
+        Some(name) => *host.name != *name,
+        None => true,
+    }
+}
+
+fn is_sought(host: &HostAt<'_>, sought: &Sought<'_>) -> bool
+    requires { AreOrdered host.now.tables.now }
+    ensures { result ≡ is_sought_in sought.now (host_seen host.now) }
+{
+    match sought {
+        Sought::Named(name) => **name == *host.name,
+        Sought::WithTap(port) => tap_at(host.tables, *port).is_some(),
+        Sought::Taker {
+            but,
+            physical,
+            tag,
+            frame,
+        } => is_other(host, *but) && takes(host, physical, *tag, frame),
+    }
+}
+
+/// The place of the first host that is sought. Its cost grows with the hosts.
+pub(crate) fn first<F: Fleet>(fleet: &F, sought: &Sought<'_>) -> Option<usize>
+    ensures { IsFirst (is_sought_in sought.now) (F.hosts fleet.now) result }
+{
+    for at in 0..fleet.count() {
+        if is_sought(&host_at(fleet, at), sought) {
+            return Some(at);
+        }
+    }
+    None
+}
+
+/// The place of the first host that takes a frame from a wire, and hasn't this name.
+pub(crate) fn taker<F: Fleet>(
+    fleet: &F,
+    but: Option<&Text>,
+    physical: &Text,
+    tag: Option<u16>,
+    frame: &Frame,
+) -> Option<usize>
+    ensures { IsFirst (λ (h : Host). is_other_than (option_copied but.entry) h && taken_by (record { physical = physical.now; tag = tag }) frame.now h) (F.hosts fleet.now) result }
+{
+    let sought = Sought::Taker {
+        but,
+        physical,
+        tag,
+        frame: *frame,
+    };
+    first(fleet, &sought)
+}

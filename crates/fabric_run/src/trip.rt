@@ -1,0 +1,31 @@
+ghost use Rattle.std.specs.Prelude.{◌≡◌, ◌≤◌, [], ℕ, List, OnOk, count_by, length};
+ghost use Rattle.plane_types.specs.Fabric.{begun as begun_with, walk};
+ghost use Rattle.plane_types.specs.Hosts.{is_named};
+ghost use Rattle.fabric_run.specs.Seen.{IsFate, IsWithin, turned};
+
+use crate::fleet::Fleet;
+use crate::run::Run;
+use crate::turn::{Turn, advance};
+use net_addr::OutOfMemory;
+use std::alloc::Global;
+
+/// From a turn on, so many look-ups at most.
+pub(crate) fn travel<'f, F: Fleet>(
+    alloc: Global,
+    fleet: &'f F,
+    many: u16,
+    turn: &mut Turn<'f>,
+    run: &mut Run,
+) -> Result<(), OutOfMemory>
+    requires within { IsWithin (F.hosts fleet.now) turn.old }
+    requires names { (name : List ℕ) → count_by (is_named name) (F.hosts fleet.now) ≤ 1 }
+    requires begun { (run.old.fresh.items ≡ []) × (run.old.made ≡ []) × (run.old.trail ≡ []) }
+    requires room { 258 ≤ run.old.fresh.spare }
+    requires bounded { length (turned (F.hosts fleet.now) (walk (F.hosts fleet.now) many) turn.old (begun_with run.old.path)).run.fresh ≤ 256 }
+    ensures { OnOk result (IsFate (F.hosts fleet.now) turn.new run.new (turned (F.hosts fleet.now) (walk (F.hosts fleet.now) many) turn.old (begun_with run.old.path))) }
+{
+    for looks in 0..many {
+        advance(alloc, fleet, run, turn)?;
+    }
+    Ok(())
+}

@@ -1,0 +1,232 @@
+ghost use Rattle.std.specs.Prelude.{◌≡◌, ◌+◌, ◌<◌, ◌≤◌, ◌++◌, ◌&&◌, ℕ, IfOk, List, None, OnOk, Some, count_by, find, length, not, slice_get, suc};
+ghost use Rattle.std.specs.Str.{bytes_eq};
+ghost use Rattle.plane_types.specs.Fabric.{Going, Run as TheRun, moved as moved_by, takes, tunnelled as tunnelled_by, walk, wired as wired_by};
+ghost use Rattle.plane_types.specs.Hosts.{Host, is_named};
+ghost use Rattle.plane_types.specs.Places.{End, place_seen};
+ghost use Rattle.host_plane.specs.Seen.{outcome_of, step_seen};
+ghost use Rattle.fabric_run.specs.Seen.{IsWithin, Tells, Walks, host_seen, turned};
+
+use crate::added::added_by;
+use crate::fleet::{Fleet, HostAt, host_at};
+use crate::run::Run;
+use crate::taker::{Sought, first, taker};
+use api_types::Id;
+use host_plane::{Ended, Ending, Step, step};
+use net_addr::{OutOfMemory, Text};
+use plane_types::{DropCause, Frame, Place, Toward};
+use std::alloc::Global;
+
+/// Where an event is after a look-up: at a place of the host, or at its end.
+#[derive(Drop)]
+pub(crate) struct Turn<'f> {
+    pub(crate) at: usize,
+    pub(crate) step: Step<'f>,
+}
+
+// The same place once more.
+fn place_again<'f>(place: &Place<'f>) -> Place<'f>
+    ensures { place_seen result ≡ place_seen place.now }
+{
+    match place {
+        Place::TapIn { port, frame } => Place::TapIn {
+            port: *port,
+            frame: *frame,
+        },
+        Place::Bridge { tag, frame } => Place::Bridge {
+            tag: *tag,
+            frame: *frame,
+        },
+        Place::TunnelIn { number, frame } => Place::TunnelIn {
+            number: *number,
+            frame: *frame,
+        },
+        Place::WireIn {
+            physical,
+            tag,
+            frame,
+        } => Place::WireIn {
+            physical,
+            tag: *tag,
+            frame: *frame,
+        },
+        Place::RouterIn {
+            port,
+            router,
+            frame,
+        } => Place::RouterIn {
+            port: *port,
+            router: *router,
+            frame: *frame,
+        },
+        Place::DhcpIn { tag, frame } => Place::DhcpIn {
+            tag: *tag,
+            frame: *frame,
+        },
+        Place::TapOut { port, frame } => Place::TapOut {
+            port: *port,
+            frame: *frame,
+        },
+    }
+}
+
+fn ended_again<'f>(ended: &Ended<'f>) -> Ended<'f>
+    ensures { outcome_of result ≡ outcome_of ended.now }
+{
+    match ended {
+        Ended::Delivered { port, frame } => Ended::Delivered {
+            port: *port,
+            frame: *frame,
+        },
+        Ended::Address { address, mac } => Ended::Address {
+            address: *address,
+            mac: *mac,
+        },
+        Ended::Lease(lease) => Ended::Lease(lease),
+        Ended::Absorbed { router } => Ended::Absorbed { router: *router },
+        Ended::Out {
+            network,
+            toward,
+            frame,
+        } => Ended::Out {
+            network: *network,
+            toward: *toward,
+            frame: *frame,
+        },
+        Ended::Dropped(cause) => Ended::Dropped(*cause),
+    }
+}
+
+fn ends<'f>(at: usize, ended: &Ended<'f>) -> Turn<'f>
+    ensures at { result.at ≡ at }
+    ensures step { step_seen result.step ≡ End (outcome_of ended.now) None }
+{
+    Turn {
+        at,
+        step: Step::End(Ending {
+            ended: ended_again(ended),
+            way: None,
+        }),
+    }
+}
+
+// To the host with a name, or nowhere.
+fn tunnelled<'f, F: Fleet>(
+    fleet: &'f F,
+    at: usize,
+    name: &Text,
+    number: u32,
+    frame: &Frame,
+) -> Turn<'f>
+    requires { at < length (F.hosts fleet.now) }
+    ensures within { result.at < length (F.hosts fleet.now) }
+    ensures led { (on : Going) (r : TheRun) → turned (F.hosts fleet.now) on result r ≡ tunnelled_by on number frame.now r (find (is_named name.now) (F.hosts fleet.now)) }
+{
+    match first(fleet, &Sought::Named(name)) {
+        Some(next) => Turn {
+            at: next,
+            step: Step::Next(Place::TunnelIn {
+                number,
+                frame: *frame,
+            }),
+        },
+        None => Turn {
+            at,
+            step: Step::End(Ending {
+                ended: Ended::Dropped(DropCause::Unknown),
+                way: None,
+            }),
+        },
+    }
+}
+
+// To the first other host that takes the frame from the wire, or out.
+fn wired<'f, F: Fleet>(
+    fleet: &'f F,
+    at: usize,
+    host: &HostAt<'f>,
+    physical: &'f Text,
+    tag: Option<u16>,
+    network: Id,
+    toward: Toward,
+    frame: &Frame,
+) -> Turn<'f>
+    requires { at < length (F.hosts fleet.now) }
+    ensures within { result.at < length (F.hosts fleet.now) }
+    ensures led { (on : Going) (r : TheRun) → turned (F.hosts fleet.now) on result r ≡ wired_by on (record { physical = physical.now; tag = tag }) network toward frame.now r (find (λ (x : Host). not (bytes_eq x.name host.now.name.now) && takes (record { physical = physical.now; tag = tag }) frame.now x) (F.hosts fleet.now)) }
+{
+    match taker(fleet, Some(host.name), physical, tag, frame) {
+        Some(next) => Turn {
+            at: next,
+            step: Step::Next(Place::WireIn {
+                physical,
+                tag,
+                frame: *frame,
+            }),
+        },
+        None => Turn {
+            at,
+            step: Step::End(Ending {
+                ended: Ended::Out {
+                    network,
+                    toward,
+                    frame: *frame,
+                },
+                way: None,
+            }),
+        },
+    }
+}
+
+// Where a step of a host leads.
+fn moved<'f, F: Fleet>(fleet: &'f F, at: usize, host: &HostAt<'f>, step: &Step<'f>) -> Turn<'f>
+    requires here { slice_get (F.hosts fleet.now) at ≡ Some (host_seen host.now) }
+    requires within { at < length (F.hosts fleet.now) }
+    ensures within { result.at < length (F.hosts fleet.now) }
+    ensures led { (on : Going) (r : TheRun) → turned (F.hosts fleet.now) on result r ≡ moved_by (F.hosts fleet.now) on (host_seen host.now) r (step_seen step.now) }
+{
+    match step {
+        Step::Next(place) => Turn {
+            at,
+            step: Step::Next(place_again(place)),
+        },
+        Step::ToTunnel {
+            host: name,
+            number,
+            frame,
+        } => tunnelled(fleet, at, name, *number, frame),
+        Step::ToWire {
+            physical,
+            tag,
+            network,
+            toward,
+            frame,
+        } => wired(fleet, at, host, physical, *tag, *network, *toward, frame),
+        Step::End(ending) => ends(at, &ending.ended),
+    }
+}
+
+/// A look-up where an event is at a place of a host.
+pub(crate) fn advance<'f, F: Fleet>(
+    alloc: Global,
+    fleet: &'f F,
+    run: &mut Run,
+    turn: &mut Turn<'f>,
+) -> Result<(), OutOfMemory>
+    requires within { IsWithin (F.hosts fleet.now) turn.old }
+    requires room { 2 ≤ run.old.fresh.spare }
+    requires names { (name : List ℕ) → count_by (is_named name) (F.hosts fleet.now) ≤ 1 }
+    ensures within { OnOk result (IsWithin (F.hosts fleet.now) turn.new) }
+    ensures room { run.old.fresh.spare + length run.old.fresh.items ≤ run.new.fresh.spare + length run.new.fresh.items }
+    ensures walked { OnOk result ((many : ℕ) (r : TheRun) → Tells (F.hosts fleet.now) run.old r → Walks (F.hosts fleet.now) run.new (turned (F.hosts fleet.now) (walk (F.hosts fleet.now) (suc many)) turn.old r) (turned (F.hosts fleet.now) (walk (F.hosts fleet.now) many) turn.new)) }
+{
+    let Step::Next(place) = &turn.step else {
+        return Ok(());
+    };
+    let at = turn.at;
+    let host = host_at(fleet, at);
+    let step = step(host.tables, host.entries, &mut run.fresh, place);
+    let added = added_by(&host, place, &step);
+    run.note(alloc, at, &host, &added)?;
+    *turn = moved(fleet, at, &host, &step);
+    Ok(())
+}

@@ -1,0 +1,4 @@
+mod LegLists
+mod MapLemmas
+mod RouteLists
+mod UseLists

@@ -1,0 +1,11 @@
+use Rattle.std.proofs.Common.{◌≡◌, drop}
+use Rattle.std.specs.Prelude.{◌==◌, find}
+use Rattle.plane_types.specs.Routing.{Float}
+use Rattle.plane_types.specs.TableStep.{floats_at_router}
+use Rattle.host_plane.proofs.source.floating_for.Given as goal
+
+-- none so far is sought
+abbrev pub invariant-loop-row : goal.invariant-loop-row
+invariant-loop-row l =
+    find (λ (f : Float). f.fixed == l.fixed) (floats_at_router l.router (drop l.row-index l.row-items))
+    ≡ find (λ (f : Float). f.fixed == l.fixed) (floats_at_router l.router l.tables.floats)

@@ -1,0 +1,17 @@
+use Rattle.std.proofs.Common.{◌≡◌, ◌∙◌, ◌+◌, ◌-◌, ◌++◌, ap, sym, arith}
+use Rattle.packet_rules.proofs.UseLemmas.{untaken_found, untaken_none, untaken_past}
+use Rattle.plane_types.specs.Routing.{least_untaken, uses_at}
+use Rattle.host_plane.proofs.translation.least_untaken.Goals as goal
+
+pub returns-then-not-is_taken : goal.returns-then-not-is_taken
+returns-then-not-is_taken c =
+    sym (untaken_found (uses_at c.args.router c.args.outer (c.args.entries.now ++ c.args.fresh.now)) c.args.key.now 64512 c.loop-place.place 1024 c.loop-place-test.true (sym c.is_taken.ensures ∙ c.if-not-is_taken.true)) ∙ c.loop-place.invariant
+
+pub loop-place-preserved : goal.loop-place-preserved
+loop-place-preserved c =
+    sym (untaken_past (uses_at c.args.router c.args.outer (c.args.entries.now ++ c.args.fresh.now)) c.args.key.now 64512 c.loop-place.place 1024 c.loop-place-test.true (sym c.is_taken.ensures ∙ c.if-not-is_taken.false)) ∙ c.loop-place.invariant
+
+pub returns : goal.returns
+returns c =
+    let none_left : 64512 - c.loop-place.place ≡ 0 = omega arith in
+    sym (ap (λ n. least_untaken (uses_at c.args.router c.args.outer (c.args.entries.now ++ c.args.fresh.now)) c.args.key.now n (1024 + c.loop-place.place)) none_left ∙ untaken_none (uses_at c.args.router c.args.outer (c.args.entries.now ++ c.args.fresh.now)) c.args.key.now (1024 + c.loop-place.place)) ∙ c.loop-place.invariant

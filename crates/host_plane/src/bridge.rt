@@ -1,0 +1,217 @@
+ghost use Rattle.std.specs.Prelude.{◌≡◌, option_copied};
+ghost use Rattle.plane_types.specs.Packets.{address_ask};
+ghost use Rattle.plane_types.specs.TableStep.{arp_by, bridge_at as bridge_by_key, bridge_in as bridged_in, bridge_step as bridged_at_tag, bridged_by as bridged_by_row, inward_step as bridged_inward, lease_answer as leased_by, lease_at as lease_by_mac, led as led_by, neighbour_at as neighbour_by_address, routed_in as routed_to, source_of as sender_of, tapped as tapped_at, wire_or as wire_or_dropped};
+ghost use Rattle.host_plane.specs.Ordered.{AreOrdered};
+ghost use Rattle.host_plane.specs.Seen.{step_seen};
+
+use crate::ending::{Ended, Ending, Step, drops};
+use crate::look::{lease_at, tag_row};
+use crate::map::{bridge_at, neighbour_at};
+use api_types::Id;
+use net_addr::{Addr4, Mac};
+use plane_types::{
+    BridgeKey, BridgeTo, DropCause, Frame, HostTables, InwardRow, Place, TagRow, Toward,
+};
+
+// To the physical network of a tag, where it has one; but a frame that came by a tunnel or wire
+// doesn't leave by one.
+fn wire_or<'t>(
+    inner: bool,
+    row: &'t TagRow,
+    toward: Toward,
+    frame: Frame,
+    cause: DropCause,
+) -> Step<'t>
+    ensures { step_seen result ≡ wire_or_dropped inner row.now.network row.now.wire toward frame cause }
+{
+    if inner {
+        return drops(DropCause::Unknown);
+    }
+    match &row.wire {
+        Some(wire) => Step::ToWire {
+            physical: &wire.physical,
+            tag: wire.tag,
+            network: row.network,
+            toward,
+            frame,
+        },
+        None => drops(cause),
+    }
+}
+
+// A packet goes to the port; an ask for a lease came to its key, which leads to the DHCP port.
+fn tapped<'t>(tag: u16, port: Id, frame: Frame) -> Step<'t>
+    ensures { step_seen result ≡ tapped_at tag port frame }
+{
+    match frame {
+        Frame::Ip4 { .. } => Step::Next(Place::TapOut { port, frame }),
+        Frame::ArpAsk { .. } | Frame::Dhcp { .. } | Frame::Other { .. } => {
+            Step::Next(Place::DhcpIn { tag, frame })
+        }
+    }
+}
+
+fn routed_in<'t>(router: Id, port: Id, frame: Frame) -> Step<'t>
+    ensures { step_seen result ≡ routed_to router port frame }
+{
+    match frame {
+        Frame::Ip4 { .. } => Step::Next(Place::RouterIn {
+            port,
+            router,
+            frame,
+        }),
+        Frame::ArpAsk { .. } | Frame::Dhcp { .. } | Frame::Other { .. } => {
+            drops(DropCause::Unknown)
+        }
+    }
+}
+
+// Where an entry of the bridge leads; a frame that came by a tunnel or wire doesn't leave by one.
+fn led<'t>(inner: bool, tag: u16, frame: Frame, to: &'t BridgeTo) -> Step<'t>
+    ensures { step_seen result ≡ led_by inner tag frame to.now }
+{
+    match to {
+        BridgeTo::Tap(port) => tapped(tag, *port, frame),
+        BridgeTo::Router { router, port } => routed_in(*router, *port, frame),
+        BridgeTo::Tunnel { host, number } => {
+            if inner {
+                drops(DropCause::Unknown)
+            } else {
+                Step::ToTunnel {
+                    host,
+                    number: *number,
+                    frame,
+                }
+            }
+        }
+    }
+}
+
+// By the entry with the key, else to the wire.
+fn bridged<'t>(
+    tables: &'t HostTables,
+    inner: bool,
+    row: &'t TagRow,
+    key: BridgeKey,
+    toward: Toward,
+    frame: Frame,
+    cause: DropCause,
+) -> Step<'t>
+    ensures { AreOrdered tables.now → step_seen result ≡ bridged_by_row inner row.now toward frame cause (bridge_by_key tables.now row.now.tag key) }
+{
+    match bridge_at(tables, row.tag, key) {
+        Some(entry) => led(inner, row.tag, frame, &entry.to),
+        None => wire_or(inner, row, toward, frame, cause),
+    }
+}
+
+// An ask for an address is answered by its neighbour, else goes to the wire.
+fn asked<'t>(
+    tables: &HostTables,
+    inner: bool,
+    row: &'t TagRow,
+    src: Mac,
+    from: Addr4,
+    to: Addr4,
+) -> Step<'t>
+    ensures { AreOrdered tables.now → step_seen result ≡ arp_by inner row.now (address_ask src from to) (neighbour_by_address tables.now row.now.tag to) }
+{
+    match neighbour_at(tables, row.tag, to) {
+        Some(held) => Step::End(Ending {
+            ended: Ended::Address {
+                address: held.address,
+                mac: held.mac,
+            },
+            way: None,
+        }),
+        None => wire_or(
+            inner,
+            row,
+            Toward::Address(to),
+            Frame::ArpAsk { src, from, to },
+            DropCause::NoHolder,
+        ),
+    }
+}
+
+fn bridge_in<'t>(tables: &'t HostTables, inner: bool, row: &'t TagRow, frame: Frame) -> Step<'t>
+    ensures { AreOrdered tables.now → step_seen result ≡ bridged_in tables.now inner row.now frame }
+{
+    match frame {
+        Frame::Ip4 { dst, .. } => bridged(
+            tables,
+            inner,
+            row,
+            BridgeKey::Mac(dst),
+            Toward::Mac(dst),
+            frame,
+            DropCause::Unknown,
+        ),
+        Frame::ArpAsk { src, from, to } => asked(tables, inner, row, src, from, to),
+        Frame::Dhcp { .. } => bridged(
+            tables,
+            inner,
+            row,
+            BridgeKey::Dhcp,
+            Toward::Dhcp,
+            frame,
+            DropCause::NoLease,
+        ),
+        Frame::Other { dst, .. } => {
+            wire_or(inner, row, Toward::Mac(dst), frame, DropCause::Unknown)
+        }
+    }
+}
+
+/// A frame is at the bridge under a tag; inner is one that came by a tunnel or a wire.
+pub(crate) fn bridge_step<'t>(
+    tables: &'t HostTables,
+    inner: bool,
+    tag: u16,
+    frame: Frame,
+) -> Step<'t>
+    ensures { AreOrdered tables.now → step_seen result ≡ bridged_at_tag tables.now inner tag frame }
+{
+    match tag_row(tables, tag) {
+        Some(row) => bridge_in(tables, inner, row, frame),
+        None => drops(DropCause::Unknown),
+    }
+}
+
+/// A frame came by a tunnel or a wire, for which a row was looked for.
+pub(crate) fn inward_step<'t>(
+    tables: &'t HostTables,
+    frame: Frame,
+    found: Option<&'t InwardRow>,
+) -> Step<'t>
+    ensures { AreOrdered tables.now → step_seen result ≡ bridged_inward tables.now frame (option_copied found.entry) }
+{
+    match found {
+        Some(row) => bridge_step(tables, true, row.tag, frame),
+        None => drops(DropCause::Unknown),
+    }
+}
+
+fn sender(frame: &Frame) -> Mac
+    ensures { result ≡ sender_of frame.now }
+{
+    match *frame {
+        Frame::Ip4 { src, .. } => src,
+        Frame::ArpAsk { src, .. } => src,
+        Frame::Dhcp { src, .. } => src,
+        Frame::Other { src, .. } => src,
+    }
+}
+
+/// A frame comes to the DHCP port of a tag, which answers with the lease of its MAC.
+pub(crate) fn dhcp_in<'t>(tables: &'t HostTables, tag: u16, frame: &Frame) -> Step<'t>
+    ensures { step_seen result ≡ leased_by (lease_by_mac tables.now tag (sender_of frame.now)) }
+{
+    match lease_at(tables, tag, sender(frame)) {
+        Some(row) => Step::End(Ending {
+            ended: Ended::Lease(&row.lease),
+            way: None,
+        }),
+        None => drops(DropCause::NoLease),
+    }
+}

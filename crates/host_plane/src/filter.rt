@@ -1,0 +1,102 @@
+ghost use Rattle.std.specs.Prelude.{◌≡◌, ◌++◌, ◌&&◌};
+ghost use Rattle.plane_types.specs.Entries.{has_flow as flow_is_there, opposite as other_way};
+ghost use Rattle.plane_types.specs.Filter.{far_fits as fits_far};
+ghost use Rattle.plane_types.specs.Keys.{reversed};
+ghost use Rattle.plane_types.specs.TableStep.{in_set as is_in_set, row_fits as fits_row, tables_allow as allowed_by_tables, tap_passage as passage_at_tap};
+ghost use Rattle.packet_rules.specs.Parts.{packet_of, passage_of};
+
+use api_types::{Direction, Id};
+use net_addr::Addr4;
+use packet_rules::{
+    Packet, Passage, far_of, in_range, is_protocol, is_tracked, new_flow, opposite,
+};
+use plane_types::{Entry, FilterRow, HostTables, Key, TapRow};
+
+fn in_set(tables: &HostTables, group: Id, far: Addr4) -> bool
+    ensures { result ≡ is_in_set tables.now group far }
+{
+    tables
+        .sets
+        .as_slice()
+        .iter()
+        .any(|row| group == row.group && row.prefix.contains(far))
+}
+
+// Whether the far address is in the row's prefix, or in the set of its group, or both are null.
+fn far_fits(tables: &HostTables, row: &FilterRow, far: Addr4) -> bool
+    ensures { result ≡ fits_far (is_in_set tables.now) row.now.remote_prefix row.now.remote_group far }
+{
+    match (row.remote_prefix, row.remote_group) {
+        (None, None) => true,
+        (Some(prefix), None) => prefix.contains(far),
+        (None, Some(group)) => in_set(tables, group, far),
+        (Some(prefix), Some(group)) => prefix.contains(far) || in_set(tables, group, far),
+    }
+}
+
+fn row_fits(tables: &HostTables, direction: Direction, key: &Key, row: &FilterRow) -> bool
+    ensures { result ≡ fits_row tables.now direction key.now row.now }
+{
+    row.direction == direction
+        && is_protocol(row.protocol, key.kind)
+        && in_range(row.low, row.high, key.kind, key.dport)
+        && far_fits(tables, row, far_of(direction, key))
+}
+
+// Whether some row of a port lets a key pass in a direction. A row of another port costs one look
+// at its id; a row of this one with a group costs a look at the sets.
+#[tactic(auto, unfolding(plane_types::specs::TableStep::tables_allow))]
+fn tables_allow(tables: &HostTables, port: Id, direction: Direction, key: &Key) -> bool
+    ensures { result ≡ allowed_by_tables tables.now port direction key.now }
+{
+    tables.filters.as_slice().iter().any(|row| port == row.port
+        && row_fits(tables, direction, key, row))
+}
+
+// Whether a key answers to a flow of the other direction that the rows still let pass.
+fn is_answer(
+    tables: &HostTables,
+    entries: &[Entry],
+    fresh: &[Entry],
+    port: Id,
+    direction: Direction,
+    key: &Key,
+) -> bool
+    ensures { result ≡ (flow_is_there (entries.now ++ fresh.now) port (other_way direction) (reversed key.now) && allowed_by_tables tables.now port (other_way direction) (reversed key.now)) }
+{
+    let asked = key.reversed();
+    let way = opposite(direction);
+    is_tracked(entries, fresh, port, way, &asked) && tables_allow(tables, port, way, &asked)
+}
+
+/// How a packet passes the filter of a tap: without port security, by a row, which makes a flow
+/// unless an equal one is there, or as the answer to a flow that a row still lets pass. Its cost
+/// grows with the filters, with the sets for those of the port, and with the entries.
+pub(crate) fn passage_at(
+    tables: &HostTables,
+    entries: &[Entry],
+    fresh: &[Entry],
+    tap: &TapRow,
+    direction: Direction,
+    packet: &Packet,
+) -> Passage
+    ensures { passage_of result ≡ passage_at_tap tables.now (entries.now ++ fresh.now) tap.now direction (packet_of packet.now) }
+{
+    let key = packet.key();
+    if !tap.secured {
+        return Passage {
+            passes: true,
+            made: None,
+        };
+    }
+    if tables_allow(tables, tap.port, direction, &key) {
+        return Passage {
+            passes: true,
+            made: new_flow(entries, fresh, tap.port, direction, key),
+        };
+    }
+    Passage {
+        passes: is_answer(tables, entries, fresh, tap.port, direction, &key),
+        made: None,
+    }
+}

@@ -1,0 +1,65 @@
+ghost use Rattle.std.specs.Prelude.{◌≡◌, ◌++◌};
+ghost use Rattle.plane_types.specs.TableStep.{router_by_leg as by_port, router_in as routed_in, tagged_leg as leg_by_port};
+ghost use Rattle.packet_rules.specs.Parts.{packet_of};
+ghost use Rattle.host_plane.specs.Ordered.{AreOrdered};
+ghost use Rattle.host_plane.specs.Seen.{stepped_seen};
+
+use crate::ending::{Stepped, dropped};
+use crate::look::{port_of, router_at};
+use crate::router::route;
+use api_types::Id;
+use packet_rules::Packet;
+use plane_types::{DropCause, Entry, Frame, HostTables, RouterTable};
+
+// A packet comes to a router by this port of it.
+fn routed<'t>(
+    tables: &'t HostTables,
+    entries: &[Entry],
+    fresh: &[Entry],
+    router: &RouterTable,
+    port: Id,
+    packet: &Packet,
+) -> Stepped<'t>
+    ensures { AreOrdered tables.now → stepped_seen result ≡ by_port tables.now (entries.now ++ fresh.now) router.now (packet_of packet.now) (leg_by_port router.now port) }
+{
+    match port_of(router, port) {
+        Some(port) => route(tables, entries, fresh, router, port, packet),
+        None => dropped(DropCause::Unknown),
+    }
+}
+
+/// A frame comes to a router by a port of it.
+pub(crate) fn router_in<'t>(
+    tables: &'t HostTables,
+    entries: &[Entry],
+    fresh: &[Entry],
+    port: Id,
+    router: Id,
+    frame: Frame,
+) -> Stepped<'t>
+    ensures { AreOrdered tables.now → stepped_seen result ≡ routed_in tables.now (entries.now ++ fresh.now) port router frame }
+{
+    let Frame::Ip4 {
+        src,
+        dst,
+        from,
+        to,
+        ttl,
+        part,
+    } = frame
+    else {
+        return dropped(DropCause::Unknown);
+    };
+    let Some(router) = router_at(tables, router) else {
+        return dropped(DropCause::Unknown);
+    };
+    let packet = Packet {
+        src,
+        dst,
+        from,
+        to,
+        ttl,
+        part,
+    };
+    routed(tables, entries, fresh, router, port, &packet)
+}

@@ -1,0 +1,74 @@
+ghost use Rattle.std.specs.Prelude.{◌≡◌};
+ghost use Rattle.plane_types.specs.Packets.{ip_frame};
+ghost use Rattle.plane_types.specs.TableStep.{neighbour_at as neighbour_by_address, sent_at as sent_at_port, sent_by as sent_by_neighbour, tag_row as row_of_tag, tagged_leg as leg_by_port, unheld as unheld_by};
+ghost use Rattle.packet_rules.specs.Parts.{packet_of};
+ghost use Rattle.host_plane.specs.Ordered.{AreOrdered};
+ghost use Rattle.host_plane.specs.Seen.{step_seen};
+
+use crate::ending::{Ended, Ending, Step, drops};
+use crate::look::{port_of, tag_row};
+use crate::map::neighbour_at;
+use api_types::Id;
+use net_addr::{Addr4, Mac};
+use packet_rules::Packet;
+use plane_types::{DropCause, Frame, HostTables, Place, RouterTable, Toward};
+
+// The packet's frame to a MAC.
+fn to_mac(packet: &Packet, dst: Mac) -> Frame
+    ensures { result ≡ ip_frame (record (packet_of packet.now) { dst = dst }) }
+{
+    Packet { dst, ..*packet }.frame()
+}
+
+// Nobody has the next hop: out by the physical network of the way out, where it has one.
+fn unheld<'t>(tables: &'t HostTables, tag: u16, hop: Addr4, packet: &Packet) -> Step<'t>
+    ensures { step_seen result ≡ unheld_by hop (packet_of packet.now) (row_of_tag tables.now tag) }
+{
+    let Some(row) = tag_row(tables, tag) else {
+        return drops(DropCause::Unknown);
+    };
+    let way = Some(row.network);
+    match &row.wire {
+        Some(_) => Step::End(Ending {
+            ended: Ended::Out {
+                network: row.network,
+                toward: Toward::Address(hop),
+                frame: to_mac(packet, Mac(0)),
+            },
+            way,
+        }),
+        None => Step::End(Ending {
+            ended: Ended::Dropped(DropCause::NoHolder),
+            way,
+        }),
+    }
+}
+
+// The neighbour at the next hop gets it, by the bridge.
+fn sent_by<'t>(tables: &'t HostTables, tag: u16, hop: Addr4, packet: &Packet) -> Step<'t>
+    ensures { AreOrdered tables.now → step_seen result ≡ sent_by_neighbour tables.now tag hop (packet_of packet.now) (neighbour_by_address tables.now tag hop) }
+{
+    let Some(held) = neighbour_at(tables, tag, hop) else {
+        return unheld(tables, tag, hop, packet);
+    };
+    Step::Next(Place::Bridge {
+        tag,
+        frame: to_mac(packet, held.mac),
+    })
+}
+
+/// A packet leaves by a port of the router toward the next hop.
+pub(crate) fn sent_at<'t>(
+    tables: &'t HostTables,
+    router: &RouterTable,
+    out: Id,
+    hop: Addr4,
+    packet: &Packet,
+) -> Step<'t>
+    ensures { AreOrdered tables.now → step_seen result ≡ sent_at_port tables.now hop (packet_of packet.now) (leg_by_port router.now out) }
+{
+    match port_of(router, out) {
+        Some(port) => sent_by(tables, port.tag, hop, packet),
+        None => drops(DropCause::Unknown),
+    }
+}

@@ -1,0 +1,194 @@
+ghost use Rattle.std.specs.Prelude.{◌≡◌, ◌++◌, ◌==◌, Some, option_map};
+ghost use Rattle.std.specs.List.{list_any};
+ghost use Rattle.std.specs.Option.{unwrap_or};
+ghost use Rattle.plane_types.specs.Routing.{best_way as best_of_ways, destined as destined_by, is_own as is_own_by, routed as routed_by_view, routed_to as to_by_view, routed_way as way_by_view, sent as sent_by, uses_by};
+ghost use Rattle.plane_types.specs.TableStep.{leg_at, plain, stops, table_routed as led_by, table_view, way_at, ways_at};
+ghost use Rattle.plane_types.specs.declared.verdict.Outcome.TheVariants.{Absorbed};
+ghost use Rattle.packet_rules.specs.Parts.{changed_of, destined_of, packet_of, sourced_of};
+ghost use Rattle.host_plane.specs.Ordered.{AreOrdered};
+ghost use Rattle.host_plane.specs.Seen.{stepped_seen};
+
+use crate::ending::{Ended, Ending, Step, Stepped, dropped};
+use crate::look::port_of;
+use crate::outward::sent_at;
+use crate::source::{find_source, fixed_behind};
+use crate::translation::answer;
+use crate::ways::best_way;
+use api_types::Id;
+use net_addr::Addr4;
+use packet_rules::{Changed, Destined, Packet, Sourced, answered_to, lower, with_destination};
+use plane_types::{DropCause, Entry, HostTables, RouteRow, RouterPort, RouterTable};
+
+// A floating address of this router becomes the fixed address; else an entry that the packet
+// answers gives it back the source that it keeps.
+fn find_destination(
+    tables: &HostTables,
+    entries: &[Entry],
+    fresh: &[Entry],
+    router: &RouterTable,
+    packet: &Packet,
+) -> Destined
+    ensures { destined_of result ≡ destined_by (table_view tables.now router.now) (uses_by router.now.snat router.now.gateway router.now.router (entries.now ++ fresh.now)) (packet_of packet.now) }
+{
+    if let Some(to) = fixed_behind(tables, router.router, packet.to) {
+        return Destined {
+            packet: with_destination(packet, to, packet.part),
+            by: Changed::Floating,
+        };
+    }
+    match answer(entries, fresh, router, packet) {
+        Some(entry) => Destined {
+            packet: answered_to(packet, &entry),
+            by: Changed::Entry,
+        },
+        None => Destined {
+            packet: *packet,
+            by: Changed::Nothing,
+        },
+    }
+}
+
+fn holds(port: &RouterPort, address: Addr4) -> bool
+    ensures { result ≡ list_any (λ a. a == address) port.now.addresses }
+{
+    port.addresses
+        .as_slice()
+        .iter()
+        .any(|held| *held == address)
+}
+
+// Whether a live port of the router holds the address.
+fn is_own(tables: &HostTables, router: &RouterTable, address: Addr4) -> bool
+    ensures { result ≡ is_own_by (table_view tables.now router.now) address }
+{
+    for port in router.ports.as_slice() {
+        if holds(port, address) {
+            return true;
+        }
+    }
+    false
+}
+
+// The neighbour at the next hop gets it from the way out; the entry is the one of its source.
+fn send_on<'t>(
+    tables: &'t HostTables,
+    router: &RouterTable,
+    out: &RouterPort,
+    hop: Addr4,
+    sourced: Option<Sourced>,
+) -> Stepped<'t>
+    ensures { AreOrdered tables.now → stepped_seen result ≡ led_by tables.now router.now (sent_by (leg_at out.now) hop (option_map sourced_of sourced)) }
+{
+    let Some(sourced) = sourced else {
+        return dropped(DropCause::TranslationFull);
+    };
+    let packet = Packet {
+        src: out.mac,
+        ..sourced.packet
+    };
+    Stepped {
+        step: sent_at(tables, router, out.port, hop, &packet),
+        made: sourced.made,
+    }
+}
+
+// The route's next hop, or the destination where it has none.
+fn next_hop(row: &RouteRow, packet: &Packet) -> Addr4
+    ensures { result ≡ unwrap_or row.now.next packet.now.to }
+{
+    match row.next {
+        Some(next) => next,
+        None => packet.to,
+    }
+}
+
+// By a route, whose port is the way out.
+fn routed_by<'t>(
+    tables: &'t HostTables,
+    entries: &[Entry],
+    fresh: &[Entry],
+    router: &RouterTable,
+    port: &RouterPort,
+    destined: &Destined,
+    row: &RouteRow,
+) -> Stepped<'t>
+    ensures { AreOrdered tables.now → stepped_seen result ≡ led_by tables.now router.now (way_by_view (table_view tables.now router.now) (uses_by router.now.snat router.now.gateway router.now.router (entries.now ++ fresh.now)) (leg_at port.now) (changed_of destined.now.by) (packet_of destined.now.packet) (Some (way_at row.now))) }
+{
+    match port_of(router, row.port) {
+        Some(out) => {
+            let source = find_source(tables, entries, fresh, router, port, out, destined);
+            send_on(tables, router, out, next_hop(row, &destined.packet), source)
+        }
+        None => dropped(DropCause::Unknown),
+    }
+}
+
+// By the best of the router's routes.
+fn routed_on<'t>(
+    tables: &'t HostTables,
+    entries: &[Entry],
+    fresh: &[Entry],
+    router: &RouterTable,
+    port: &RouterPort,
+    destined: &Destined,
+) -> Stepped<'t>
+    ensures { AreOrdered tables.now → stepped_seen result ≡ led_by tables.now router.now (way_by_view (table_view tables.now router.now) (uses_by router.now.snat router.now.gateway router.now.router (entries.now ++ fresh.now)) (leg_at port.now) (changed_of destined.now.by) (packet_of destined.now.packet) (best_of_ways destined.now.packet.to (ways_at router.now.router tables.now.routes))) }
+{
+    match best_way(tables, router.router, destined.packet.to) {
+        Some(row) => routed_by(tables, entries, fresh, router, port, destined, row),
+        None => dropped(DropCause::NoRoute),
+    }
+}
+
+fn absorbed<'t>(router: Id) -> Stepped<'t>
+    ensures { stepped_seen result ≡ plain (stops (Absorbed router)) }
+{
+    Stepped {
+        step: Step::End(Ending {
+            ended: Ended::Absorbed { router },
+            way: None,
+        }),
+        made: None,
+    }
+}
+
+// What is the router's own ends, and what has lived; what goes on has one step less to live.
+fn routed_to<'t>(
+    tables: &'t HostTables,
+    entries: &[Entry],
+    fresh: &[Entry],
+    router: &RouterTable,
+    port: &RouterPort,
+    destined: &Destined,
+) -> Stepped<'t>
+    ensures { AreOrdered tables.now → stepped_seen result ≡ led_by tables.now router.now (to_by_view (table_view tables.now router.now) (uses_by router.now.snat router.now.gateway router.now.router (entries.now ++ fresh.now)) (leg_at port.now) (destined_of destined.now)) }
+{
+    if is_own(tables, router, destined.packet.to) {
+        return absorbed(router.router);
+    }
+    if destined.packet.ttl <= 1 {
+        return dropped(DropCause::Expired);
+    }
+    let lowered = lower(destined);
+    routed_on(tables, entries, fresh, router, port, &lowered)
+}
+
+/// What a router does with a packet that came by a port of it. Its cost grows with the entries,
+/// with the router's ports, and with the routes and floating addresses.
+#[tactic(auto, unfolding(plane_types::specs::Routing::routed))]
+pub(crate) fn route<'t>(
+    tables: &'t HostTables,
+    entries: &[Entry],
+    fresh: &[Entry],
+    router: &RouterTable,
+    port: &RouterPort,
+    packet: &Packet,
+) -> Stepped<'t>
+    ensures { AreOrdered tables.now → stepped_seen result ≡ led_by tables.now router.now (routed_by_view (table_view tables.now router.now) (entries.now ++ fresh.now) (leg_at port.now) (packet_of packet.now)) }
+{
+    if !router.up {
+        return dropped(DropCause::RouterDown);
+    }
+    let destined = find_destination(tables, entries, fresh, router, packet);
+    routed_to(tables, entries, fresh, router, port, &destined)
+}

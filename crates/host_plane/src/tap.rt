@@ -1,0 +1,189 @@
+ghost use Rattle.std.specs.Prelude.{◌≡◌, ◌++◌};
+ghost use Rattle.plane_types.specs.Places.{Bridge, Next};
+ghost use Rattle.plane_types.specs.TableStep.{stops as stop_step, tap_at as tap_by_port, tap_delivers as delivered_to, tap_filtered as filtered_by, tap_guards as guarded, tap_in as taken_in, tap_out as taken_out, tap_out_by as taken_out_by, tap_sends as sent_by};
+ghost use Rattle.packet_rules.specs.Parts.{passage_of};
+ghost use Rattle.plane_types.specs.declared.verdict.Outcome.TheVariants.{Delivered};
+ghost use Rattle.host_plane.specs.Seen.{step_seen, stepped_seen};
+
+use crate::ending::{Ended, Ending, Step, Stepped, dropped};
+use crate::filter::passage_at;
+use crate::look::tap_at;
+use api_types::{Direction, Id};
+use packet_rules::{Packet, Passage, has_pair_mac, is_allowed, is_unsupported};
+use plane_types::{DropCause, Entry, Frame, HostTables, Place, TapRow};
+
+// Whether the tap may send the frame, as what it says it is. Without an address a client asks for a
+// lease with the tap's MAC or an allowed one.
+fn guards(tap: &TapRow, frame: &Frame) -> bool
+    ensures { result ≡ guarded tap.now frame.now }
+{
+    let allowed = tap.allowed.as_slice();
+    match *frame {
+        Frame::Ip4 { src, from, .. } => is_allowed(allowed, src, from),
+        Frame::ArpAsk { src, from, .. } => is_allowed(allowed, src, from),
+        Frame::Dhcp { src, from } => {
+            if from.0 == 0 {
+                tap.mac == src || has_pair_mac(allowed, src)
+            } else {
+                is_allowed(allowed, src, from)
+            }
+        }
+        Frame::Other { .. } => true,
+    }
+}
+
+fn to_bridge<'t>(tap: &TapRow, frame: Frame) -> Step<'t>
+    ensures { step_seen result ≡ Next (Bridge tap.now.tag frame) }
+{
+    Step::Next(Place::Bridge {
+        tag: tap.tag,
+        frame,
+    })
+}
+
+// A packet goes to the bridge where it passes the filter.
+fn filtered<'t>(tap: &TapRow, frame: Frame, passage: Passage) -> Stepped<'t>
+    ensures { stepped_seen result ≡ filtered_by frame tap.now (passage_of passage) }
+{
+    if passage.passes {
+        Stepped {
+            step: to_bridge(tap, frame),
+            made: passage.made,
+        }
+    } else {
+        dropped(DropCause::Egress)
+    }
+}
+
+fn sends<'t>(
+    tables: &HostTables,
+    entries: &[Entry],
+    fresh: &[Entry],
+    tap: &TapRow,
+    frame: Frame,
+) -> Stepped<'t>
+    ensures { stepped_seen result ≡ sent_by tables.now (entries.now ++ fresh.now) tap.now frame }
+{
+    match frame {
+        Frame::Ip4 {
+            src,
+            dst,
+            from,
+            to,
+            ttl,
+            part,
+        } => {
+            let packet = Packet {
+                src,
+                dst,
+                from,
+                to,
+                ttl,
+                part,
+            };
+            let passage = passage_at(tables, entries, fresh, tap, Direction::Egress, &packet);
+            filtered(tap, frame, passage)
+        }
+        Frame::ArpAsk { .. } | Frame::Dhcp { .. } | Frame::Other { .. } => Stepped {
+            step: to_bridge(tap, frame),
+            made: None,
+        },
+    }
+}
+
+/// A frame comes from a port of the host.
+pub(crate) fn tap_in<'t>(
+    tables: &HostTables,
+    entries: &[Entry],
+    fresh: &[Entry],
+    port: Id,
+    frame: Frame,
+) -> Stepped<'t>
+    ensures { stepped_seen result ≡ taken_in tables.now (entries.now ++ fresh.now) frame (tap_by_port tables.now port) }
+{
+    let Some(tap) = tap_at(tables, port) else {
+        return dropped(DropCause::Dead);
+    };
+    if is_unsupported(&frame) {
+        dropped(DropCause::Unsupported)
+    } else if tap.secured && !guards(tap, &frame) {
+        dropped(DropCause::Spoof)
+    } else {
+        sends(tables, entries, fresh, tap, frame)
+    }
+}
+
+fn deliver<'t>(port: Id, frame: Frame) -> Step<'t>
+    ensures { step_seen result ≡ stop_step (Delivered port frame) }
+{
+    Step::End(Ending {
+        ended: Ended::Delivered { port, frame },
+        way: None,
+    })
+}
+
+// A packet is delivered where it passes the filter.
+fn delivers<'t>(port: Id, frame: Frame, passage: Passage) -> Stepped<'t>
+    ensures { stepped_seen result ≡ delivered_to port frame (passage_of passage) }
+{
+    if passage.passes {
+        Stepped {
+            step: deliver(port, frame),
+            made: passage.made,
+        }
+    } else {
+        dropped(DropCause::Ingress)
+    }
+}
+
+fn gets<'t>(
+    tables: &HostTables,
+    entries: &[Entry],
+    fresh: &[Entry],
+    tap: &TapRow,
+    frame: Frame,
+) -> Stepped<'t>
+    ensures { stepped_seen result ≡ taken_out_by tables.now (entries.now ++ fresh.now) frame tap.now }
+{
+    match frame {
+        Frame::Ip4 {
+            src,
+            dst,
+            from,
+            to,
+            ttl,
+            part,
+        } => {
+            let packet = Packet {
+                src,
+                dst,
+                from,
+                to,
+                ttl,
+                part,
+            };
+            let passage = passage_at(tables, entries, fresh, tap, Direction::Ingress, &packet);
+            delivers(tap.port, frame, passage)
+        }
+        Frame::ArpAsk { .. } | Frame::Dhcp { .. } | Frame::Other { .. } => Stepped {
+            step: deliver(tap.port, frame),
+            made: None,
+        },
+    }
+}
+
+/// A frame comes to a port of the host.
+pub(crate) fn tap_out<'t>(
+    tables: &HostTables,
+    entries: &[Entry],
+    fresh: &[Entry],
+    port: Id,
+    frame: Frame,
+) -> Stepped<'t>
+    ensures { stepped_seen result ≡ taken_out tables.now (entries.now ++ fresh.now) frame (tap_by_port tables.now port) }
+{
+    match tap_at(tables, port) {
+        Some(tap) => gets(tables, entries, fresh, tap, frame),
+        None => dropped(DropCause::Unknown),
+    }
+}
