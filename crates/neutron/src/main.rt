@@ -1,6 +1,10 @@
 //! The program `neutron`: its words, standard input and standard output go to the server.
 #![tactic(auto)]
 
+mod console;
+
+use crate::console::Console;
+use keeper_core::{ReaderSource, WriterSink};
 use net_addr::Text;
 use std::alloc::Global;
 use std::env::{self, Env};
@@ -21,7 +25,9 @@ fn main(rt: HostRuntime) -> ExitCode {
     let Ok(words) = words(&rt, alloc) else {
         return ExitCode::from(4);
     };
-    let mut input = rt.stdin();
-    let mut output = rt.stdout();
-    ExitCode::from(neutron_serve::run(alloc, words.as_slice(), &mut input, &mut output))
+    let mut desk = Console::new();
+    let mut input = ReaderSource::make(rt.stdin());
+    let mut output = WriterSink::make(rt.stdout());
+    let status = neutron_serve::run(alloc, words.as_slice(), &mut desk, &mut input, &mut output);
+    ExitCode::from(status)
 }

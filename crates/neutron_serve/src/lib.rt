@@ -1,14 +1,20 @@
-//! The server: requests are read from an input, and replies written to an output.
+//! The server: requests of the Networking API read from an input, and their replies written to an
+//! output.
 //!
-//! For now it answers two requests, the creation of a network by its name and the showing of one,
-//! and refuses every other input with 501 and the end of the session. It stands on `api_machine`,
-//! and reads heads with `httparse` and bodies with `serde_json`.
+//! `session` answers the requests of one input over a world, and `run` does what the program's words
+//! say. The crate puts the world of `lab_world` in the place of the handler of `http_session`: it
+//! reads who asks and what with `neutron_http` and `neutron_json`, and writes replies with them. It
+//! promises that each request has the reply of the machine's step, and each end its cause.
 #![tactic(auto)]
 
-mod body;
-mod head;
+mod api;
+mod ask;
+mod caller;
 mod reply;
-mod session;
+mod request;
+mod sessions;
 mod top;
 
+pub use http_session::SessionEnd;
+pub use sessions::session;
 pub use top::run;

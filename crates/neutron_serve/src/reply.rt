@@ -1,114 +1,57 @@
-use api_types::{Answer, Printed, Refusal, Shown};
-use net_addr::{OutOfMemory, Text};
-use serde_json::{Map, Value, json};
+//! Replies as bytes.
+ghost use Rattle.std.specs.Prelude.{◌≡◌, IfOk};
+ghost use Rattle.api_types.specs.Printed.{reply_of};
+ghost use Rattle.neutron_http.specs.Replies.{IsReplyCode};
+ghost use Rattle.neutron_serve.specs.Replies.{allowed_in, answer_code, code_in, reply_written};
+
+use api_types::{Answer, Refusal};
+use net_addr::{Bytes, Copies, OutOfMemory};
+use neutron_http::{Extra, fault_of, written};
+use neutron_json::write_reply;
+use plane_types::Reply;
 use std::alloc::Global;
 
-#[cycle(json)]
-fn value_of(alloc: Global, printed: &Printed) -> Result<Value, OutOfMemory> {
-    match printed {
-        Printed::Null => Ok(Value::Null),
-        Printed::Truth(b) => Ok(Value::Bool(*b)),
-        Printed::Number(n) => Ok(Value::from(*n)),
-        Printed::Word(text) => Ok(Value::String(String::from_str(alloc, text.as_str())?)),
-        Printed::Items(items) => Ok(Value::Array(values_of(alloc, items.as_slice())?)),
-        Printed::Object(members) => Ok(Value::Object(members_of(alloc, members.as_slice())?)),
-    }
-}
-
-#[cycle(json)]
-fn values_of(alloc: Global, items: &[Printed]) -> Result<Vec<Value>, OutOfMemory> {
-    let mut values = Vec::new(alloc);
-    for item in items {
-        values.push(value_of(alloc, item)?)?;
-    }
-    Ok(values)
-}
-
-#[cycle(json)]
-fn members_of(
-    alloc: Global,
-    members: &[(Text, Printed)],
-) -> Result<Map<String, Value>, OutOfMemory> {
-    let mut map = Map::new(alloc);
-    for (name, member) in members {
-        let key = String::from_str(alloc, name.as_str())?;
-        map.insert(key, value_of(alloc, member)?)?;
-    }
-    Ok(map)
-}
-
-fn network_json(alloc: Global, shown: &Shown) -> Result<Vec<u8>, OutOfMemory> {
-    let network = Value::Object(members_of(alloc, shown.members.as_slice())?);
-    let mut body = Map::new(alloc);
-    body.insert(String::from_str(alloc, "network")?, network)?;
-    Ok(Value::Object(body).to_vec(alloc)?)
-}
-
-fn fault_json(alloc: Global, message: &str, kind: &str) -> Result<Vec<u8>, OutOfMemory> {
-    let fault =
-        json!(in alloc; {"NeutronError": {"detail": "", "message": message, "type": kind}})?;
-    Ok(fault.to_vec(alloc)?)
-}
-
-/// A status line, fields and a body.
-fn reply(alloc: Global, status: &str, close: bool, body: &[u8]) -> Result<Vec<u8>, OutOfMemory> {
-    let end = if close { "Connection: close\r\n" } else { "" };
-    let count = body.len();
-    let head = format!(in alloc;
-        "HTTP/1.1 {status}\r\nContent-Type: application/json\r\nContent-Length: {count}\r\n{end}\r\n"
-    )?;
-    let mut bytes = head.into_bytes();
-    bytes.extend_from_slice(body)?;
-    Ok(bytes)
-}
-
-/// The reply to an accepted call.
-pub fn answered(alloc: Global, answer: &Answer) -> Result<Option<Vec<u8>>, OutOfMemory> {
+// The status code of an answer.
+fn answer_status(answer: &Answer) -> u16
+    ensures { result ≡ answer_code (reply_of answer.now) }
+{
     match answer {
-        Answer::One(shown) => {
-            let body = network_json(alloc, shown)?;
-            Ok(Some(reply(alloc, "200 OK", false, body.as_slice())?))
-        }
-        Answer::Created(shown) => {
-            let body = network_json(alloc, shown)?;
-            Ok(Some(reply(alloc, "201 Created", false, body.as_slice())?))
-        }
-        _ => Ok(None),
+        Answer::Created(_) => 201,
+        Answer::Gone => 204,
+        Answer::One(_) | Answer::Many { .. } | Answer::Interface(_) => 200,
     }
 }
 
-/// The reply to a refused call, where the session goes on after it.
-pub fn refused(alloc: Global, refusal: &Refusal) -> Result<Option<Vec<u8>>, OutOfMemory> {
-    let (status, message, kind) = match refusal {
-        Refusal::NotFound { kind, text } => {
-            let kind = kind.as_str();
-            let text = text.as_str();
-            let message = format!(in alloc; "{kind} {text} could not be found.")?;
-            (
-                "404 Not Found",
-                message,
-                format!(in alloc; "{kind}NotFound")?,
-            )
-        }
-        Refusal::NoNetwork => (
-            "503 Service Unavailable",
-            String::from_str(alloc, "No tenant network is available for allocation.")?,
-            String::from_str(alloc, "NoNetworkAvailable")?,
-        ),
-        Refusal::CountersSpent => (
-            "503 Service Unavailable",
-            String::from_str(alloc, "A counter is at its last value.")?,
-            String::from_str(alloc, "CountersSpent")?,
-        ),
-        Refusal::OutOfMemory => return Err(OutOfMemory),
-        _ => return Ok(None),
-    };
-    let body = fault_json(alloc, message.as_str(), kind.as_str())?;
-    Ok(Some(reply(alloc, status, false, body.as_slice())?))
+// The status code of a reply.
+fn reply_status(alloc: Global, reply: &Reply) -> Result<u16, OutOfMemory>
+    ensures code { IfOk result (λ code. code ≡ code_in reply.now) }
+    ensures known { IfOk result IsReplyCode }
+{
+    match reply {
+        Reply::Done(answer) => Ok(answer_status(answer)),
+        Reply::LabDone(_) => Ok(200),
+        Reply::Refused(refusal) => Ok(fault_of(alloc, refusal)?.code),
+    }
 }
 
-/// The reply to a request that isn't understood yet, which ends the session.
-pub fn not_built(alloc: Global) -> Result<Vec<u8>, OutOfMemory> {
-    let body = fault_json(alloc, "This request is not built yet.", "NotBuilt")?;
-    reply(alloc, "501 Not Implemented", true, body.as_slice())
+// What a reply says beside its code and its body: the methods that a path has.
+fn extra_of(alloc: Global, reply: &Reply) -> Result<Extra, OutOfMemory>
+    ensures { IfOk result (λ extra. extra.allow ≡ allowed_in reply.now) }
+{
+    match reply {
+        Reply::Refused(Refusal::NoMethod { allowed }) => Ok(Extra {
+            allow: Some(allowed.copy(alloc)?),
+        }),
+        _ => Ok(Extra { allow: None }),
+    }
+}
+
+/// The bytes of a reply. The cost grows with them.
+pub(crate) fn write(alloc: Global, close: bool, reply: &Reply) -> Result<Bytes, OutOfMemory>
+    ensures { IfOk result (λ bytes. bytes ≡ reply_written close reply.now) }
+{
+    let body = write_reply(alloc, reply)?;
+    let code = reply_status(alloc, reply)?;
+    let extra = extra_of(alloc, reply)?;
+    written(alloc, code, close, &extra, body.as_slice())
 }

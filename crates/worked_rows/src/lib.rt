@@ -9,4 +9,6 @@ mod ids;
 #[cfg(test)]
 mod machine;
 #[cfg(test)]
+mod sessions;
+#[cfg(test)]
 mod shown;

@@ -1,0 +1,4 @@
+pub mod Asking
+pub mod InForm
+pub mod Naming
+pub mod Replying

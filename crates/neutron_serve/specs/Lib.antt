@@ -1,0 +1,6 @@
+pub mod Causes
+pub mod Reading
+pub mod Replies
+pub mod Requests
+pub mod Runs
+pub mod Steps

@@ -1,0 +1,39 @@
+-- What the program does by its words.
+use Rattle.std.specs.Prelude.{ℕ, ◌^◌, ◌≤◌, List, [], ◌∷◌, Bool, false, Option, codes}
+use Rattle.std.specs.Str.{bytes_eq}
+use Rattle.api_types.specs.Rows.{no_rows}
+use Rattle.api_steps.specs.State.{State}
+use Rattle.http_session.specs.Serves.{Serves, moment}
+use Rattle.http_session.specs.declared.session_end.SessionEnd.{SessionEnd}
+use Rattle.http_session.specs.declared.session_end.SessionEnd.TheVariants.{Done, ReadFault, WriteFault, Budget, OutOfMemory}
+use Rattle.neutron_serve.specs.Steps.{Steps, fixed_replies}
+
+-- the words are the one word `session`
+abbrev pub is_session : List (List ℕ) → Bool
+is_session [] = false
+is_session (word ∷ []) = bytes_eq word (codes "session")
+is_session (word ∷ (other ∷ words)) = false
+
+-- the program's status, by how the session ended
+abbrev pub status_of : SessionEnd → ℕ
+status_of Done = 0
+status_of ReadFault = 2
+status_of WriteFault = 3
+status_of OutOfMemory = 4
+status_of Budget = 8
+
+-- no rows, at version 0
+abbrev pub fresh_state : State
+fresh_state = record { rows = no_rows; version = 0 }
+
+-- what an input and an output tell before and after
+pub record Ends : Type 0 where
+  pub left : Option (List ℕ)
+  pub written : Option (List ℕ)
+  pub flushed : Option ℕ
+
+-- a session from no rows on, over a store that never fails, of at most 2^40 bytes
+abbrev pub RunsSession : Ends → Ends → SessionEnd → Type 0
+RunsSession old new end = (state : State) × (buffer : List ℕ) × (taken : ℕ) × (taken ≤ 2 ^ 40) × Serves Steps fixed_replies (2 ^ 40)
+    (moment fresh_state [] old.left old.written old.flushed 0 0)
+    (moment state buffer new.left new.written new.flushed 0 taken) end
