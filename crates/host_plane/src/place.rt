@@ -65,8 +65,8 @@ pub fn step<'t>(
     place: &Place<'t>,
 ) -> Step<'t>
     requires { 2 ≤ fresh.old.spare }
-    ensures step { AreOrdered tables.now → step_seen result ≡ (table_step tables.now (entries.now ++ fresh.old.items) (place_seen place.now)).step }
-    ensures made { AreOrdered tables.now → fresh.new.items ≡ fresh.old.items ++ (table_step tables.now (entries.now ++ fresh.old.items) (place_seen place.now)).made }
+    ensures step { AreOrdered tables.now → step_seen result ≡ (table_step tables.now (entries.now.items ++ fresh.old.items) (place_seen place.now)).step }
+    ensures made { AreOrdered tables.now → fresh.new.items ≡ fresh.old.items ++ (table_step tables.now (entries.now.items ++ fresh.old.items) (place_seen place.now)).made }
     ensures room { fresh.old.spare + length fresh.old.items ≤ fresh.new.spare + length fresh.new.items }
 {
     let Stepped { step, made } = stepped(tables, entries.as_slice(), fresh.as_slice(), place);

@@ -1,12 +1,10 @@
-ghost use Rattle.std.specs.Prelude.{◌≡◌, IfOk, find};
-ghost use Rattle.api_types.specs.Owners.{holds_in as held_in};
-ghost use Rattle.api_types.specs.declared.port.Fixed.{Fixed as TheFixed};
-ghost use Rattle.plane_types.specs.Meaning.{answered as lease_answer, asked as address_asked, lease_asked as lease_asked_of, lease_for as lease_of_port, lease_in as lease_by, lease_of as lease_from, leased as leased_by, out_of as out_or_dropped};
+ghost use Rattle.std.specs.Prelude.{◌≡◌, IfOk};
+ghost use Rattle.plane_types.specs.Meaning.{answered as lease_answer, asked as address_asked, lease_asked as lease_asked_of, leased as leased_by, out_of as out_or_dropped};
 ghost use Rattle.plane_types.specs.Packets.{address_ask, lease_ask};
 
-use api_types::{Fixed, Id, PortRow, Rows, SubnetRow};
-use net_addr::{Addr4, Copies, Mac, OutOfMemory, Text};
-use plane_rows::{dhcp_port, has_wire, holder, holds_in, joined_with, named_subnet, port_at};
+use api_types::{Id, PortRow, Rows};
+use net_addr::{Addr4, Mac, OutOfMemory, Text};
+use plane_rows::{dhcp_port, has_wire, holder, joined_with, lease_for, port_at};
 use plane_types::{AskAnswer, DropCause, Frame, Lease, Outcome, Toward};
 use std::alloc::Global;
 
@@ -55,53 +53,6 @@ pub(crate) fn asked(
             Frame::ArpAsk { src, from, to },
             DropCause::NoHolder,
         ),
-    }
-}
-
-fn lease_of(alloc: Global, fixed: Fixed, subnet: &SubnetRow) -> Result<Lease, OutOfMemory>
-    ensures { IfOk result (λ l. l ≡ lease_from fixed subnet.now) }
-{
-    Ok(Lease {
-        address: fixed.address,
-        length: subnet.prefix.len,
-        gateway: subnet.gateway,
-        name_servers: subnet.dns.copy(alloc)?,
-        host_routes: subnet.host_routes.copy(alloc)?,
-    })
-}
-
-fn lease_in(alloc: Global, rows: &Rows, fixed: Fixed) -> Result<Option<Lease>, OutOfMemory>
-    ensures { IfOk result (λ l. l ≡ lease_by rows.now fixed) }
-{
-    match named_subnet(rows, fixed.subnet) {
-        Some(subnet) => Ok(Some(lease_of(alloc, fixed, subnet)?)),
-        None => Ok(None),
-    }
-}
-
-// The first address of a port in a subnet in which the DHCP port holds one.
-fn fixed_leased(dhcp: &PortRow, port: &PortRow) -> Option<Fixed>
-    ensures { result ≡ find (λ (f : TheFixed). held_in f.subnet dhcp.now) port.now.fixed }
-{
-    for fixed in port.fixed.as_slice() {
-        if holds_in(fixed.subnet, dhcp) {
-            return Some(*fixed);
-        }
-    }
-    None
-}
-
-fn lease_for(
-    alloc: Global,
-    rows: &Rows,
-    dhcp: &PortRow,
-    port: &PortRow,
-) -> Result<Option<Lease>, OutOfMemory>
-    ensures { IfOk result (λ l. l ≡ lease_of_port rows.now dhcp.now port.now) }
-{
-    match fixed_leased(dhcp, port) {
-        Some(fixed) => lease_in(alloc, rows, fixed),
-        None => Ok(None),
     }
 }
 

@@ -325,7 +325,7 @@ pub fn explain(
     entries: &Entries,
     event: &Event,
 ) -> Result<Verdict, OutOfMemory>
-    ensures { IfOk result (λ v. v ≡ rows_verdict rows.now entries.now event.now) }
+    ensures { IfOk result (λ v. v ≡ rows_verdict rows.now entries.now.items event.now) }
 {
     let fate = fate_of_event(alloc, rows, entries.as_slice(), event)?;
     let fresh = told(alloc, fate.trace.fresh.as_slice())?;

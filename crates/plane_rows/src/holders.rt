@@ -104,9 +104,9 @@ fn live_on<'r>(rows: &Rows, network: Id, port: Option<&'r PortRow>) -> Option<&'
     }
 }
 
-// The live gateway port, on the floating address's network, of the router that it names.
+/// The live gateway port, on the floating address's network, of the router that it names.
 #[tactic(auto, unfolding(plane_types::specs::Holders::floating_holder))]
-fn floating_holder<'r>(rows: &'r Rows, floating: &FloatingRow) -> Option<&'r PortRow>
+pub fn floating_holder<'r>(rows: &'r Rows, floating: &FloatingRow) -> Option<&'r PortRow>
     ensures { option_copied result ≡ holder_by_floating rows.now floating.now }
 {
     let port = match target_router(rows, floating.target) {

@@ -22,7 +22,8 @@ pub fn is_live(rows: &Rows, port: &PortRow) -> bool
     }
 }
 
-fn segment_of(rows: &Rows, network: Id) -> Option<&Segment>
+/// The segment of the network with this id.
+pub fn segment_of(rows: &Rows, network: Id) -> Option<&Segment>
     ensures { option_copied result ≡ option_map (λ (n : TheNetwork). n.segment) (network_of rows.now network) }
 {
     let networks = rows.networks();

@@ -1,7 +1,9 @@
 ghost use Rattle.std.specs.Prelude.{◌≡◌, ◌≤◌, IfOk, OnOk, insert, length};
 ghost use Rattle.plane_types.specs.Ascending.{ascending as in_order, put_in as with_item};
+ghost use Rattle.plane_types.specs.Hosts.{key_place as place_of_key};
 
 use net_addr::{OutOfMemory, Prefix4};
+use plane_types::{BridgeKey, BridgeRow, NeighbourRow};
 use std::alloc::Global;
 
 /// A value that has its place among others of its type.
@@ -22,6 +24,37 @@ impl Ordered for Prefix4 {
 
     fn is_before(&self, other: &Prefix4) -> bool {
         self.base < other.base || (self.base == other.base && self.len < other.len)
+    }
+}
+
+// Where a key stands among those of a tag.
+fn key_place(key: BridgeKey) -> u64
+    ensures { result ≡ place_of_key key }
+{
+    match key {
+        BridgeKey::Dhcp => 0,
+        BridgeKey::Mac(mac) => mac.0 + 1,
+    }
+}
+
+impl Ordered for BridgeRow {
+    ghost use Rattle.plane_types.specs.Hosts.{bridge_before};
+
+    ghost before = { bridge_before };
+
+    fn is_before(&self, other: &BridgeRow) -> bool {
+        self.tag < other.tag
+            || (self.tag == other.tag && key_place(self.key) < key_place(other.key))
+    }
+}
+
+impl Ordered for NeighbourRow {
+    ghost use Rattle.plane_types.specs.Hosts.{neighbour_before};
+
+    ghost before = { neighbour_before };
+
+    fn is_before(&self, other: &NeighbourRow) -> bool {
+        self.tag < other.tag || (self.tag == other.tag && self.address < other.address)
     }
 }
 

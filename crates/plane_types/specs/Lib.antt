@@ -3,7 +3,6 @@ pub mod Crossing
 pub mod Entries
 pub mod Fabric
 pub mod Filter
-pub mod Fresh
 pub mod Guard
 pub mod Holders
 pub mod Hosts
@@ -17,6 +16,7 @@ pub mod Places
 pub mod Realises
 pub mod RouterRows
 pub mod Routing
+pub mod Spare
 pub mod Synced
 pub mod TableRows
 pub mod TableStep

@@ -1,6 +1,6 @@
 use crate::frame::Key;
 use api_types::{Direction, Id};
-use net_addr::{Addr4, Copies, OutOfMemory, Seq};
+use net_addr::{Addr4, Copies, OutOfMemory};
 use std::alloc::Global;
 
 /// What a host keeps of a packet that passed.
@@ -20,9 +20,6 @@ pub enum Entry {
         outer_port: u16,
     },
 }
-
-/// Entries in the order in which they were made.
-pub type Entries = Seq<Entry>;
 
 impl Copies for Entry {
     fn copy(&self, _alloc: Global) -> Result<Entry, OutOfMemory> {

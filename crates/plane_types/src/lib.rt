@@ -7,19 +7,19 @@
 #![tactic(auto)]
 
 mod ask;
+mod entries;
 mod entry;
 mod event;
 mod frame;
-mod fresh;
 mod table;
 mod tables;
 mod verdict;
 
 pub use ask::{Ask, Heard, HostState, LabAnswer, LabCall, Reply};
-pub use entry::{Entries, Entry};
+pub use entries::{Entries, Fresh};
+pub use entry::Entry;
 pub use event::{Event, Place};
 pub use frame::{Frame, Key, KeyKind, KeyPart};
-pub use fresh::Fresh;
 pub use table::{
     BridgeKey, BridgeRow, BridgeTo, Carrier, FilterRow, FloatRow, InwardRow, LeaseRow,
     NeighbourRow, RouteRank, RouteRow, RouterPort, RouterTable, SetRow, TagRow, TapRow, Wire,

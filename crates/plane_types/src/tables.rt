@@ -67,9 +67,9 @@ impl Copies for HostTables {
 #[cfg(test)]
 mod tests {
     use super::*;
+    use crate::entries::Fresh;
     use crate::entry::Entry;
     use crate::frame::{Key, KeyKind};
-    use crate::fresh::Fresh;
     use crate::table::{BridgeKey, BridgeTo};
     use api_types::{Direction, Id};
     use net_addr::{Addr4, Mac, Text};

@@ -2,7 +2,7 @@ use Rattle.std.proofs.Common.{◌≡◌, drop}
 use Rattle.std.specs.Prelude.{find}
 use Rattle.api_types.specs.Owners.{holds_in as held_in}
 use Rattle.api_types.specs.declared.port.Fixed.{Fixed}
-use Rattle.net_meaning.proofs.ask.fixed_leased.Given as goal
+use Rattle.plane_rows.proofs.leases.fixed_leased.Given as goal
 
 -- none so far is in a subnet of the DHCP port
 abbrev pub invariant-loop-fixed : goal.invariant-loop-fixed
