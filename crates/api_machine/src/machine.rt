@@ -60,6 +60,15 @@ impl Model for Ready {
     ghost view = { λ r. record { rows = r.rows; version = r.version } };
 }
 
+impl Ready {
+    /// The rows that would be put in place.
+    pub fn rows(&self) -> &Rows
+        ensures { result.now ≡ self.now.rows }
+    {
+        &self.rows
+    }
+}
+
 // A plan that changes nothing.
 fn unchanged(answer: Answer) -> Planned
     ensures none { result.change ≡ None }

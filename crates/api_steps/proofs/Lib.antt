@@ -1,6 +1,7 @@
 pub mod OutcomeLemmas
 pub mod NetworksKept
 pub mod PortsKept
+pub mod StepHeld
 pub mod StepKept
 pub mod ListLemmas
 pub mod FootingLemmas

@@ -104,7 +104,7 @@ updated_kept state caller name form rows reply c h =
     (replaced_kept state.rows here.place n new here.at (record { id = refl; project = refl; segment = refl }) c))
 
 -- what has no user but a DHCP port isn't used
-unused : (ports : List PortRow) (rows : RowLists) (n : NetworkRow) → rows.ports ≡ ports → network_user ports n.id ≡ None → IsUnused rows n.id
+pub unused : (ports : List PortRow) (rows : RowLists) (n : NetworkRow) → rows.ports ≡ ports → network_user ports n.id ≡ None → IsUnused rows n.id
 unused ports rows n same none = subst (Each (λ p. ident_eq n.id p.network ≡ true → is_dhcp p.owner ≡ true)) (sym same)
     (λ k p at on. must (ident_eq n.id p.network) (is_dhcp p.owner) on (unfound (λ (q : PortRow). ident_eq n.id q.network && not (is_dhcp q.owner)) ports none k p at))
   where
@@ -117,7 +117,7 @@ no_image f None h = refl
 no_image f (Some x) h = cc
 
 -- where nothing forbids the deletion there is no user
-not_used : (state : State) (caller : Caller) (n : NetworkRow) → deletion_refusal state caller n ≡ None → network_user state.rows.ports n.id ≡ None
+pub not_used : (state : State) (caller : Caller) (n : NetworkRow) → deletion_refusal state caller n ≡ None → network_user state.rows.ports n.id ≡ None
 not_used state caller n h =
     let used = option_map (network_in_use state.rows caller n.id) (network_user state.rows.ports n.id) in
     let last = when (is_last state) CountersSpent ∷ [] in

@@ -13,6 +13,7 @@ use Rattle.api_types.specs.declared.call.Call.{Call}
 use Rattle.api_types.specs.declared.call.Call.TheVariants.{List as ListCall, Show, Create, Update, Delete, AddInterface, RemoveInterface}
 use Rattle.api_types.specs.declared.call.Caller.{Caller}
 use Rattle.api_types.specs.declared.call.IdText.{IdText}
+use Rattle.api_types.specs.declared.call.Query.{Query}
 use Rattle.api_types.specs.declared.form.Form.{Form}
 use Rattle.api_types.specs.declared.form.Form.TheVariants.{Network as NetworkOf, Subnet as SubnetOf, Port as PortOf, Group as GroupOf, Rule as RuleOf, Router as RouterOf, Floating as FloatingOf, Policy as PolicyOf}
 use Rattle.api_types.specs.declared.form.Given.{Given}
@@ -38,7 +39,7 @@ use Rattle.api_steps.specs.Ports.{port_created}
 use Rattle.api_steps.specs.Reads.{marker_text, row_told}
 use Rattle.api_steps.specs.Refusing.{at_name, needing, not_found, unless, when}
 use Rattle.api_steps.specs.State.{State}
-use Rattle.api_steps.specs.Step.{api_step, row_created, row_deleted, row_shown, row_updated}
+use Rattle.api_steps.specs.Step.{api_step, kind_listed, row_created, row_deleted, row_shown, row_updated}
 use Rattle.api_steps.proofs.NetworksKept as networks
 use Rattle.api_steps.proofs.PortsKept as ports
 
@@ -82,7 +83,7 @@ row_stays {R = R} kind id_of members caller name fields seen rows reply P h = by
     by None h = cc
     by (Some r) h = cc
 
-shown : (state : State) (caller : Caller) (kind : Kind) (name : IdText) (fields : List (List ℕ)) (rows : RowLists) (reply : Reply) (P : Type 0) → row_shown state caller kind name fields ≡ Moved rows reply → P
+pub shown : (state : State) (caller : Caller) (kind : Kind) (name : IdText) (fields : List (List ℕ)) (rows : RowLists) (reply : Reply) (P : Type 0) → row_shown state caller kind name fields ≡ Moved rows reply → P
 shown state caller Network name fields rows reply P h = row_stays Network (λ (r : NetworkRow). r.id) (network_members state.rows caller) caller name fields (seen_networks state.rows caller) rows reply P h
 shown state caller Port name fields rows reply P h = row_stays Port (λ (r : PortRow). r.id) (port_members state.rows) caller name fields (seen_ports state.rows caller) rows reply P h
 shown state caller Project name fields rows reply P h = cc
@@ -92,6 +93,15 @@ shown state caller Rule name fields rows reply P h = cc
 shown state caller Router name fields rows reply P h = cc
 shown state caller Floating name fields rows reply P h = cc
 shown state caller Policy name fields rows reply P h = cc
+
+-- neither does a list
+pub list_stays : (state : State) (caller : Caller) (kind : Kind) (query : Query) (rows : RowLists) (reply : Reply) (P : Type 0) → kind_listed state caller kind query ≡ Moved rows reply → P
+list_stays state caller kind query rows reply P h = by (is_kind_ahead kind) (not (has_marker state.rows caller kind query.marker)) h
+  where
+    by : (b m : Bool) → (if b then Refused NotBuilt else unless (when m (not_found kind (marker_text query.marker))) (Told (ManyRows kind (rows_of state.rows caller kind query)))) ≡ Moved rows reply → P
+    by true m h = cc
+    by false true h = cc
+    by false false h = cc
 
 updated : (state : State) (caller : Caller) (name : IdText) (form : Form) (rows : RowLists) (reply : Reply) → IsConsistent state.rows → row_updated state caller name form ≡ Moved rows reply → IsConsistent rows
 updated state caller name (NetworkOf form) rows reply c h = networks.updated_kept state caller name form rows reply c (built_moved (is_network_ahead form) (network_updated state caller name form) rows reply h).1
@@ -116,12 +126,7 @@ deleted state caller Policy name rows reply c h = cc
 
 pub step_kept : (settings : SettingsParts) (state : State) (caller : Caller) (call : Call) (rows : RowLists) (reply : Reply) → MeetsRules settings → IsConsistent state.rows → IsInForm call
     → api_step settings state caller call ≡ Moved rows reply → IsConsistent rows
-step_kept settings state caller (ListCall kind query) rows reply rules c given h = listed (is_kind_ahead kind) (not (has_marker state.rows caller kind query.marker)) h
-  where
-    listed : (b m : Bool) → (if b then Refused NotBuilt else unless (when m (not_found kind (marker_text query.marker))) (Told (ManyRows kind (rows_of state.rows caller kind query)))) ≡ Moved rows reply → IsConsistent rows
-    listed true m h = cc
-    listed false true h = cc
-    listed false false h = cc
+step_kept settings state caller (ListCall kind query) rows reply rules c given h = list_stays state caller kind query rows reply (IsConsistent rows) h
 step_kept settings state caller (Show kind name fields) rows reply rules c given h = shown state caller kind name fields rows reply (IsConsistent rows) h
 step_kept settings state caller (Create form) rows reply rules c given h = created settings state caller form rows reply rules c given h
 step_kept settings state caller (Update name form) rows reply rules c given h = updated state caller name form rows reply c h

@@ -8,5 +8,6 @@ pub mod Networks
 pub mod Ports
 pub mod NotBuilt
 pub mod Footing
+pub mod Holdable
 pub mod InForm
 pub mod Step

@@ -14,7 +14,9 @@ ghost use Rattle.api_types.specs.declared.call.Call.{Call};
 ghost use Rattle.api_types.specs.declared.call.Caller.{Caller};
 ghost use Rattle.net_settings.specs.Rules.{MeetsRules};
 ghost use Rattle.net_settings.specs.Settings.{SettingsParts};
+ghost use Rattle.api_check.specs.Carrying.{carries};
 ghost use Rattle.api_steps.specs.Footing.{footing};
+ghost use Rattle.api_steps.specs.Holdable.{AreHoldable};
 ghost use Rattle.api_steps.specs.InForm.{IsInForm};
 ghost use Rattle.api_steps.specs.Refusing.{told};
 ghost use Rattle.api_steps.specs.State.{State};
@@ -23,6 +25,11 @@ ghost use Rattle.api_steps.specs.Step.{api_step};
 /// Each accepted call leaves consistent rows consistent.
 pub fn calls_keep_rows_consistent()
     ensures kept { (settings : SettingsParts) (state : State) (caller : Caller) (call : Call) (rows : RowLists) (reply : Reply) → MeetsRules settings → IsConsistent state.rows → IsInForm call → api_step settings state caller call ≡ Moved rows reply → IsConsistent rows }
+{}
+
+/// Each accepted call leaves rows that the hosts of the settings can hold, where they could before.
+pub fn calls_keep_rows_holdable()
+    ensures kept { (settings : SettingsParts) (state : State) (caller : Caller) (call : Call) (rows : RowLists) (reply : Reply) → IsConsistent state.rows → AreHoldable (carries settings.hosts) state.rows → api_step settings state caller call ≡ Moved rows reply → AreHoldable (carries settings.hosts) rows }
 {}
 
 /// A tenant is told the same at any two consistent states in which it has the same footing.
