@@ -1,0 +1,18 @@
+use Rattle.std.proofs.Common.{◌≡◌, ◌∙◌, ap, List, sym, subst}
+use Rattle.plane_types.specs.Placed.{IsPlaced}
+use Rattle.plane_types.specs.Realises.{Realises}
+use Rattle.plane_types.specs.declared.entry.Entry.{Entry}
+use Rattle.agent_node.specs.Node.{Node, Ready}
+use Rattle.agent_node.proofs.PlacedLemmas.{stay_placed}
+use Rattle.agent_node.proofs.node.AgentNode.put.Goals as goal
+
+pub invariant_of-self : goal.invariant_of-self
+invariant_of-self c =
+    let node = c.self.inside in
+    let ready = c.ready.inside in
+    let same : ready.name ≡ node.name = ap (λ (r : Ready). r.name) c.ready.view_is ∙ c.requires.name ∙ sym (ap (λ (n : Node). n.name) c.self.view_is) in
+    record {
+      consistent = c.ready.invariant.consistent;
+      realised = subst (λ name. Realises ready.rows name ready.tables) same c.ready.invariant.realised;
+      placed = subst (λ (es : List Entry). IsPlaced (record { name = node.name; tables = ready.tables; entries = es })) (sym c.keep_placed.ensures.items) (stay_placed node.name node.tables ready.tables node.entries.items c.self.invariant.placed);
+    }

@@ -1,0 +1,183 @@
+ghost use Rattle.std.specs.Prelude.{◌≡◌, ◌+◌, ◌<◌, ◌≤◌, [], ◌∷◌, ◌++◌, IfOk, OnErr, OnOk};
+ghost use Rattle.api_types.specs.Consistent.{IsConsistent};
+ghost use Rattle.host_plane.specs.Ordered.{AreOrdered};
+ghost use Rattle.plane_types.specs.Placed.{IsPlaced};
+ghost use Rattle.plane_types.specs.Realises.{Realises};
+ghost use Rattle.agent_node.specs.Node.{host_of, host_with, resynced, started, with_entries};
+ghost use Rattle.agent_node.specs.Wired.{wired as wired_by_rows};
+
+use crate::ready::ReadyNode;
+use api_types::Rows;
+use net_addr::{Copies, OutOfMemory, Seq, Text};
+use plane_types::{Entries, Entry, HostTables};
+use std::alloc::Global;
+use std::marker::Model;
+
+// How many entries one event makes at most.
+const EVENT_ENTRIES: usize = 256;
+
+/// One host's agents.
+///
+/// Between calls the rows are consistent, the tables are those that the rows give to the host, and
+/// each entry is of a tap or router in them.
+#[derive(Drop)]
+pub struct AgentNode {
+    name: Text,
+    held: Option<u64>,
+    version: u64,
+    rows: Rows,
+    tables: HostTables,
+    entries: Entries,
+}
+
+impl Model for AgentNode {
+    ghost use Rattle.agent_node.specs.Node.{Node, Stands};
+
+    ghost Value = { Node };
+
+    ghost view = { λ a. record { name = a.name; held = a.held; version = a.version; rows = a.rows; tables = a.tables; entries = a.entries.items; spare = a.entries.spare } };
+
+    ghost invariant = { λ a. Stands (record { name = a.name; held = a.held; version = a.version; rows = a.rows; tables = a.tables; entries = a.entries.items; spare = a.entries.spare }) };
+}
+
+impl AgentNode {
+    /// The agents of a host that is given its first rows, at a version that it then holds. There are
+    /// no entries. Its cost is that of wiring and of a copy of the rows.
+    pub fn make(
+        alloc: Global,
+        host: Text,
+        rows: &Rows,
+        version: u64,
+    ) -> Result<AgentNode, OutOfMemory>
+        requires { IsConsistent rows.now }
+        ensures { IfOk result (λ n. n ≡ started host version rows.now n.spare) }
+    {
+        let ReadyNode {
+            name,
+            version,
+            rows,
+            tables,
+            old: _,
+        } = ReadyNode::make(alloc, host, version, rows, Seq::new(alloc))?;
+        Ok(AgentNode {
+            name,
+            held: Some(version),
+            version,
+            rows,
+            tables,
+            entries: Entries::new(alloc),
+        })
+    }
+
+    /// What a resync with these rows would put in place. All stays as it is. Its cost is that of
+    /// wiring and of a copy of the rows.
+    pub fn prepare_resync(
+        &self,
+        alloc: Global,
+        version: u64,
+        rows: &Rows,
+    ) -> Result<ReadyNode, OutOfMemory>
+        requires { IsConsistent rows.now }
+        ensures { IfOk result (λ r. r ≡ record { name = self.now.name; version = version; rows = rows.now; tables = wired_by_rows rows.now self.now.name self.now.tables.tags; old = self.now.tables.tags }) }
+    {
+        let name = self.name.copy(alloc)?;
+        let old = self.tables.tags.copy(alloc)?;
+        ReadyNode::make(alloc, name, version, rows, old)
+    }
+
+    /// Puts in place what was made ready for this host and the tags that it has. Its version is then
+    /// held. Entries without a tap or router in the new tables are dropped, and the others stay in
+    /// their order. It takes no memory. Its cost grows with the entries times taps and routers.
+    pub fn put(&mut self, ready: ReadyNode)
+        requires name { ready.name ≡ self.old.name }
+        requires tags { ready.old ≡ self.old.tables.tags }
+        ensures node { self.new ≡ resynced self.old ready.version ready.rows self.new.spare }
+        ensures spare { self.old.spare ≤ self.new.spare }
+    {
+        let ReadyNode {
+            name: _,
+            version,
+            rows,
+            tables,
+            old: _,
+        } = ready;
+        self.entries.keep_placed(&tables);
+        self.held = Some(version);
+        self.version = version;
+        self.rows = rows;
+        self.tables = tables;
+    }
+
+    /// Gives the host the rows of a version, which it then holds, and wires them: networks keep their
+    /// tags, entries without a tap or router in the new tables are dropped, and the others stay in
+    /// their order. Its cost is that of wiring and of a copy of the rows, and grows with the entries
+    /// times taps and routers.
+    pub fn resync(&mut self, alloc: Global, version: u64, rows: &Rows) -> Result<(), OutOfMemory>
+        requires { IsConsistent rows.now }
+        ensures node { OnOk result (self.new ≡ resynced self.old version rows.now self.new.spare) }
+        ensures spare { OnOk result (self.old.spare ≤ self.new.spare) }
+        ensures same { OnErr result (self.new ≡ self.old) }
+    {
+        let ready = self.prepare_resync(alloc, version, rows)?;
+        self.put(ready);
+        Ok(())
+    }
+
+    /// The host's name.
+    pub fn host(&self) -> &Text
+        ensures { result.now ≡ self.now.name }
+    {
+        &self.name
+    }
+
+    /// The tables, which are those that the rows give to the host.
+    pub fn tables(&self) -> &HostTables
+        ensures tables { result.now ≡ self.now.tables }
+        ensures realised { Realises self.now.rows self.now.name self.now.tables }
+        ensures ordered { AreOrdered self.now.tables }
+    {
+        &self.tables
+    }
+
+    /// The entries, each of a tap or router in the tables.
+    pub fn entries(&self) -> &Entries
+        ensures items { result.now.items ≡ self.now.entries }
+        ensures spare { result.now.spare ≡ self.now.spare }
+        ensures placed { IsPlaced (host_of self.now) }
+    {
+        &self.entries
+    }
+
+    /// The version that is held, if any.
+    pub fn held(&self) -> Option<u64>
+        ensures { result ≡ self.now.held }
+    {
+        self.held
+    }
+
+    /// The wired rows.
+    pub fn rows(&self) -> &Rows
+        ensures rows { result.now ≡ self.now.rows }
+        ensures consistent { IsConsistent self.now.rows }
+    {
+        &self.rows
+    }
+
+    /// Makes room for the entries of one event, at most 256. All else stays.
+    pub fn reserve(&mut self, alloc: Global) -> Result<(), OutOfMemory>
+        ensures node { self.new ≡ with_entries self.old self.old.entries self.new.spare }
+        ensures spare { OnOk result (256 ≤ self.new.spare) }
+    {
+        self.entries.reserve(EVENT_ENTRIES)
+    }
+
+    /// Adds an entry at the end. It takes no memory.
+    pub fn add(&mut self, entry: Entry)
+        requires room { 0 < self.old.spare }
+        requires placed { IsPlaced (host_with self.old (self.old.entries ++ entry ∷ [])) }
+        ensures node { self.new ≡ with_entries self.old (self.old.entries ++ entry ∷ []) self.new.spare }
+        ensures spare { self.old.spare ≤ self.new.spare + 1 }
+    {
+        self.entries.add(entry);
+    }
+}

@@ -1,0 +1,148 @@
+ghost use Rattle.std.specs.Prelude.{◌≡◌, ◌++◌, IfOk, OnOk};
+ghost use Rattle.std.specs.List.{filter_map};
+ghost use Rattle.plane_types.specs.Live.{segment};
+ghost use Rattle.plane_types.specs.TableRows.{bridge_row as bridge_row_of, bridge_rows as bridge_rows_of, dhcp_row as dhcp_row_of, end_of as end_for, mac_row, to_here as to_tap_or_router, to_there as to_tunnel};
+
+use api_types::{PortRow, Rows, Segment};
+use net_addr::{Copies, OutOfMemory, Seq, Text};
+use plane_rows::{
+    ascending, is_at, is_dhcp, is_live, is_router_port, router_of, segment_of, tag_of,
+};
+use plane_types::{BridgeKey, BridgeRow, BridgeTo, TagRow};
+use std::alloc::Global;
+
+// To a port of this host.
+fn to_here(rows: &Rows, port: &PortRow) -> Option<BridgeTo>
+    ensures { result ≡ to_tap_or_router rows.now port.now }
+{
+    if !is_router_port(&port.owner) {
+        return Some(BridgeTo::Tap(port.id));
+    }
+    let router = router_of(rows, port)?;
+    Some(BridgeTo::Router {
+        router: router.id,
+        port: port.id,
+    })
+}
+
+// To a port of another host.
+#[tactic(auto, unfolding(plane_types::specs::Live::segment))]
+fn to_there(alloc: Global, rows: &Rows, port: &PortRow) -> Result<Option<BridgeTo>, OutOfMemory>
+    ensures { IfOk result (λ o. o ≡ to_tunnel (segment rows.now port.now.network) port.now) }
+{
+    match segment_of(rows, port.network) {
+        Some(Segment::Vxlan { number }) => Ok(Some(BridgeTo::Tunnel {
+            host: port.host.copy(alloc)?,
+            number: *number,
+        })),
+        Some(Segment::Local | Segment::Flat { .. } | Segment::Vlan { .. }) | None => Ok(None),
+    }
+}
+
+fn end_of(
+    alloc: Global,
+    rows: &Rows,
+    host: &Text,
+    port: &PortRow,
+) -> Result<Option<BridgeTo>, OutOfMemory>
+    ensures { IfOk result (λ o. o ≡ end_for rows.now host.now port.now) }
+{
+    if is_at(host, port) {
+        Ok(to_here(rows, port))
+    } else {
+        to_there(alloc, rows, port)
+    }
+}
+
+// The entry of a key that leads to a port, where it is live and can be reached.
+fn bridge_row(
+    alloc: Global,
+    rows: &Rows,
+    host: &Text,
+    tags: &[TagRow],
+    key: BridgeKey,
+    port: &PortRow,
+) -> Result<Option<BridgeRow>, OutOfMemory>
+    ensures { IfOk result (λ o. o ≡ bridge_row_of rows.now host.now tags.now key port.now) }
+{
+    if !is_live(rows, port) {
+        return Ok(None);
+    }
+    let Some(to) = end_of(alloc, rows, host, port)? else {
+        return Ok(None);
+    };
+    match tag_of(tags, port.network) {
+        None => Ok(None),
+        Some(tag) => Ok(Some(BridgeRow { tag, key, to })),
+    }
+}
+
+// Adds the entries of MACs.
+fn add_macs(
+    alloc: Global,
+    bridge: &mut Vec<BridgeRow>,
+    rows: &Rows,
+    host: &Text,
+    tags: &[TagRow],
+) -> Result<(), OutOfMemory>
+    ensures { OnOk result (bridge.new.items ≡ bridge.old.items ++ filter_map (mac_row rows.now host.now tags.now) rows.now.ports) }
+{
+    for port in rows.ports().rows() {
+        let key = BridgeKey::Mac(port.mac);
+        if let Some(row) = bridge_row(alloc, rows, host, tags, key, port)? {
+            bridge.push(row)?;
+        }
+    }
+    Ok(())
+}
+
+fn dhcp_row(
+    alloc: Global,
+    rows: &Rows,
+    host: &Text,
+    tags: &[TagRow],
+    port: &PortRow,
+) -> Result<Option<BridgeRow>, OutOfMemory>
+    ensures { IfOk result (λ o. o ≡ dhcp_row_of rows.now host.now tags.now port.now) }
+{
+    if !is_dhcp(&port.owner) {
+        return Ok(None);
+    }
+    bridge_row(alloc, rows, host, tags, BridgeKey::Dhcp, port)
+}
+
+// Adds the entries of DHCP.
+fn add_dhcp(
+    alloc: Global,
+    bridge: &mut Vec<BridgeRow>,
+    rows: &Rows,
+    host: &Text,
+    tags: &[TagRow],
+) -> Result<(), OutOfMemory>
+    ensures { OnOk result (bridge.new.items ≡ bridge.old.items ++ filter_map (dhcp_row_of rows.now host.now tags.now) rows.now.ports) }
+{
+    for port in rows.ports().rows() {
+        if let Some(row) = dhcp_row(alloc, rows, host, tags, port)? {
+            bridge.push(row)?;
+        }
+    }
+    Ok(())
+}
+
+/// The entries by which frames of each tag go to ports, here and on other hosts, in ascending order
+/// of tag and key. Its cost grows with the ports times the tags and the routers, and with the square
+/// of the entries.
+#[tactic(auto, unfolding(plane_types::specs::TableRows::bridge_rows))]
+pub(crate) fn bridge_rows(
+    alloc: Global,
+    rows: &Rows,
+    host: &Text,
+    tags: &[TagRow],
+) -> Result<Seq<BridgeRow>, OutOfMemory>
+    ensures { IfOk result (λ b. b ≡ bridge_rows_of rows.now host.now tags.now) }
+{
+    let mut bridge = Vec::new(alloc);
+    add_macs(alloc, &mut bridge, rows, host, tags)?;
+    add_dhcp(alloc, &mut bridge, rows, host, tags)?;
+    Ok(Seq::from_vec(ascending(alloc, bridge)?))
+}
