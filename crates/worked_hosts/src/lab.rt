@@ -1,0 +1,106 @@
+ghost use Rattle.std.specs.Prelude.{◌≡◌, false};
+ghost use Rattle.std.specs.Str.{bytes_eq};
+ghost use Rattle.host_plane.specs.Ordered.{AreOrdered};
+
+use fabric_run::Fleet;
+use host_plane::is_ordered;
+use net_addr::{OutOfMemory, Text};
+use plane_types::{Entries, Entry, HostTables, Made};
+use std::alloc::Global;
+use std::test::Fail;
+
+/// A host with its tables, whose two maps ascend, and its tracked entries.
+#[derive(Drop)]
+pub(crate) struct Node {
+    name: Text,
+    tables: HostTables,
+    entries: Entries,
+    ghost ordered: { AreOrdered tables },
+}
+
+/// Two hosts made by hand, whose names differ.
+#[derive(Drop)]
+pub(crate) struct Lab {
+    first: Node,
+    second: Node,
+    ghost differ: { bytes_eq first.name second.name ≡ false },
+}
+
+impl Fleet for Lab {
+    ghost use Rattle.std.specs.Prelude.{[], ◌∷◌};
+
+    ghost hosts = { λ l. record { name = l.first.name; tables = l.first.tables; entries = l.first.entries.items } ∷ record { name = l.second.name; tables = l.second.tables; entries = l.second.entries.items } ∷ [] };
+
+    fn count(&self) -> usize {
+        2
+    }
+
+    fn host(&self, at: usize) -> &Text {
+        if at == 0 {
+            &self.first.name
+        } else {
+            &self.second.name
+        }
+    }
+
+    fn tables(&self, at: usize) -> &HostTables {
+        if at == 0 {
+            &self.first.tables
+        } else {
+            &self.second.tables
+        }
+    }
+
+    fn entries(&self, at: usize) -> &Entries {
+        if at == 0 {
+            &self.first.entries
+        } else {
+            &self.second.entries
+        }
+    }
+}
+
+impl Node {
+    pub(crate) fn make(alloc: Global, name: &str, tables: HostTables) -> Result<Node, Fail> {
+        if !is_ordered(&tables) {
+            return Err(Fail::new("the maps ascend"));
+        }
+        Ok(Node {
+            name: Text::of(alloc, name)?,
+            tables,
+            entries: Entries::new(alloc),
+        })
+    }
+}
+
+fn add(entries: &mut Entries, entry: Entry) -> Result<(), OutOfMemory> {
+    entries.reserve(1)?;
+    entries.add(entry);
+    Ok(())
+}
+
+impl Lab {
+    pub(crate) fn make(first: Node, second: Node) -> Result<Lab, Fail> {
+        if first.name == second.name {
+            return Err(Fail::new("names differ"));
+        }
+        Ok(Lab { first, second })
+    }
+
+    // At the host that made it.
+    fn keep(&mut self, made: &Made) -> Result<(), OutOfMemory> {
+        match made.host {
+            Some(0) => add(&mut self.first.entries, made.entry),
+            Some(_) => add(&mut self.second.entries, made.entry),
+            None => Ok(()),
+        }
+    }
+
+    /// Each entry is kept at the host that made it.
+    pub(crate) fn keep_all(&mut self, fresh: &[Made]) -> Result<(), OutOfMemory> {
+        for made in fresh {
+            self.keep(made)?;
+        }
+        Ok(())
+    }
+}

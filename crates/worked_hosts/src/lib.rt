@@ -1,0 +1,20 @@
+//! Tests of `fabric_run`: what frames come to by tables made by hand.
+//!
+//! Outcomes, paths, entries and trails were worked out by hand. A crate with tests is proved twice, so
+//! they stand here, above `fabric_run`, and not in it. It promises nothing by itself.
+#![tactic(auto)]
+
+#[cfg(test)]
+mod drops;
+#[cfg(test)]
+mod lab;
+#[cfg(test)]
+mod office;
+#[cfg(test)]
+mod outer;
+#[cfg(test)]
+mod routed;
+#[cfg(test)]
+mod seen;
+#[cfg(test)]
+mod wires;

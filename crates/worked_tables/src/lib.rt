@@ -1,0 +1,22 @@
+//! Tests of `l2_agent` and `l3_agent`: the tables of hosts for rows made by hand.
+//!
+//! The rows of the tables were worked out by hand. A crate with tests is proved twice, so they stand
+//! here, above the two crates, and not in them. It promises nothing by itself.
+#![tactic(auto)]
+
+#[cfg(test)]
+mod bridge;
+#[cfg(test)]
+mod filters;
+#[cfg(test)]
+mod lines;
+#[cfg(test)]
+mod neighbours;
+#[cfg(test)]
+mod routed;
+#[cfg(test)]
+mod routers;
+#[cfg(test)]
+mod tags;
+#[cfg(test)]
+mod world;
