@@ -1,1 +1,2 @@
-pub mod OwnRefusals
+mod HostLaws
+mod OwnRefusals

@@ -1,48 +1,85 @@
--- What a server makes of an ask: the machine's step, and the rows that are kept.
-use Rattle.std.specs.Prelude.{◌≡◌, ◌⊎◌, ◌+◌, ⊤}
+-- What a server makes of an ask: the machine's step, which its hosts follow, or what the lab answers.
+use Rattle.std.specs.Prelude.{◌≡◌, ◌⊎◌, ◌+◌, ℕ, List, [], map, ⊤}
+use Rattle.std.specs.List.{filter}
 use Rattle.api_types.specs.Outcome.{Outcome, Refused as RefusedWith, Told, Moved}
 use Rattle.api_types.specs.Printed.{reply_of}
+use Rattle.api_types.specs.RowLists.{RowLists}
+use Rattle.api_types.specs.Rows.{no_rows}
 use Rattle.api_types.specs.declared.call.Caller.{Caller}
-use Rattle.api_types.specs.declared.refusal.Refusal.TheVariants.{NotBuilt, OutOfMemory, StoreFault}
-use Rattle.net_settings.specs.Defaults.{default_parts}
+use Rattle.api_types.specs.declared.refusal.Refusal.TheVariants.{OutOfMemory, StoreFault}
+use Rattle.net_settings.specs.Defaults.{default_hosts, default_parts}
+use Rattle.plane_types.specs.Hosts.{Host}
+use Rattle.plane_types.specs.Placed.{is_placed}
 use Rattle.plane_types.specs.declared.ask.Ask.{Ask}
 use Rattle.plane_types.specs.declared.ask.Ask.TheVariants.{Api, Lab}
 use Rattle.plane_types.specs.declared.ask.Reply.{Reply}
 use Rattle.plane_types.specs.declared.ask.Reply.TheVariants.{Done, LabDone, Refused}
+use Rattle.api_check.specs.Carrying.{carries}
 use Rattle.api_steps.specs.InForm.{IsInForm}
-use Rattle.api_steps.specs.State.{State}
 use Rattle.api_steps.specs.Step.{api_step}
+use Rattle.plane_laws.specs.Held.{HoldRows}
+use Rattle.agent_node.specs.Wired.{wired}
+use Rattle.lab_world.specs.Lab.{Answered, Barred, LabOutcome, WorldState, lab_outcome}
 
--- what is asked comes to: the machine's step, under the default settings; calls of the lab aren't built yet
-abbrev pub ask_outcome : State → Caller → Ask → Outcome
-ask_outcome state caller (Api call) = api_step default_parts state caller call
-ask_outcome state caller (Lab call) = RefusedWith NotBuilt
+-- a host that wires its first rows
+abbrev pub first_host : RowLists → List ℕ → Host
+first_host rows name = record { name = name; tables = wired rows name []; entries = [] }
+
+-- a host that wires these rows: networks keep their tags, and what is kept of ports and routers that are no longer there goes
+abbrev pub rewired : RowLists → Host → Host
+rewired rows h = record { name = h.name; tables = wired rows h.name h.tables.tags; entries = filter (is_placed (wired rows h.name h.tables.tags)) h.entries }
+
+-- no rows, at version 0, and the hosts of the default settings
+abbrev pub fresh_world : WorldState
+fresh_world = record { state = record { rows = no_rows; version = 0 }; hosts = map (λ h. first_host no_rows h.name) default_hosts }
+
+-- what is asked comes to the outcome of a call of the API, or of the lab
+pub data AskOutcome : Type 0 where
+  ByMachine : Outcome → AskOutcome
+  ByLab : LabOutcome → AskOutcome
+
+-- under the default settings
+abbrev pub ask_outcome : WorldState → Caller → Ask → AskOutcome
+ask_outcome w caller (Api call) = ByMachine (api_step default_parts w.state caller call)
+ask_outcome w caller (Lab call) = ByLab (lab_outcome w caller call)
 
 abbrev pub IsAskInForm : Ask → Type 0
 IsAskInForm (Api call) = IsInForm call
 IsAskInForm (Lab call) = ⊤
 
--- the state after an outcome: where it moves, the rows are those that it moves to, and the version is the next
-abbrev pub state_after : State → Outcome → State
-state_after state (RefusedWith refusal) = state
-state_after state (Told reply) = state
-state_after state (Moved rows reply) = record { rows = rows; version = state.version + 1 }
+-- where a call moves the rows, the version is the next, and each host wires the new rows
+abbrev pub moved : WorldState → RowLists → WorldState
+moved w rows = record { state = record { rows = rows; version = w.state.version + 1 }; hosts = map (rewired rows) w.hosts }
+
+abbrev pub world_after : WorldState → AskOutcome → WorldState
+world_after w (ByMachine (RefusedWith refusal)) = w
+world_after w (ByMachine (Told reply)) = w
+world_after w (ByMachine (Moved rows reply)) = moved w rows
+world_after w (ByLab (Barred refusal)) = w
+world_after w (ByLab (Answered answer hosts)) = record w { hosts = hosts }
 
 -- the reply is the outcome's
-abbrev pub IsTold : Outcome → Reply → Type 0
-IsTold outcome (Done answer) = (outcome ≡ Told (reply_of answer)) ⊎ ((rows : _) × (outcome ≡ Moved rows (reply_of answer)))
-IsTold outcome (Refused refusal) = outcome ≡ RefusedWith refusal
-IsTold outcome (LabDone answer) = ⊥
+abbrev pub IsTold : AskOutcome → Reply → Type 0
+IsTold (ByMachine outcome) (Done answer) = (outcome ≡ Told (reply_of answer)) ⊎ ((rows : _) × (outcome ≡ Moved rows (reply_of answer)))
+IsTold (ByMachine outcome) (Refused refusal) = outcome ≡ RefusedWith refusal
+IsTold (ByMachine outcome) (LabDone answer) = ⊥
+IsTold (ByLab outcome) (Done answer) = ⊥
+IsTold (ByLab outcome) (Refused refusal) = outcome ≡ Barred refusal
+IsTold (ByLab outcome) (LabDone answer) = (hosts : _) × (outcome ≡ Answered answer hosts)
 
 -- the ask is answered as its outcome says
-pub record IsHandled (outcome : Outcome) (old new : State) (reply : Reply) : Type 0 where
+pub record IsHandled (outcome : AskOutcome) (old new : WorldState) (reply : Reply) : Type 0 where
   pub tells : IsTold outcome reply
-  pub moves : new ≡ state_after old outcome
+  pub moves : new ≡ world_after old outcome
 
 -- memory could not be had, or the store failed
 abbrev pub IsOutside : Reply → Type 0
 IsOutside reply = (reply ≡ Refused OutOfMemory) ⊎ (reply ≡ Refused StoreFault)
 
 -- the ask is answered, or it is refused for one of these and all is as it was
-abbrev pub Handles : Outcome → State → State → Reply → Type 0
+abbrev pub Handles : AskOutcome → WorldState → WorldState → Reply → Type 0
 Handles outcome old new reply = IsHandled outcome old new reply ⊎ (IsOutside reply × (new ≡ old))
+
+-- each host holds the rows, and can carry its ports: what the laws of frames suppose
+abbrev pub HoldsRows : WorldState → Type 0
+HoldsRows w = HoldRows (carries default_hosts) w.state.rows w.hosts

@@ -1,10 +1,14 @@
-//! The world of a server: the machine of the Networking API, and the keeper of its rows.
+//! The world of a server: the machine of the Networking API with the keeper of its rows, and the
+//! hosts that carry its frames.
 //!
 //! `World::handle` answers what a caller asks. A change is planned and prepared before the keeper
-//! gets it, and put in place after it, so that nothing can fail in between: the kept rows are the
-//! world's, always. Calls of the lab aren't built yet.
+//! gets it, for the machine and for each host, and put in place after it, so that nothing can fail in
+//! between: the kept rows are the world's, and each host's tables are those of these rows, always.
+//! Calls of the lab send frames through the tables, tell what the rows say of them, and show the
+//! tables. Messages to hosts aren't built yet.
 #![tactic(auto)]
 
+mod lab;
 mod world;
 
 pub use world::World;

@@ -1,64 +1,95 @@
-ghost use Rattle.std.specs.Prelude.{◌≡◌, ◌⊎◌, ◌+◌, ◌-◌, ◌^◌, ◌<◌, ◌≤◌, IfOk, IfErr, OnOk, OnErr};
+ghost use Rattle.std.specs.Prelude.{◌≡◌, ◌⊎◌, ◌-◌, ◌^◌, ◌<◌, ◌≤◌, IfOk, IfErr, OnOk, OnErr, map};
 ghost use Rattle.api_types.specs.Consistent.{IsConsistent};
 ghost use Rattle.api_types.specs.Outcome.{Refused as RefusedWith};
-ghost use Rattle.api_types.specs.Rows.{Fits, after, no_rows};
-ghost use Rattle.net_settings.specs.Defaults.{default_parts};
+ghost use Rattle.api_types.specs.Rows.{Fits, after};
+ghost use Rattle.net_settings.specs.Defaults.{default_hosts, default_parts};
+ghost use Rattle.plane_types.specs.Crossing.{CrossesAtRouters};
+ghost use Rattle.plane_types.specs.Hosts.{all_entries};
+ghost use Rattle.plane_types.specs.Meaning.{life_of};
+ghost use Rattle.plane_types.specs.Told.{rows_verdict, without_hosts};
+ghost use Rattle.plane_types.specs.declared.ask.Ask.TheVariants.{Lab as LabAsk};
+ghost use Rattle.plane_types.specs.declared.ask.LabAnswer.TheVariants.{Seen};
+ghost use Rattle.plane_types.specs.declared.ask.LabCall.TheVariants.{Frames};
+ghost use Rattle.plane_types.specs.declared.event.Event.{Event as TheEvent};
+ghost use Rattle.plane_types.specs.declared.verdict.Verdict.{Verdict as TheVerdict};
+ghost use Rattle.plane_laws.specs.Bounds.{HasEightBits};
+ghost use Rattle.agent_node.specs.Node.{Node, started};
+ghost use Rattle.api_check.specs.Carrying.{carries};
+ghost use Rattle.api_steps.specs.Holdable.{AreHoldable};
 ghost use Rattle.api_steps.specs.InForm.{IsInForm};
 ghost use Rattle.api_steps.specs.Step.{api_step};
 ghost use Rattle.keeper_core.specs.Counts.{RoseBy, Tells};
-ghost use Rattle.lab_world.specs.World.{Handles, IsAskInForm, IsHandled, ask_outcome};
+ghost use Rattle.lab_world.specs.Lab.{Answered, IsBarred, lab_outcome};
+ghost use Rattle.lab_world.specs.World.{Handles, HoldsRows, IsAskInForm, IsHandled, ByLab, ByMachine, ask_outcome, fresh_world, moved};
 
+use crate::lab::{bar_event, bar_tenant, tables_of};
 use api_machine::{Machine, Planned};
 use api_types::{Answer, Call, Caller, Change, Refusal, Rows};
+use fabric_run::send;
+use host_fleet::Hosts;
 use keeper_core::{Keeper, KeeperRefusal};
-use net_addr::OutOfMemory;
-use plane_types::{Ask, Reply};
+use net_addr::{Copies, OutOfMemory, Text};
+use net_meaning::explain;
+use net_settings::default_settings;
+use plane_types::{Ask, Event, Frame, LabAnswer, LabCall, Reply};
 use std::alloc::Global;
 use std::marker::Model;
 
-/// The machine of a server.
+/// The machine of a server, and the hosts that carry its frames.
+///
+/// Each host holds the machine's rows, always: its tables are those that the rows give to it.
 #[derive(Drop)]
 pub struct World {
     machine: Machine,
+    hosts: Hosts,
 }
 
 impl Model for World {
-    ghost use Rattle.api_steps.specs.State.{State};
+    ghost use Rattle.std.specs.Prelude.{map};
+    ghost use Rattle.agent_node.specs.Node.{host_of};
+    ghost use Rattle.lab_world.specs.Hosts.{AreHosts};
+    ghost use Rattle.lab_world.specs.Lab.{WorldState};
 
-    ghost Value = { State };
+    ghost Value = { WorldState };
 
-    ghost view = { λ w. w.machine };
+    ghost view = { λ w. record { state = w.machine; hosts = map host_of w.hosts } };
+
+    ghost invariant = { λ w. AreHosts w.machine w.hosts };
 }
 
 impl World {
-    /// A world without rows, at version 0.
+    /// A world without rows, at version 0, with the hosts of the default settings.
     pub fn fresh(alloc: Global) -> Result<World, OutOfMemory>
-        ensures { IfOk result (λ w. w ≡ record { rows = no_rows; version = 0 }) }
+        ensures { IfOk result (λ w. w ≡ fresh_world) }
     {
-        Ok(World {
-            machine: Machine::fresh(alloc)?,
-        })
+        let machine = Machine::fresh(alloc)?;
+        let hosts = first_hosts(alloc, machine.rows())?;
+        Ok(World { machine, hosts })
     }
 
     /// The rows of now.
     pub fn rows(&self) -> &Rows
-        ensures rows { result.now ≡ self.now.rows }
-        ensures consistent { IsConsistent self.now.rows }
+        ensures rows { result.now ≡ self.now.state.rows }
+        ensures consistent { IsConsistent self.now.state.rows }
+        ensures held { HoldsRows self.now }
     {
         self.machine.rows()
     }
 
     /// How many changes were accepted.
     pub fn version(&self) -> u64
-        ensures { result ≡ self.now.version }
+        ensures { result ≡ self.now.state.version }
     {
         self.machine.version()
     }
 
-    /// Answers what a caller asks. An accepted change is in the rows and in the kept rows, and the
-    /// version has risen by one. After a refusal all is as it was: one for want of memory, which is
-    /// free, one because the store failed, where the keeper counted a fault, or that of the ask. The
-    /// cost grows with the rows.
+    /// Answers what a caller asks. An accepted change is in the rows and in the kept rows, each host
+    /// wires the rows after it, and the version has risen by one. Frames go by the tables that the
+    /// hosts hold, come to what the rows say, and cross between networks at routers alone; the entries
+    /// that they make are kept at the hosts that made them. After a refusal all is as it was: one for want of memory, which is free, one
+    /// because the store failed, where the keeper counted a fault, or that of the ask. The cost grows
+    /// with the rows, for an accepted change with that of wiring each host too, and for a frame with
+    /// the entries of the hosts.
     pub fn handle<K: Keeper>(
         &mut self,
         alloc: Global,
@@ -66,20 +97,92 @@ impl World {
         caller: &Caller,
         ask: &Ask,
     ) -> Reply
-        requires kept { Tells (K.kept keeper.old) self.old.rows }
+        requires kept { Tells (K.kept keeper.old) self.old.state.rows }
         requires in_form { IsAskInForm ask.now }
         ensures handled { Handles (ask_outcome self.old caller.now ask.now) self.old self.new result }
+        ensures frames { (event : TheEvent) (verdict : TheVerdict) → ask.now ≡ LabAsk (Frames event) → result ≡ Reply.LabDone (Seen verdict) → without_hosts verdict ≡ rows_verdict self.old.state.rows (all_entries self.old.hosts) event }
+        ensures crosses { (event : TheEvent) (verdict : TheVerdict) → ask.now ≡ LabAsk (Frames event) → result ≡ Reply.LabDone (Seen verdict) → CrossesAtRouters self.old.state.rows verdict }
         ensures store_fault { result ≡ Reply.Refused Refusal.StoreFault → RoseBy 1 (K.faults keeper.old) (K.faults keeper.new) }
         ensures later { K.faults keeper.old ≤ K.faults keeper.new }
-        ensures kept { Tells (K.kept keeper.new) self.new.rows }
+        ensures kept { Tells (K.kept keeper.new) self.new.state.rows }
     {
+        let _held = self.rows();
         match ask {
             Ask::Api(call) => match self.answer(alloc, keeper, caller, call) {
                 Ok(answer) => Reply::Done(answer),
                 Err(refusal) => Reply::Refused(refusal),
             },
-            Ask::Lab(_) => Reply::Refused(Refusal::NotBuilt),
+            Ask::Lab(call) => match self.answer_lab(alloc, caller, call) {
+                Ok(answer) => Reply::LabDone(answer),
+                Err(refusal) => Reply::Refused(refusal),
+            },
         }
+    }
+
+    // The answer of a call of the lab. Frames leave entries at hosts.
+    fn answer_lab(
+        &mut self,
+        alloc: Global,
+        caller: &Caller,
+        call: &LabCall,
+    ) -> Result<LabAnswer, Refusal>
+        ensures ok { IfOk result (λ answer. IsHandled (ByLab (lab_outcome self.old caller.now call.now)) self.old self.new (Reply.LabDone answer)) }
+        ensures err { IfErr result (λ refusal. (self.new ≡ self.old) × IsBarred (lab_outcome self.old caller.now call.now) refusal) }
+    {
+        match call {
+            LabCall::Frames(event) => self.carry(alloc, caller, event),
+            LabCall::Explain(event) => self.explained(alloc, caller, event),
+            LabCall::Hosts => self.hosts_told(alloc, caller),
+            LabCall::Tables(name) => self.tables_told(alloc, caller, name),
+            LabCall::Deliver { .. }
+            | LabCall::Resync(_)
+            | LabCall::Restart(_)
+            | LabCall::Forget(_)
+            | LabCall::Settle => Err(Refusal::NotBuilt),
+        }
+    }
+
+    // Sends an event through the tables of the hosts, and keeps the entries that it makes at the
+    // hosts that made them.
+    fn carry(&mut self, alloc: Global, caller: &Caller, event: &Event) -> Result<LabAnswer, Refusal>
+        ensures ok { IfOk result (λ answer. IsHandled (ByLab (lab_outcome self.old caller.now (LabCall.Frames event.now))) self.old self.new (Reply.LabDone answer)) }
+        ensures err { IfErr result (λ refusal. (self.new ≡ self.old) × IsBarred (lab_outcome self.old caller.now (LabCall.Frames event.now)) refusal) }
+    {
+        bar_event(alloc, self.machine.rows(), caller, event)?;
+        let _ = lifetime(event);
+        self.hosts.reserve(alloc)?;
+        let verdict = send(alloc, &self.hosts, event)?;
+        self.hosts.keep(verdict.fresh.as_slice());
+        Ok(LabAnswer::Seen(verdict))
+    }
+
+    // What the rows make of an event.
+    fn explained(&self, alloc: Global, caller: &Caller, event: &Event) -> Result<LabAnswer, Refusal>
+        ensures ok { IfOk result (λ answer. lab_outcome self.now caller.now (LabCall.Explain event.now) ≡ Answered answer self.now.hosts) }
+        ensures err { IfErr result (IsBarred (lab_outcome self.now caller.now (LabCall.Explain event.now))) }
+    {
+        bar_event(alloc, self.machine.rows(), caller, event)?;
+        let entries = self.hosts.all_entries(alloc)?;
+        let verdict = explain(alloc, self.machine.rows(), &entries, event)?;
+        Ok(LabAnswer::Seen(verdict))
+    }
+
+    // The hosts, and the version that they hold.
+    fn hosts_told(&self, alloc: Global, caller: &Caller) -> Result<LabAnswer, Refusal>
+        ensures ok { IfOk result (λ answer. lab_outcome self.now caller.now LabCall.Hosts ≡ Answered answer self.now.hosts) }
+        ensures err { IfErr result (IsBarred (lab_outcome self.now caller.now LabCall.Hosts)) }
+    {
+        bar_tenant(caller)?;
+        Ok(LabAnswer::Hosts(self.hosts.states(alloc)?))
+    }
+
+    // The tables of a host.
+    fn tables_told(&self, alloc: Global, caller: &Caller, name: &Text) -> Result<LabAnswer, Refusal>
+        ensures ok { IfOk result (λ answer. lab_outcome self.now caller.now (LabCall.Tables name.now) ≡ Answered answer self.now.hosts) }
+        ensures err { IfErr result (IsBarred (lab_outcome self.now caller.now (LabCall.Tables name.now))) }
+    {
+        bar_tenant(caller)?;
+        tables_of(alloc, &self.hosts, name)
     }
 
     // The answer of a call, which changes what it plans.
@@ -90,14 +193,15 @@ impl World {
         caller: &Caller,
         call: &Call,
     ) -> Result<Answer, Refusal>
-        requires kept { Tells (K.kept keeper.old) self.old.rows }
+        requires kept { Tells (K.kept keeper.old) self.old.state.rows }
         requires in_form { IsInForm call.now }
-        ensures ok { IfOk result (λ answer. IsHandled (api_step default_parts self.old caller.now call.now) self.old self.new (Reply.Done answer)) }
-        ensures err { IfErr result (λ refusal. (self.new ≡ self.old) × ((refusal ≡ Refusal.OutOfMemory) ⊎ ((refusal ≡ Refusal.StoreFault) ⊎ (api_step default_parts self.old caller.now call.now ≡ RefusedWith refusal)))) }
+        ensures ok { IfOk result (λ answer. IsHandled (ByMachine (api_step default_parts self.old.state caller.now call.now)) self.old self.new (Reply.Done answer)) }
+        ensures err { IfErr result (λ refusal. (self.new ≡ self.old) × ((refusal ≡ Refusal.OutOfMemory) ⊎ ((refusal ≡ Refusal.StoreFault) ⊎ (api_step default_parts self.old.state caller.now call.now ≡ RefusedWith refusal)))) }
         ensures store_fault { IfErr result (λ refusal. refusal ≡ Refusal.StoreFault → RoseBy 1 (K.faults keeper.old) (K.faults keeper.new)) }
         ensures later { K.faults keeper.old ≤ K.faults keeper.new }
-        ensures kept { Tells (K.kept keeper.new) self.new.rows }
+        ensures kept { Tells (K.kept keeper.new) self.new.state.rows }
     {
+        let _held = self.rows();
         let Planned { change, answer } = self.machine.plan(alloc, caller, call)?;
         if let Some(change) = &change {
             self.keep(alloc, keeper, change)?;
@@ -112,24 +216,60 @@ impl World {
         keeper: &mut K,
         change: &Change,
     ) -> Result<(), Refusal>
-        requires kept { Tells (K.kept keeper.old) self.old.rows }
-        requires fits { Fits self.old.rows change.now }
-        requires consistent { IsConsistent (after self.old.rows change.now) }
-        requires room { self.old.version < 2 ^ 64 - 1 }
-        ensures ok { OnOk result (self.new ≡ record { rows = after self.old.rows change.now; version = self.old.version + 1 }) }
+        requires kept { Tells (K.kept keeper.old) self.old.state.rows }
+        requires fits { Fits self.old.state.rows change.now }
+        requires consistent { IsConsistent (after self.old.state.rows change.now) }
+        requires holdable { AreHoldable (carries default_hosts) (after self.old.state.rows change.now) }
+        requires room { self.old.state.version < 2 ^ 64 - 1 }
+        ensures ok { OnOk result (self.new ≡ moved self.old (after self.old.state.rows change.now)) }
         ensures err { OnErr result (self.new ≡ self.old) }
         ensures cause { IfErr result (λ refusal. (refusal ≡ Refusal.OutOfMemory) ⊎ ((refusal ≡ Refusal.StoreFault) × RoseBy 1 (K.faults keeper.old) (K.faults keeper.new))) }
         ensures later { K.faults keeper.old ≤ K.faults keeper.new }
-        ensures kept { Tells (K.kept keeper.new) self.new.rows }
+        ensures kept { Tells (K.kept keeper.new) self.new.state.rows }
     {
         let ready = self.machine.prepare(alloc, change)?;
+        let version = self.machine.version() + 1;
+        let nodes = self.hosts.prepare(alloc, version, ready.rows())?;
         match keeper.apply(alloc, change) {
             Ok(()) => {
                 self.machine.accept(ready);
+                self.hosts.put(nodes);
                 Ok(())
             }
             Err(KeeperRefusal::Failed) => Err(Refusal::StoreFault),
             Err(KeeperRefusal::OutOfMemory) => Err(Refusal::OutOfMemory),
         }
+    }
+}
+
+// The hosts of the default settings, which are given their first rows.
+fn first_hosts(alloc: Global, rows: &Rows) -> Result<Hosts, OutOfMemory>
+    requires { IsConsistent rows.now }
+    ensures { IfOk result (λ h. map (λ (n : Node). record n { spare = 0 }) h ≡ map (λ d. started d.name 0 rows.now 0) default_hosts) }
+{
+    let settings = default_settings(alloc)?;
+    let mut hosts = Hosts::new(alloc);
+    for host in settings.hosts() {
+        hosts.add(alloc, host.name.copy(alloc)?, rows, 0)?;
+    }
+    Ok(hosts)
+}
+
+// Through how many routers the packet of an event may go, and one.
+fn lifetime(event: &Event) -> u16
+    ensures { HasEightBits event.now }
+{
+    match event {
+        Event::FromPort { frame, .. } | Event::FromWire { frame, .. } => lifetime_of(frame),
+    }
+}
+
+fn lifetime_of(frame: &Frame) -> u16
+    ensures value { result ≡ life_of frame.now }
+    ensures bound { life_of frame.now ≤ 256 }
+{
+    match *frame {
+        Frame::Ip4 { ttl, .. } => u16::from(ttl) + 1,
+        Frame::ArpAsk { .. } | Frame::Dhcp { .. } | Frame::Other { .. } => 0,
     }
 }

@@ -1,13 +1,16 @@
 -- The reply to a request (OpenStack API reference, Networking API v2.0: normal response codes and faults; RFC 9110, section 15).
 use Rattle.std.specs.Prelude.{ℕ, Bool, List, Option, Some, None}
-use Rattle.api_types.specs.Outcome.{Outcome, Refused, Told, Moved}
+use Rattle.api_types.specs.Outcome.{Refused, Told, Moved}
 use Rattle.api_types.specs.Printed.{Reply, OneRow, ManyRows, NewRow, NoRow, InterfaceRow, reply_of}
 use Rattle.api_types.specs.declared.refusal.Refusal.{Refusal}
 use Rattle.api_types.specs.declared.refusal.Refusal.TheVariants.{NoMethod}
-use Rattle.json_replies.specs.Bodies.{answer_tree, body_of, fault_tree}
+use Rattle.json_replies.specs.Bodies.{answer_tree, body_of, fault_tree, lab_tree}
 use Rattle.json_replies.specs.Printed.{body_text}
+use Rattle.lab_world.specs.Lab.{Answered, Barred}
+use Rattle.lab_world.specs.World.{AskOutcome, ByLab, ByMachine}
 use Rattle.neutron_http.specs.Faults.{code_of}
 use Rattle.neutron_http.specs.Replies.{reply_bytes}
+use Rattle.plane_types.specs.declared.ask.LabAnswer.{LabAnswer}
 use Rattle.plane_types.specs.declared.ask.Reply as told
 use Rattle.plane_types.specs.declared.ask.Reply.TheVariants.{Done, LabDone, Refused as RefusedBy}
 
@@ -30,11 +33,16 @@ answer_bytes close reply = reply_bytes (answer_code reply) close None (body_text
 abbrev pub refusal_bytes : Bool → Refusal → List ℕ
 refusal_bytes close refusal = reply_bytes (code_of refusal) close (allowed_by refusal) (body_text (Some (fault_tree refusal)))
 
+abbrev pub lab_bytes : Bool → LabAnswer → List ℕ
+lab_bytes close answer = reply_bytes 200 close None (body_text (Some (lab_tree answer)))
+
 -- the bytes of the reply
-abbrev pub outcome_bytes : Bool → Outcome → List ℕ
-outcome_bytes close (Refused refusal) = refusal_bytes close refusal
-outcome_bytes close (Told reply) = answer_bytes close reply
-outcome_bytes close (Moved rows reply) = answer_bytes close reply
+abbrev pub outcome_bytes : Bool → AskOutcome → List ℕ
+outcome_bytes close (ByMachine (Refused refusal)) = refusal_bytes close refusal
+outcome_bytes close (ByMachine (Told reply)) = answer_bytes close reply
+outcome_bytes close (ByMachine (Moved rows reply)) = answer_bytes close reply
+outcome_bytes close (ByLab (Barred refusal)) = refusal_bytes close refusal
+outcome_bytes close (ByLab (Answered answer hosts)) = lab_bytes close answer
 
 -- ---- replies as values
 

@@ -1,11 +1,11 @@
 -- What the program does by its words.
 use Rattle.std.specs.Prelude.{ℕ, ◌^◌, ◌≤◌, List, [], ◌∷◌, Bool, false, Option, codes}
 use Rattle.std.specs.Str.{bytes_eq}
-use Rattle.api_types.specs.Rows.{no_rows}
-use Rattle.api_steps.specs.State.{State}
 use Rattle.http_session.specs.Serves.{Serves, moment}
 use Rattle.http_session.specs.declared.session_end.SessionEnd.{SessionEnd}
 use Rattle.http_session.specs.declared.session_end.SessionEnd.TheVariants.{Done, ReadFault, WriteFault, Budget, OutOfMemory}
+use Rattle.lab_world.specs.Lab.{WorldState}
+use Rattle.lab_world.specs.World.{fresh_world}
 use Rattle.neutron_serve.specs.Steps.{Steps, fixed_replies}
 
 -- the words are the one word `session`
@@ -22,10 +22,6 @@ status_of WriteFault = 3
 status_of OutOfMemory = 4
 status_of Budget = 8
 
--- no rows, at version 0
-abbrev pub fresh_state : State
-fresh_state = record { rows = no_rows; version = 0 }
-
 -- what an input and an output tell before and after
 pub record Ends : Type 0 where
   pub left : Option (List ℕ)
@@ -34,6 +30,6 @@ pub record Ends : Type 0 where
 
 -- a session from no rows on, over a store that never fails, of at most 2^40 bytes
 abbrev pub RunsSession : Ends → Ends → SessionEnd → Type 0
-RunsSession old new end = (state : State) × (buffer : List ℕ) × (taken : ℕ) × (taken ≤ 2 ^ 40) × Serves Steps fixed_replies (2 ^ 40)
-    (moment fresh_state [] old.left old.written old.flushed 0 0)
-    (moment state buffer new.left new.written new.flushed 0 taken) end
+RunsSession old new end = (world : WorldState) × (buffer : List ℕ) × (taken : ℕ) × (taken ≤ 2 ^ 40) × Serves Steps fixed_replies (2 ^ 40)
+    (moment fresh_world [] old.left old.written old.flushed 0 0)
+    (moment world buffer new.left new.written new.flushed 0 taken) end

@@ -1,27 +1,27 @@
 -- What a request makes of the server, and its reply.
 use Rattle.std.specs.Prelude.{◌≡◌, ℕ, ◌==◌, List, true, if◌then◌else◌, Result, Ok, Err, None}
-use Rattle.api_types.specs.Outcome.{Outcome, Refused}
+use Rattle.api_types.specs.Outcome.{Refused}
 use Rattle.api_types.specs.declared.call.Caller.{Caller}
 use Rattle.api_types.specs.declared.refusal.Refusal.{Refusal}
 use Rattle.api_types.specs.declared.refusal.Refusal.TheVariants.{Malformed, HeadLarge, BodyLarge, NoLength, StoreFault}
-use Rattle.api_steps.specs.State.{State}
 use Rattle.http_heads.specs.Fields.{closes}
 use Rattle.http_heads.specs.Heads.{Asked}
 use Rattle.http_session.specs.Told.{Fixed}
-use Rattle.lab_world.specs.World.{ask_outcome, state_after}
+use Rattle.lab_world.specs.Lab.{WorldState}
+use Rattle.lab_world.specs.World.{AskOutcome, ByMachine, ask_outcome, world_after}
 use Rattle.neutron_http.specs.Replies.{reply_bytes, no_memory_body}
 use Rattle.neutron_serve.specs.Replies.{outcome_bytes, refusal_bytes}
 use Rattle.neutron_serve.specs.Requests.{request_of}
 use Rattle.plane_types.specs.declared.ask.Ask.{Ask}
 
 -- what a request comes to: the outcome of its ask, or its refusal
-abbrev pub request_outcome : State → Result (Caller × Ask) Refusal → Outcome
-request_outcome state (Ok request) = ask_outcome state request.0 request.1
-request_outcome state (Err refusal) = Refused refusal
+abbrev pub request_outcome : WorldState → Result (Caller × Ask) Refusal → AskOutcome
+request_outcome world (Ok request) = ask_outcome world request.0 request.1
+request_outcome world (Err refusal) = ByMachine (Refused refusal)
 
--- one request: the state after its outcome, and its outcome's reply
-pub record Steps (old : State) (asked : Asked) (reply : List ℕ) (new : State) : Type 0 where
-  pub moves : new ≡ state_after old (request_outcome old (request_of asked))
+-- one request: the world after its outcome, and its outcome's reply
+pub record Steps (old : WorldState) (asked : Asked) (reply : List ℕ) (new : WorldState) : Type 0 where
+  pub moves : new ≡ world_after old (request_outcome old (request_of asked))
   pub replies : reply ≡ outcome_bytes (closes asked.head) (request_outcome old (request_of asked))
 
 -- the refusals of bytes by their numbers

@@ -1,11 +1,11 @@
 //! The Networking API as what a session is answered with.
-ghost use Rattle.std.specs.Prelude.{◌≡◌, ◌≤◌, if◌then◌else◌};
+ghost use Rattle.std.specs.Prelude.{◌≡◌, ◌≤◌, ◌==◌, ◌&&◌, if◌then◌else◌, not};
 ghost use Rattle.http_heads.specs.Heads.{Asked};
 ghost use Rattle.http_session.specs.Requests.{IsRequest, BeginsWith};
 ghost use Rattle.keeper_core.specs.Counts.{RoseBy, Tells};
 ghost use Rattle.lab_world.specs.World.{Handles};
 ghost use Rattle.neutron_serve.specs.Replies.{refusal_bytes};
-ghost use Rattle.neutron_serve.specs.Causes.{cause_in};
+ghost use Rattle.neutron_serve.specs.Causes.{cause_in, tells_entries};
 ghost use Rattle.neutron_serve.specs.Requests.{request_of};
 ghost use Rattle.neutron_serve.specs.Steps.{byte_refusal, request_outcome};
 
@@ -17,7 +17,7 @@ use keeper_core::Keeper;
 use lab_world::World;
 use net_addr::{Bytes, OutOfMemory};
 use neutron_http::no_memory_reply;
-use plane_types::Reply;
+use plane_types::{LabAnswer, Reply};
 use std::alloc::Global;
 
 // What a request that the bytes begin with is answered.
@@ -28,12 +28,12 @@ fn reply_to<K: Keeper>(
     bytes: &[u8],
     request: &Request,
 ) -> Reply
-    requires kept { Tells (K.kept keeper.old) world.old.rows }
+    requires kept { Tells (K.kept keeper.old) world.old.state.rows }
     requires begins { BeginsWith bytes.now request.now }
     ensures handled { (asked : Asked) → IsRequest bytes.now request.now asked → Handles (request_outcome world.old (request_of asked)) world.old world.new result }
     ensures store_fault { result ≡ Reply.Refused Refusal.StoreFault → RoseBy 1 (K.faults keeper.old) (K.faults keeper.new) }
     ensures later { K.faults keeper.old ≤ K.faults keeper.new }
-    ensures kept { Tells (K.kept keeper.new) world.new.rows }
+    ensures kept { Tells (K.kept keeper.new) world.new.state.rows }
 {
     match read_request(alloc, bytes, request) {
         Ok((caller, ask)) => world.handle(alloc, keeper, &caller, &ask),
@@ -59,6 +59,23 @@ fn cause_of(reply: &Reply) -> Cause
         Reply::Refused(Refusal::StoreFault) => Cause::StoreFault,
         _ => Cause::Step,
     }
+}
+
+// Whether hosts may have kept entries: the reply tells of some.
+fn keeps_entries(reply: &Reply) -> bool
+    ensures { result ≡ tells_entries reply.now }
+{
+    match reply {
+        Reply::LabDone(LabAnswer::Seen(verdict)) => !verdict.fresh.is_empty(),
+        _ => false,
+    }
+}
+
+// Whether the world is at a version still, and the reply tells of no entries.
+fn is_still(world: &World, version: u64, reply: &Reply) -> bool
+    ensures { result ≡ (world.now.state.version == version) && not (tells_entries reply.now) }
+{
+    world.version() == version && !keeps_entries(reply)
 }
 
 // A reply could not be written. Where nothing changed, the request is refused for want of memory.
@@ -96,7 +113,7 @@ impl Handler for Api {
 
     ghost fixed = { fixed_replies };
 
-    ghost rows = { λ state. state.rows };
+    ghost rows = { λ world. world.state.rows };
 
     fn answer<K: Keeper>(
         world: &mut World,
@@ -115,7 +132,7 @@ impl Handler for Api {
             },
             Cause::Step => match write(alloc, request.close, &reply) {
                 Ok(written) => Answer::Reply(written),
-                Err(OutOfMemory) => unwritten(world.version() == before),
+                Err(OutOfMemory) => unwritten(is_still(world, before, &reply)),
             },
         }
     }

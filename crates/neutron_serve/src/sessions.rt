@@ -28,11 +28,11 @@ pub fn session<K: Keeper, I: Source, O: Sink>(
     output: &mut O,
     limit: u64,
 ) -> SessionEnd
-    requires { Tells (K.kept keeper.old) world.old.rows }
+    requires { Tells (K.kept keeper.old) world.old.state.rows }
     ensures serves { (buffer : List ℕ) × (taken : ℕ) × (taken ≤ limit) × Serves Steps fixed_replies limit
         (moment world.old [] (I.left input.old) (O.written output.old) (O.flushed output.old) (K.faults keeper.old) 0)
         (moment world.new buffer (I.left input.new) (O.written output.new) (O.flushed output.new) (K.faults keeper.new) taken) result }
-    ensures kept { Tells (K.kept keeper.new) world.new.rows }
+    ensures kept { Tells (K.kept keeper.new) world.new.state.rows }
     ensures read_fault { result ≡ SessionEnd.ReadFault → RoseBy 1 (I.faults input.old) (I.faults input.new) }
     ensures write_fault { result ≡ SessionEnd.WriteFault → RoseBy 1 (O.faults output.old) (O.faults output.new) }
 {

@@ -5,7 +5,11 @@
 #![tactic(auto)]
 
 #[cfg(test)]
+mod frames;
+#[cfg(test)]
 mod ids;
+#[cfg(test)]
+mod limits;
 #[cfg(test)]
 mod machine;
 #[cfg(test)]

@@ -11,8 +11,8 @@ use neutron_serve::{SessionEnd, run, session};
 use std::alloc::Global;
 use std::test::Fail;
 
-// An input, and what is written to it.
-type Exchange = (&'static [u8], &'static [u8]);
+/// An input, and what is written to it.
+pub(crate) type Exchange = (&'static [u8], &'static [u8]);
 
 const REQUESTS: [Exchange; 7] = [
     // A network is made.
@@ -158,8 +158,12 @@ fn writes(alloc: Global, input: &[u8], piece: usize, wanted: &[u8]) -> Result<bo
     Ok(end == SessionEnd::Done && output.as_slice() == wanted)
 }
 
-// The same in pieces of 1, 7 and all bytes.
-fn writes_in_pieces(alloc: Global, input: &[u8], wanted: &[u8]) -> Result<bool, OutOfMemory> {
+/// The same in pieces of 1, 7 and all bytes.
+pub(crate) fn writes_in_pieces(
+    alloc: Global,
+    input: &[u8],
+    wanted: &[u8],
+) -> Result<bool, OutOfMemory> {
     Ok(
         writes(alloc, input, 1, wanted)?
             && writes(alloc, input, 7, wanted)?

@@ -1,5 +1,8 @@
-use Rattle.std.proofs.Common.{◌∙◌, sym}
-use Rattle.neutron_serve.proofs.Replying.{step_moves, store_failed_moves}
+use Rattle.std.proofs.Common.{◌∙◌, ◌&&◌, ◌==◌, ap, not, subst, sym}
+use Rattle.http_session.specs.Answers.{MovesBy}
+use Rattle.neutron_serve.specs.Causes.{tells_entries}
+use Rattle.neutron_serve.specs.Steps.{Steps, fixed_replies}
+use Rattle.neutron_serve.proofs.Replying.{step_moves, store_failed_moves, unwritten_moves}
 use Rattle.neutron_serve.proofs.api.ApiHandler.answer.Goals as goal
 
 pub returns-in-Ok-clause-moves : goal.returns-in-Ok-clause-moves
@@ -11,3 +14,11 @@ pub returns-in-Ok-write-clause-moves : goal.returns-in-Ok-write-clause-moves
 returns-in-Ok-write-clause-moves g c asked rest takes is =
     step_moves c.args.world.now c.reply_to-reply.new.world asked c.reply_to-reply.result c.args.request.close c.in-Ok-write.written
     (sym c.cause_of.ensures.value ∙ c.in-Step.is) is.close c.in-Ok-write.ensures (c.reply_to-reply.ensures.handled asked is)
+
+pub returns-clause-moves : goal.returns-clause-moves
+returns-clause-moves g c asked rest takes is =
+    let new = c.reply_to-reply.new.world in
+    subst (λ a. MovesBy Steps fixed_replies c.args.world.now asked a new) (sym c.unwritten.ensures)
+    (unwritten_moves c.args.world.now new asked c.reply_to-reply.result c.args.request.close c.is_still.result
+    (c.is_still.ensures ∙ ap (λ v. (new.state.version == v) && not (tells_entries c.reply_to-reply.result)) c.version-before.ensures)
+    (sym c.cause_of.ensures.value ∙ c.in-Step.is) is.close (c.reply_to-reply.ensures.handled asked is))
