@@ -1,0 +1,48 @@
+ghost use Rattle.std.specs.Prelude.{◌≤◌};
+
+use crate::lab::Lab;
+use crate::rows::{port_address, port_id, port_mac};
+use fabric_run::send;
+use net_addr::OutOfMemory;
+use plane_types::{Event, Frame, KeyPart, Outcome};
+use std::alloc::Global;
+
+// How many ports each host has.
+const EACH: u16 = 250;
+
+// The n-th frame: TCP to port 22 of a port of the second host. The first 62,500 go between
+// different pairs of ports.
+fn event_of(n: u16) -> Event {
+    let sender = n % EACH * 2;
+    let getter = (n / EACH + n % EACH) % EACH * 2 + 1;
+    Event::FromPort {
+        port: port_id(sender),
+        frame: Frame::Ip4 {
+            src: port_mac(sender),
+            dst: port_mac(getter),
+            from: port_address(0, sender),
+            to: port_address(0, getter),
+            ttl: 64,
+            part: KeyPart::Tcp {
+                sport: n.saturating_add(1024),
+                dport: 22,
+            },
+        },
+    }
+}
+
+fn is_delivered(alloc: Global, lab: &Lab, event: &Event) -> Result<bool, OutOfMemory> {
+    let verdict = send(alloc, lab, event)?;
+    Ok(matches!(&verdict.outcome, Outcome::Delivered { .. }))
+}
+
+/// How many of so many frames are delivered. The entries that they make aren't kept.
+pub(crate) fn deliver(alloc: Global, lab: &Lab, frames: u16) -> Result<u16, OutOfMemory> {
+    let mut delivered = 0u16;
+    for n in 0..frames {
+        if is_delivered(alloc, lab, &event_of(n))? {
+            delivered = delivered.saturating_add(1);
+        }
+    }
+    Ok(delivered)
+}
