@@ -1,14 +1,13 @@
-ghost use Rattle.std.specs.Prelude.{◌≡◌, ◌++◌, IfOk, OnOk, flat_map, if◌then◌else◌, map};
-ghost use Rattle.std.specs.List.{list_any};
-ghost use Rattle.api_types.specs.Consistent.Groups.{prefix_eq};
+ghost use Rattle.std.specs.Prelude.{◌≡◌, ◌++◌, IfOk, OnOk, flat_map, map};
 ghost use Rattle.api_types.specs.declared.port.Fixed.{Fixed as TheFixed};
 ghost use Rattle.api_types.specs.declared.port.Pair.{Pair as ThePair};
-ghost use Rattle.plane_types.specs.Ascending.{ascending, put_in as with_put_in};
+ghost use Rattle.plane_types.specs.Ascending.{ascending as in_order};
 ghost use Rattle.plane_types.specs.TableRows.{members as members_of, once, prefix_before as comes_before, prefixes_of};
+ghost use Rattle.api_secgroup.specs.Repeats.{begins_with as first_is, without_repeats as apart};
 
 use api_types::{Fixed, Id, Pair, PortRow, Rows};
 use net_addr::{Addr4, OutOfMemory, Prefix4, Prefixes, Seq};
-use plane_rows::{names_group, put_in};
+use plane_rows::{ascending, names_group};
 use std::alloc::Global;
 
 // The prefix with one address.
@@ -21,31 +20,39 @@ fn of_one(address: Addr4) -> Prefix4
     }
 }
 
-fn is_among(sorted: &[Prefix4], prefix: Prefix4) -> bool
-    ensures { result ≡ list_any (prefix_eq prefix) sorted.now }
+// Whether the first of these is the prefix.
+fn begins_with(sorted: &[Prefix4], prefix: Prefix4) -> bool
+    ensures { result ≡ first_is prefix sorted.now }
 {
-    sorted.iter().any(|other| prefix.base == other.base && prefix.len == other.len)
+    match sorted.first() {
+        Some(other) => prefix.base == other.base && prefix.len == other.len,
+        None => false,
+    }
 }
 
-// Adds a prefix in its place, where it isn't there.
-fn add_once(sorted: &mut Vec<Prefix4>, prefix: Prefix4) -> Result<(), OutOfMemory>
-    ensures { OnOk result (sorted.new.items ≡ (if list_any (prefix_eq prefix) sorted.old.items then sorted.old.items else with_put_in comes_before prefix sorted.old.items)) }
+// Of neighbours that are the same, the last.
+#[tactic(auto, unfolding(crate::specs::Repeats::without_repeats))]
+fn without_repeats(alloc: Global, sorted: &[Prefix4]) -> Result<Vec<Prefix4>, OutOfMemory>
+    ensures { IfOk result (λ v. v.items ≡ apart sorted.now) }
 {
-    if is_among(sorted.as_slice(), prefix) {
-        return Ok(());
+    let mut kept = Vec::new(alloc);
+    let mut rest = sorted;
+    while let Some((prefix, others)) = rest.split_first() {
+        if !begins_with(others, *prefix) {
+            kept.push(*prefix)?;
+        }
+        rest = others;
     }
-    put_in(sorted, prefix)
+    Ok(kept)
 }
 
 // In ascending order, each once.
-fn sorted_once(alloc: Global, mut prefixes: Vec<Prefix4>) -> Result<Vec<Prefix4>, OutOfMemory>
-    ensures { IfOk result (λ v. v.items ≡ ascending comes_before (once prefixes.items)) }
+#[tactic(auto, using(crate::proofs::MemberLemmas::each_once))]
+fn sorted_once(alloc: Global, prefixes: Vec<Prefix4>) -> Result<Vec<Prefix4>, OutOfMemory>
+    ensures { IfOk result (λ v. v.items ≡ in_order comes_before (once prefixes.items)) }
 {
-    let mut sorted = Vec::new(alloc);
-    while let Some(prefix) = prefixes.pop() {
-        add_once(&mut sorted, prefix)?;
-    }
-    Ok(sorted)
+    let sorted = ascending(prefixes)?;
+    without_repeats(alloc, sorted.as_slice())
 }
 
 // Adds a prefix for each address of a port.
@@ -92,7 +99,7 @@ fn prefixes_of_all(alloc: Global, ports: &[PortRow], group: Id) -> Result<Vec<Pr
 
 /// The members of a group, in ascending order and each once: the fixed addresses, as prefixes of
 /// length 32, and the prefixes of the allowed pairs of all ports that name it. Its cost grows with
-/// the ports, and with the square of the members.
+/// the ports, and with the members and the logarithm of their number.
 #[tactic(auto, unfolding(plane_types::specs::TableRows::members))]
 pub fn members(alloc: Global, rows: &Rows, group: Id) -> Result<Prefixes, OutOfMemory>
     ensures { IfOk result (λ p. p ≡ members_of rows.now group) }

@@ -1,9 +1,11 @@
-ghost use Rattle.std.specs.Prelude.{◌≡◌, IfOk, option_copied};
+ghost use Rattle.std.specs.Prelude.{◌≡◌, IfOk, map};
 ghost use Rattle.plane_types.specs.TableRows.{lease_row as lease_row_of, lease_row_by as lease_row_from, lease_rows as lease_rows_of};
+ghost use Rattle.dhcp_agent.specs.Serving.{AreServing};
 
+use crate::served::{serving_in, serving_ports};
 use api_types::{PortRow, Rows};
 use net_addr::{OutOfMemory, Seq, Text};
-use plane_rows::{dhcp_port, is_at, is_live, lease_for, tag_of};
+use plane_rows::{is_at, is_live, lease_for, tag_of};
 use plane_types::{LeaseRow, Leases, TagRow, Tags};
 use std::alloc::Global;
 
@@ -35,19 +37,22 @@ fn lease_row_by(
 }
 
 // The row of a port, where it is live and this host serves its network.
+#[tactic(auto, using(crate::proofs::ServingLemmas::serving_is_dhcp_port))]
 fn lease_row(
     alloc: Global,
     rows: &Rows,
+    serving: &[&PortRow],
     host: &Text,
     tags: &[TagRow],
     port: &PortRow,
 ) -> Result<Option<LeaseRow>, OutOfMemory>
+    requires { AreServing rows.now (map (λ p. p.now) serving.now) }
     ensures { IfOk result (λ o. o ≡ lease_row_of rows.now host.now tags.now port.now) }
 {
     if !is_live(rows, port) {
         return Ok(None);
     }
-    match dhcp_port(rows, port.network) {
+    match serving_in(serving, port.network) {
         None => Ok(None),
         Some(dhcp) => lease_row_by(alloc, rows, host, tags, port, dhcp),
     }
@@ -56,8 +61,8 @@ fn lease_row(
 /// What a host answers to DHCP (RFC 2131): a row for each live port on a network whose live DHCP
 /// port is bound to the host, of the network's tag, the port's MAC, and what is leased to it.
 ///
-/// A port without an address in a subnet of the DHCP port has none. The cost grows with the square
-/// of the ports, and with the ports times the tags and the subnets.
+/// A port without an address in a subnet of the DHCP port has none. The cost grows with the ports
+/// times the tags and the live DHCP ports.
 #[tactic(auto, unfolding(plane_types::specs::TableRows::lease_rows))]
 pub fn wire_leases(
     alloc: Global,
@@ -68,9 +73,10 @@ pub fn wire_leases(
     ensures { IfOk result (λ l. l ≡ lease_rows_of rows.now host.now tags.now) }
 {
     let tags = tags.as_slice();
+    let serving = serving_ports(alloc, rows)?;
     let mut leases = Seq::new(alloc);
     for port in rows.ports().rows() {
-        if let Some(row) = lease_row(alloc, rows, host, tags, port)? {
+        if let Some(row) = lease_row(alloc, rows, serving.as_slice(), host, tags, port)? {
             leases.push(row)?;
         }
     }

@@ -7,5 +7,6 @@
 #![tactic(auto)]
 
 mod leases;
+mod served;
 
 pub use leases::wire_leases;

@@ -130,8 +130,8 @@ fn add_dhcp(
 }
 
 /// The entries by which frames of each tag go to ports, here and on other hosts, in ascending order
-/// of tag and key. Its cost grows with the ports times the tags and the routers, and with the square
-/// of the entries.
+/// of tag and key. Its cost grows with the ports times the tags and the routers, and with the entries
+/// and the logarithm of their number.
 #[tactic(auto, unfolding(plane_types::specs::TableRows::bridge_rows))]
 pub(crate) fn bridge_rows(
     alloc: Global,
@@ -144,5 +144,5 @@ pub(crate) fn bridge_rows(
     let mut bridge = Vec::new(alloc);
     add_macs(alloc, &mut bridge, rows, host, tags)?;
     add_dhcp(alloc, &mut bridge, rows, host, tags)?;
-    Ok(Seq::from_vec(ascending(alloc, bridge)?))
+    Ok(Seq::from_vec(ascending(bridge)?))
 }

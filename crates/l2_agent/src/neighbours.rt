@@ -100,7 +100,7 @@ fn add_floatings(
 
 /// The MAC for each address on the networks with a tag, whose holder is joined with the host, in
 /// ascending order of tag and address. Its cost grows with the ports and the floating addresses
-/// times the tags, and with the square of the entries.
+/// times the tags, and with the entries and the logarithm of their number.
 #[tactic(auto, unfolding(plane_types::specs::TableRows::neighbour_rows))]
 pub(crate) fn neighbour_rows(
     alloc: Global,
@@ -113,5 +113,5 @@ pub(crate) fn neighbour_rows(
     let mut neighbours = Vec::new(alloc);
     add_ports(&mut neighbours, rows, host, tags)?;
     add_floatings(&mut neighbours, rows, host, tags)?;
-    Ok(Seq::from_vec(ascending(alloc, neighbours)?))
+    Ok(Seq::from_vec(ascending(neighbours)?))
 }

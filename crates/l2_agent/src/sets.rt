@@ -49,7 +49,7 @@ fn add_set(
 }
 
 /// The members of each group that a filter names. Its cost grows with the groups times the filters,
-/// and with the ports and the square of the members of each group.
+/// and for each of these groups with the ports.
 #[tactic(auto, unfolding(plane_types::specs::TableRows::set_rows))]
 pub(crate) fn set_rows(
     alloc: Global,

@@ -46,7 +46,7 @@ fn fixed_leased(dhcp: &PortRow, port: &PortRow) -> Option<Fixed>
 
 /// What a DHCP port leases to a port: the first address of the port in a subnet in which the DHCP
 /// port holds one, with what that subnet gives (RFC 2131, RFC 2132). Its cost grows with the
-/// subnets, and with the addresses of the two ports.
+/// addresses of the two ports.
 pub fn lease_for(
     alloc: Global,
     rows: &Rows,

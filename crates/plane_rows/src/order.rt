@@ -1,26 +1,34 @@
-ghost use Rattle.std.specs.Prelude.{◌≡◌, ◌≤◌, IfOk, OnOk, insert, length};
-ghost use Rattle.plane_types.specs.Ascending.{ascending as in_order, put_in as with_item};
+ghost use Rattle.std.specs.Prelude.{◌≡◌, IfOk};
+ghost use Rattle.std.specs.Ordering.{is_lt};
+ghost use Rattle.plane_types.specs.Ascending.{ascending as in_order};
 ghost use Rattle.plane_types.specs.Hosts.{key_place as place_of_key};
 
 use net_addr::{OutOfMemory, Prefix4};
 use plane_types::{BridgeKey, BridgeRow, NeighbourRow};
-use std::alloc::Global;
+use std::cmp::Ordering;
 
 /// A value that has its place among others of its type.
 pub trait Ordered: Drop {
     ghost use Rattle.std.specs.Prelude.{Bool};
+    ghost use Rattle.std.specs.Cmp.{IsStrictWeakOrder};
 
     ghost before: { Self → Self → Bool };
 
     /// Whether this one comes before the other.
     fn is_before(&self, other: &Self) -> bool
         ensures { result ≡ before self.now other.now };
+
+    ghost order: { IsStrictWeakOrder before };
 }
 
 impl Ordered for Prefix4 {
+    ghost use Rattle.std.proofs.Common.{arith};
+    ghost use Rattle.std.proofs.lemmas.Bool.Decides.{nat_tests};
     ghost use Rattle.plane_types.specs.TableRows.{prefix_before};
 
     ghost before = { prefix_before };
+
+    ghost order = { record { one_way = λ x y h. Prim.grind (arith, nat_tests); chain = λ x y z h k. Prim.grind (arith, nat_tests) } };
 
     fn is_before(&self, other: &Prefix4) -> bool {
         self.base < other.base || (self.base == other.base && self.len < other.len)
@@ -38,9 +46,13 @@ fn key_place(key: BridgeKey) -> u64
 }
 
 impl Ordered for BridgeRow {
+    ghost use Rattle.std.proofs.Common.{arith};
+    ghost use Rattle.std.proofs.lemmas.Bool.Decides.{nat_tests};
     ghost use Rattle.plane_types.specs.Hosts.{bridge_before};
 
     ghost before = { bridge_before };
+
+    ghost order = { record { one_way = λ x y h. Prim.grind (arith, nat_tests); chain = λ x y z h k. Prim.grind (arith, nat_tests) } };
 
     fn is_before(&self, other: &BridgeRow) -> bool {
         self.tag < other.tag
@@ -49,46 +61,37 @@ impl Ordered for BridgeRow {
 }
 
 impl Ordered for NeighbourRow {
+    ghost use Rattle.std.proofs.Common.{arith};
+    ghost use Rattle.std.proofs.lemmas.Bool.Decides.{nat_tests};
     ghost use Rattle.plane_types.specs.Hosts.{neighbour_before};
 
     ghost before = { neighbour_before };
+
+    ghost order = { record { one_way = λ x y h. Prim.grind (arith, nat_tests); chain = λ x y z h k. Prim.grind (arith, nat_tests) } };
 
     fn is_before(&self, other: &NeighbourRow) -> bool {
         self.tag < other.tag || (self.tag == other.tag && self.address < other.address)
     }
 }
 
-// How many stand before the first one that isn't before the item.
-#[tactic(auto, unfolding(plane_types::specs::Ascending::put_in))]
-fn place_of<T: Ordered>(sorted: &[T], item: &T) -> usize
-    ensures place { result ≤ length sorted.now }
-    ensures put { insert sorted.now result item.now ≡ with_item T.before item.now sorted.now }
+// Which of two comes first.
+fn compare<T: Ordered>(left: &T, right: &T) -> Ordering
+    ensures { is_lt result ≡ T.before left.now right.now }
 {
-    for (place, other) in sorted.iter().enumerate() {
-        if !other.is_before(item) {
-            return place;
-        }
+    if left.is_before(right) {
+        Ordering::Less
+    } else if right.is_before(left) {
+        Ordering::Greater
+    } else {
+        Ordering::Equal
     }
-    sorted.len()
-}
-
-/// Adds an item in front of the first one that isn't before it. Its cost grows with the list.
-pub fn put_in<T: Ordered>(sorted: &mut Vec<T>, item: T) -> Result<(), OutOfMemory>
-    ensures { OnOk result (sorted.new.items ≡ with_item T.before item sorted.old.items) }
-{
-    let place = place_of(sorted.as_slice(), &item);
-    sorted.insert(place, item)?;
-    Ok(())
 }
 
 /// The items in order; of two of which neither comes before the other, the first stays first. Its
-/// cost grows with the square of their number.
-pub fn ascending<T: Ordered>(alloc: Global, mut items: Vec<T>) -> Result<Vec<T>, OutOfMemory>
+/// cost grows with their number and its logarithm.
+pub fn ascending<T: Ordered>(mut items: Vec<T>) -> Result<Vec<T>, OutOfMemory>
     ensures { IfOk result (λ v. v.items ≡ in_order T.before items.items) }
 {
-    let mut sorted = Vec::new(alloc);
-    while let Some(item) = items.pop() {
-        put_in(&mut sorted, item)?;
-    }
-    Ok(sorted)
+    items.sort_by(|left, right| compare(left, right))?;
+    Ok(items)
 }

@@ -1,6 +1,6 @@
 ghost use Rattle.std.specs.Prelude.{◌≡◌, ◌==◌, find, not, option_copied, option_map};
 ghost use Rattle.std.specs.List.{list_any};
-ghost use Rattle.api_types.specs.Owners.{holds_in as held_in, is_interface as interface_of};
+ghost use Rattle.api_types.specs.Owners.{is_interface as interface_of};
 ghost use Rattle.api_types.specs.Table.{ident_eq};
 ghost use Rattle.api_types.specs.declared.port.Fixed.{Fixed as TheFixed};
 ghost use Rattle.api_types.specs.declared.port.PortRow.{PortRow as ThePort};
@@ -10,7 +10,7 @@ ghost use Rattle.plane_types.specs.Routing.{Float};
 
 use crate::holders::{gateway_port, holds};
 use crate::live::is_live;
-use crate::owners::{holds_in, is_interface, is_port_of};
+use crate::owners::{is_interface, is_port_of};
 use api_types::{Fixed, FloatingRow, Id, PortRow, RouterRow, Rows};
 use net_addr::Addr4;
 
@@ -28,20 +28,6 @@ pub fn leg<'r>(rows: &'r Rows, router: &RouterRow, id: Id) -> Option<&'r PortRow
 {
     for port in rows.ports().rows() {
         if is_leg(rows, router, port) && id == port.id {
-            return Some(port);
-        }
-    }
-    None
-}
-
-/// The first live port of the router with an address in the subnet. Its cost grows with the ports
-/// and their addresses.
-#[tactic(auto, unfolding(plane_types::specs::RouterRows::legs_of))]
-pub fn leg_in<'r>(rows: &'r Rows, router: &RouterRow, subnet: Id) -> Option<&'r PortRow>
-    ensures { option_copied result ≡ find (held_in subnet) (legs_of rows.now router.now) }
-{
-    for port in rows.ports().rows() {
-        if is_leg(rows, router, port) && holds_in(subnet, port) {
             return Some(port);
         }
     }

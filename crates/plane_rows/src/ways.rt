@@ -1,6 +1,6 @@
-ghost use Rattle.std.specs.Prelude.{◌≡◌, ◌++◌, IfOk, OnOk, Some, find, flat_map, map, option_copied, option_map, option_to_list};
+ghost use Rattle.std.specs.Prelude.{◌≡◌, ◌++◌, List, IfOk, OnOk, Some, find, flat_map, map, option_copied, option_map, option_to_list};
 ghost use Rattle.std.specs.List.{filter_map};
-ghost use Rattle.api_types.specs.Table.{ident_eq};
+ghost use Rattle.api_types.specs.Owners.{holds_in as held_in};
 ghost use Rattle.api_types.specs.declared.port.Fixed.{Fixed as TheFixed};
 ghost use Rattle.api_types.specs.declared.port.PortRow.{PortRow as ThePort};
 ghost use Rattle.api_types.specs.declared.subnet.SubnetRow.{SubnetRow as TheSubnet};
@@ -12,7 +12,8 @@ ghost use Rattle.plane_rows.specs.Ways.{default_of_port, way_of};
 use crate::holders::gateway_port;
 use crate::live::is_live;
 use crate::order::{Ordered, ascending};
-use crate::routers::{first_fixed, is_leg, leg_in};
+use crate::owners::holds_in;
+use crate::routers::{first_fixed, is_leg};
 use api_types::{Fixed, Hop, Id, PortRow, RouterRow, Rows, SubnetRow};
 use net_addr::{Addr4, OutOfMemory, Prefix4};
 use plane_types::RouteRank;
@@ -29,27 +30,42 @@ pub struct Way {
 }
 
 impl Ordered for Fixed {
+    ghost use Rattle.std.proofs.Common.{arith};
+    ghost use Rattle.std.proofs.lemmas.Bool.Decides.{nat_tests};
     ghost use Rattle.plane_types.specs.RouterRows.{by_address};
 
     ghost before = { by_address };
+
+    ghost order = { record { one_way = λ x y h. Prim.grind (arith, nat_tests); chain = λ x y z h k. Prim.grind (arith, nat_tests) } };
 
     fn is_before(&self, other: &Fixed) -> bool {
         self.address < other.address
     }
 }
 
-// The route that leaves by the first port of the router in a subnet.
+// The first of these ports with an address in the subnet.
+fn leg_in<'r>(legs: &[&'r PortRow], subnet: Id) -> Option<&'r PortRow>
+    ensures { option_copied result ≡ find (held_in subnet) (map (λ p. p.now) legs.now) }
+{
+    for port in legs {
+        if holds_in(subnet, port) {
+            return Some(*port);
+        }
+    }
+    None
+}
+
+// The route that leaves by the first of these ports in a subnet.
 fn way_by(
-    rows: &Rows,
-    router: &RouterRow,
+    legs: &[&PortRow],
     subnet: Id,
     prefix: Prefix4,
     rank: RouteRank,
     next: Option<Addr4>,
 ) -> Option<Way>
-    ensures { option_map way_of result ≡ way_by_port (legs_of rows.now router.now) subnet prefix rank next }
+    ensures { option_map way_of result ≡ way_by_port (map (λ p. p.now) legs.now) subnet prefix rank next }
 {
-    match leg_in(rows, router, subnet) {
+    match leg_in(legs, subnet) {
         Some(port) => Some(Way {
             prefix,
             rank,
@@ -69,54 +85,45 @@ pub fn named_subnet(rows: &Rows, id: Id) -> Option<&SubnetRow>
     subnets.get(id)
 }
 
-fn connected_way(rows: &Rows, router: &RouterRow, fixed: Fixed) -> Option<Way>
-    ensures { option_map way_of result ≡ connected_by (legs_of rows.now router.now) (subnet_named rows.now fixed.subnet) }
+fn connected_way(rows: &Rows, legs: &[&PortRow], fixed: Fixed) -> Option<Way>
+    ensures { option_map way_of result ≡ connected_by (map (λ p. p.now) legs.now) (subnet_named rows.now fixed.subnet) }
 {
     let subnet = named_subnet(rows, fixed.subnet)?;
-    way_by(
-        rows,
-        router,
-        subnet.id,
-        subnet.prefix,
-        RouteRank::Connected,
-        None,
-    )
+    way_by(legs, subnet.id, subnet.prefix, RouteRank::Connected, None)
 }
 
 // Adds the routes to the subnets of a port of the router.
 fn add_connected_of(
     alloc: Global,
     rows: &Rows,
-    router: &RouterRow,
+    legs: &[&PortRow],
     port: &PortRow,
     ways: &mut Vec<Way>,
 ) -> Result<(), OutOfMemory>
-    ensures { OnOk result (map way_of ways.new.items ≡ map way_of ways.old.items ++ filter_map (λ (f : TheFixed). connected_by (legs_of rows.now router.now) (subnet_named rows.now f.subnet)) (in_order by_address port.now.fixed)) }
+    ensures { OnOk result (map way_of ways.new.items ≡ map way_of ways.old.items ++ filter_map (λ (f : TheFixed). connected_by (map (λ p. p.now) legs.now) (subnet_named rows.now f.subnet)) (in_order by_address port.now.fixed)) }
 {
     let held = Vec::from_slice(alloc, port.fixed.as_slice())?;
-    let held = ascending(alloc, held)?;
+    let held = ascending(held)?;
     for fixed in held.as_slice() {
-        if let Some(way) = connected_way(rows, router, *fixed) {
+        if let Some(way) = connected_way(rows, legs, *fixed) {
             ways.push(way)?;
         }
     }
     Ok(())
 }
 
-// Adds the routes to the subnets of all live ports of the router.
-#[tactic(auto, unfolding(plane_types::specs::RouterRows::connected_ways, plane_types::specs::RouterRows::legs_of))]
+// Adds the routes to the subnets of all these ports of the router.
+#[tactic(auto, unfolding(plane_types::specs::RouterRows::connected_ways))]
 fn add_connected(
     alloc: Global,
     rows: &Rows,
-    router: &RouterRow,
+    legs: &[&PortRow],
     ways: &mut Vec<Way>,
 ) -> Result<(), OutOfMemory>
-    ensures { OnOk result (map way_of ways.new.items ≡ map way_of ways.old.items ++ connected_by_rows rows.now (legs_of rows.now router.now)) }
+    ensures { OnOk result (map way_of ways.new.items ≡ map way_of ways.old.items ++ connected_by_rows rows.now (map (λ p. p.now) legs.now)) }
 {
-    for port in rows.ports().rows() {
-        if is_leg(rows, router, port) {
-            add_connected_of(alloc, rows, router, port, ways)?;
-        }
+    for port in legs {
+        add_connected_of(alloc, rows, legs, port, ways)?;
     }
     Ok(())
 }
@@ -140,28 +147,24 @@ fn fixed_of_port(rows: &Rows, port: &PortRow, address: Addr4) -> Option<Fixed>
     None
 }
 
-// The first address of a live port of the router in whose subnet the address lies.
-#[tactic(auto, unfolding(plane_types::specs::RouterRows::legs_of))]
-fn fixed_toward(rows: &Rows, router: &RouterRow, address: Addr4) -> Option<Fixed>
-    ensures { result ≡ find (holds_next_hop rows.now address) (flat_map (λ (p : ThePort). p.fixed) (legs_of rows.now router.now)) }
+// The first address of these ports in whose subnet the address lies.
+fn fixed_toward(rows: &Rows, legs: &[&PortRow], address: Addr4) -> Option<Fixed>
+    ensures { result ≡ find (holds_next_hop rows.now address) (flat_map (λ (p : ThePort). p.fixed) (map (λ p. p.now) legs.now)) }
 {
-    for port in rows.ports().rows() {
-        if is_leg(rows, router, port) {
-            if let Some(fixed) = fixed_of_port(rows, port, address) {
-                return Some(fixed);
-            }
+    for port in legs {
+        if let Some(fixed) = fixed_of_port(rows, port, address) {
+            return Some(fixed);
         }
     }
     None
 }
 
-fn extra_way(rows: &Rows, router: &RouterRow, hop: Hop) -> Option<Way>
-    ensures { option_map way_of result ≡ extra_by_rows rows.now (legs_of rows.now router.now) hop }
+fn extra_way(rows: &Rows, legs: &[&PortRow], hop: Hop) -> Option<Way>
+    ensures { option_map way_of result ≡ extra_by_rows rows.now (map (λ p. p.now) legs.now) hop }
 {
-    let fixed = fixed_toward(rows, router, hop.next)?;
+    let fixed = fixed_toward(rows, legs, hop.next)?;
     way_by(
-        rows,
-        router,
+        legs,
         fixed.subnet,
         hop.destination,
         RouteRank::Extra,
@@ -171,11 +174,16 @@ fn extra_way(rows: &Rows, router: &RouterRow, hop: Hop) -> Option<Way>
 
 // Adds the router's own routes that lead somewhere.
 #[tactic(auto, unfolding(plane_types::specs::RouterRows::extra_ways))]
-fn add_extra(rows: &Rows, router: &RouterRow, ways: &mut Vec<Way>) -> Result<(), OutOfMemory>
-    ensures { OnOk result (map way_of ways.new.items ≡ map way_of ways.old.items ++ extras_by_rows rows.now (legs_of rows.now router.now) router.now.routes) }
+fn add_extra(
+    rows: &Rows,
+    legs: &[&PortRow],
+    routes: &[Hop],
+    ways: &mut Vec<Way>,
+) -> Result<(), OutOfMemory>
+    ensures { OnOk result (map way_of ways.new.items ≡ map way_of ways.old.items ++ extras_by_rows rows.now (map (λ p. p.now) legs.now) routes.now) }
 {
-    for hop in router.routes.as_slice() {
-        if let Some(way) = extra_way(rows, router, *hop) {
+    for hop in routes {
+        if let Some(way) = extra_way(rows, legs, *hop) {
             ways.push(way)?;
         }
     }
@@ -192,13 +200,12 @@ fn everything() -> Prefix4
     }
 }
 
-fn default_in(rows: &Rows, router: &RouterRow, subnet: &SubnetRow) -> Option<Way>
-    ensures { option_to_list (option_map way_of result) ≡ default_by (legs_of rows.now router.now) (Some subnet.now) }
+fn default_in(legs: &[&PortRow], subnet: &SubnetRow) -> Option<Way>
+    ensures { option_to_list (option_map way_of result) ≡ default_by (map (λ p. p.now) legs.now) (Some subnet.now) }
 {
     let gateway = subnet.gateway?;
     way_by(
-        rows,
-        router,
+        legs,
         subnet.id,
         everything(),
         RouteRank::Default,
@@ -207,7 +214,7 @@ fn default_in(rows: &Rows, router: &RouterRow, subnet: &SubnetRow) -> Option<Way
 }
 
 fn live_gateway_port<'r>(rows: &'r Rows, router: &RouterRow) -> Option<&'r PortRow>
-    ensures { default_of_port rows.now (legs_of rows.now router.now) (option_copied result) ≡ default_by_rows rows.now (legs_of rows.now router.now) (gateway_by_rows rows.now router.now) }
+    ensures { (legs : List ThePort) → default_of_port rows.now legs (option_copied result) ≡ default_by_rows rows.now legs (gateway_by_rows rows.now router.now) }
 {
     let port = gateway_port(rows, router)?;
     if is_live(rows, port) {
@@ -218,8 +225,13 @@ fn live_gateway_port<'r>(rows: &'r Rows, router: &RouterRow) -> Option<&'r PortR
 }
 
 // Adds the route by the gateway of the subnet of the gateway port's first address.
-fn add_default(rows: &Rows, router: &RouterRow, ways: &mut Vec<Way>) -> Result<(), OutOfMemory>
-    ensures { OnOk result (map way_of ways.new.items ≡ map way_of ways.old.items ++ default_by_rows rows.now (legs_of rows.now router.now) (gateway_by_rows rows.now router.now)) }
+fn add_default(
+    rows: &Rows,
+    legs: &[&PortRow],
+    router: &RouterRow,
+    ways: &mut Vec<Way>,
+) -> Result<(), OutOfMemory>
+    ensures { OnOk result (map way_of ways.new.items ≡ map way_of ways.old.items ++ default_by_rows rows.now (map (λ p. p.now) legs.now) (gateway_by_rows rows.now router.now)) }
 {
     let Some(port) = live_gateway_port(rows, router) else {
         return Ok(());
@@ -230,22 +242,42 @@ fn add_default(rows: &Rows, router: &RouterRow, ways: &mut Vec<Way>) -> Result<(
     let Some(subnet) = named_subnet(rows, fixed.subnet) else {
         return Ok(());
     };
-    if let Some(way) = default_in(rows, router, subnet) {
+    if let Some(way) = default_in(legs, subnet) {
         ways.push(way)?;
     }
     Ok(())
 }
 
+// The live ports of a router, in order of creation.
+#[tactic(auto, unfolding(plane_types::specs::RouterRows::legs_of))]
+fn legs<'r>(
+    alloc: Global,
+    rows: &'r Rows,
+    router: &RouterRow,
+) -> Result<Vec<&'r PortRow>, OutOfMemory>
+    ensures { IfOk result (λ v. map (λ p. p.now) v.items ≡ legs_of rows.now router.now) }
+{
+    let mut legs = Vec::new(alloc);
+    for port in rows.ports().rows() {
+        if is_leg(rows, router, port) {
+            legs.push(port)?;
+        }
+    }
+    Ok(legs)
+}
+
 /// The routes of a router: to the subnets of its live ports, then its own ones, then the default
-/// one. Its cost grows with the router's addresses and routes times the ports, and with the square
-/// of a port's addresses.
+/// one. Its cost grows with the ports; with the addresses and routes of the router times its ports;
+/// with its routes times its addresses and the subnets; and with the addresses of a port and the
+/// logarithm of their number.
 #[tactic(auto, unfolding(plane_types::specs::RouterRows::ways_of))]
 pub fn ways_of(alloc: Global, rows: &Rows, router: &RouterRow) -> Result<Vec<Way>, OutOfMemory>
     ensures { IfOk result (λ v. map way_of v.items ≡ ways_by_rows rows.now router.now) }
 {
+    let legs = legs(alloc, rows, router)?;
     let mut ways = Vec::new(alloc);
-    add_connected(alloc, rows, router, &mut ways)?;
-    add_extra(rows, router, &mut ways)?;
-    add_default(rows, router, &mut ways)?;
+    add_connected(alloc, rows, legs.as_slice(), &mut ways)?;
+    add_extra(rows, legs.as_slice(), router.routes.as_slice(), &mut ways)?;
+    add_default(rows, legs.as_slice(), router, &mut ways)?;
     Ok(ways)
 }

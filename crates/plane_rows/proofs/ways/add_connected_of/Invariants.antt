@@ -1,12 +1,12 @@
 use Rattle.std.proofs.Common.{◌≡◌, ◌++◌, drop, map}
 use Rattle.std.specs.List.{filter_map}
 use Rattle.api_types.specs.declared.port.Fixed.{Fixed}
-use Rattle.plane_types.specs.RouterRows.{connected_by, legs_of, subnet_named}
+use Rattle.plane_types.specs.RouterRows.{connected_by, subnet_named}
 use Rattle.plane_rows.specs.Ways.{way_of}
 use Rattle.plane_rows.proofs.ways.add_connected_of.Given as goal
 
 -- those so far, and the routes to the subnets that are left, are all
 abbrev pub invariant-loop-fixed : goal.invariant-loop-fixed
 invariant-loop-fixed l =
-    map way_of l.ways.items ++ filter_map (λ (f : Fixed). connected_by (legs_of l.rows l.router) (subnet_named l.rows f.subnet)) (drop l.fixed-index l.fixed-items)
-    ≡ map way_of l.fn.ways.items ++ filter_map (λ (f : Fixed). connected_by (legs_of l.rows l.router) (subnet_named l.rows f.subnet)) l.fixed-items
+    map way_of l.ways.items ++ filter_map (λ (f : Fixed). connected_by (map (λ p. p.now) l.legs) (subnet_named l.rows f.subnet)) (drop l.fixed-index l.fixed-items)
+    ≡ map way_of l.fn.ways.items ++ filter_map (λ (f : Fixed). connected_by (map (λ p. p.now) l.legs) (subnet_named l.rows f.subnet)) l.fixed-items

@@ -1,5 +1,5 @@
 use Rattle.std.proofs.Common.{◌≡◌, ◌++◌, drop, map}
-use Rattle.plane_types.specs.RouterRows.{extra_way, legs_of}
+use Rattle.plane_types.specs.RouterRows.{extra_way}
 use Rattle.std.specs.List.{filter_map}
 use Rattle.plane_rows.specs.Ways.{way_of}
 use Rattle.plane_rows.proofs.ways.add_extra.Given as goal
@@ -7,5 +7,5 @@ use Rattle.plane_rows.proofs.ways.add_extra.Given as goal
 -- those so far, and the routes that are left, are all
 abbrev pub invariant-loop-hop : goal.invariant-loop-hop
 invariant-loop-hop l =
-    map way_of l.ways.items ++ filter_map (extra_way l.rows (legs_of l.rows l.router)) (drop l.hop-index l.hop-items)
-    ≡ map way_of l.fn.ways.items ++ filter_map (extra_way l.rows (legs_of l.rows l.router)) l.router.routes
+    map way_of l.ways.items ++ filter_map (extra_way l.rows (map (λ p. p.now) l.legs)) (drop l.hop-index l.routes)
+    ≡ map way_of l.fn.ways.items ++ filter_map (extra_way l.rows (map (λ p. p.now) l.legs)) l.routes
