@@ -29,7 +29,7 @@ use Rattle.plane_types.specs.Crossing.{CrossesAtRouters}
 use Rattle.plane_types.specs.Hosts.{Host, all_entries, is_named}
 use Rattle.plane_types.specs.Placed.{IsPlaced}
 use Rattle.plane_types.specs.Realises.{Realises}
-use Rattle.plane_types.specs.Told.{fabric_verdict, hosts_after, kept, kept_from, made_at, rows_verdict, without_hosts}
+use Rattle.plane_types.specs.Told.{fabric_verdict, fabric_verdicts, hosts_after, kept, kept_from, made_at, rows_verdict, rows_verdicts, without_hosts}
 use Rattle.plane_types.specs.declared.ask.LabAnswer.TheVariants.{Hosts, Seen, Tables}
 use Rattle.plane_types.specs.declared.ask.LabCall.TheVariants.{Explain, Frames, Hosts as HostsCall}
 use Rattle.plane_types.specs.declared.ask.HostState.{HostState}
@@ -44,6 +44,7 @@ use Rattle.plane_laws.specs.Held.{HoldRows}
 use Rattle.plane_laws.proofs.BoundsTables.{bounded-by_tables}
 use Rattle.plane_laws.proofs.CrossingTop.{by-tables}
 use Rattle.plane_laws.proofs.KeptLaw.{stay-placed}
+use Rattle.plane_laws.proofs.ListLaw.{lists-cross, lists-mean-rows}
 use Rattle.plane_laws.proofs.Theorem.{tables-mean-rows}
 use Rattle.plane_types.specs.declared.table.TagRow.{TagRow}
 use Rattle.l2_agent.specs.Retagged.{AreTags}
@@ -316,6 +317,13 @@ pub frames_cross : (w : WorldState) (caller : Caller) (event : Event) (verdict :
     → CrossesAtRouters w.state.rows verdict
 frames_cross w caller event verdict hosts held h =
     subst (CrossesAtRouters w.state.rows) (verdict_is w event verdict hosts (event_refusal w.state.rows caller event) h) (by-tables (carries default_hosts) w.state.rows w.hosts held event)
+
+-- so it is with events one after the other
+pub events_mean : (w : WorldState) → HoldsRows w → (events : List Event) → map without_hosts (fabric_verdicts w.hosts events) ≡ rows_verdicts w.state.rows (all_entries w.hosts) events
+events_mean w held events = lists-mean-rows (carries default_hosts) w.state.rows w.hosts held events
+
+pub events_cross : (w : WorldState) → HoldsRows w → (events : List Event) → Each (CrossesAtRouters w.state.rows) (fabric_verdicts w.hosts events)
+events_cross w held events = lists-cross (carries default_hosts) w.state.rows w.hosts held events
 
 -- an event makes no more entries than there is room for
 pub fresh_few : (hosts : List Host) (event : Event) → HasEightBits event → length (fabric_verdict hosts event).fresh ≤ 256

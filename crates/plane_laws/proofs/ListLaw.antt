@@ -1,15 +1,16 @@
 -- The law for lists of events, entries kept at the hosts that made them.
-use Rattle.std.proofs.Common.{◌≡◌, ℕ, List, [], ◌∷◌, ◌++◌, map, Bool, true, false, not, Option, Some, None, refl, ap, sym, subst, ◌∙◌}
+use Rattle.std.proofs.Common.{◌≡◌, ℕ, zero, suc, List, [], ◌∷◌, ◌++◌, map, Bool, true, false, not, Option, Some, None, refl, ap, sym, subst, ◌∙◌}
 use Rattle.std.specs.Prelude.{find, option_map, ◌&&◌, ◌||◌, ◌==◌, if◌then◌else◌, is_some}
 use Rattle.std.specs.List.{list_any}
 use Rattle.std.specs.Str.{bytes_eq}
 use Rattle.std.proofs.lemmas.Bool.{and_parts}
 use Rattle.std.proofs.lemmas.List.{append-nil}
 use Rattle.std.proofs.lemmas.List.Folds.{list_any-append}
-use Rattle.row_laws.proofs.ListLemmas.{any-weaker, or_false}
+use Rattle.row_laws.proofs.ListLemmas.{any-weaker, none_some, or_false, some_equal}
 use Rattle.row_laws.proofs.NameLemmas.{ident_same, bytes_same}
 use Rattle.plane_laws.proofs.ListLemmas.{find-passes, find-each, find-some, any-only, find-map, AtMostOne-map, AllOf-more}
 use Rattle.plane_laws.proofs.Counted.{all-of}
+use Rattle.plane_laws.proofs.CrossingTop.{by-tables}
 use Rattle.plane_laws.proofs.FactsHold.{frame-facts}
 use Rattle.plane_laws.proofs.SyncedHold.{synced-facts, entry-stands}
 use Rattle.plane_laws.proofs.EntriesLaw.{no-host, one-host, uses-append}
@@ -19,6 +20,7 @@ use Rattle.plane_laws.proofs.PlacedLaw.{made_by, with_made, AllMade, IsMade, Run
 use Rattle.plane_laws.proofs.KeptLaw.{after-is, stay-synced, AllOf-map}
 use Rattle.api_types.specs.Consistent.Groups.{is_direction}
 use Rattle.api_types.specs.Ident.{Ident}
+use Rattle.api_types.specs.Lists.{Each}
 use Rattle.api_types.specs.Owners.{is_router_port}
 use Rattle.api_types.specs.RowLists.{RowLists}
 use Rattle.api_types.specs.Table.{ident_eq}
@@ -26,6 +28,7 @@ use Rattle.api_types.specs.declared.group.Direction.{Direction}
 use Rattle.api_types.specs.declared.network.Segment.{Segment}
 use Rattle.api_types.specs.declared.port.PortRow.{PortRow}
 use Rattle.api_types.specs.declared.router.RouterRow.{RouterRow}
+use Rattle.plane_types.specs.Crossing.{CrossesAtRouters}
 use Rattle.plane_types.specs.Entries.{has_flow, is_flow}
 use Rattle.plane_types.specs.Fabric.{fabric_fate}
 use Rattle.plane_types.specs.Hosts.{Host, all_entries, is_named}
@@ -36,7 +39,7 @@ use Rattle.plane_types.specs.Placed.{IsPlaced}
 use Rattle.plane_types.specs.Realises.{Realises}
 use Rattle.plane_types.specs.Routing.{Use, uses_at}
 use Rattle.plane_types.specs.TableRows.{hosted, is_at, is_here, is_host_of, is_tap}
-use Rattle.plane_types.specs.Told.{entries_made, fabric_verdicts, hosts_after, hosts_after_all, of_nobody, rows_verdict, rows_verdicts, told_by_rows, without_hosts}
+use Rattle.plane_types.specs.Told.{entries_made, fabric_verdict, fabric_verdicts, hosts_after, hosts_after_all, of_nobody, rows_verdict, rows_verdicts, told_by_rows, without_hosts}
 use Rattle.plane_types.specs.declared.entry.Entry.{Entry}
 use Rattle.plane_types.specs.declared.entry.Entry.TheVariants.{Flow, Snat}
 use Rattle.plane_types.specs.declared.event.Event.{Event}
@@ -259,3 +262,9 @@ pub lists-held : (carry : List ℕ → Segment → Bool) (rows : RowLists) (host
 unfolding hosts_after_all
 lists-held carry rows hosts held [] = held
 lists-held carry rows hosts held (e ∷ events) = lists-held carry rows (hosts_after hosts e) (held-after carry rows hosts held e) events
+
+pub lists-cross : (carry : List ℕ → Segment → Bool) (rows : RowLists) (hosts : List Host) → HoldRows carry rows hosts → (events : List Event) → Each (CrossesAtRouters rows) (fabric_verdicts hosts events)
+unfolding fabric_verdicts
+lists-cross carry rows hosts held [] k v at = none_some v _ at
+lists-cross carry rows hosts held (e ∷ events) zero v at = subst (CrossesAtRouters rows) (some_equal (fabric_verdict hosts e) v at) (by-tables carry rows hosts held e)
+lists-cross carry rows hosts held (e ∷ events) (suc k) v at = lists-cross carry rows (hosts_after hosts e) (held-after carry rows hosts held e) events k v at

@@ -42,10 +42,11 @@ pub fn entries_stay_placed()
 {}
 
 /// A frame crosses between networks only at routers that have live ports on both, and is delivered
-/// to a port of the last network of its path.
+/// to a port of the last network of its path; so does each of frames one after the other.
 pub fn paths_cross_at_routers()
     ensures by_rows { (rows : RowLists) → IsConsistent rows → length rows.projects < 2 ^ 32 → (entries : List Entry) (event : Event) → CrossesAtRouters rows (rows_verdict rows entries event) }
     ensures by_tables { (carries : List ℕ → Segment → Bool) (rows : RowLists) (hosts : List Host) → HoldRows carries rows hosts → (event : Event) → CrossesAtRouters rows (fabric_verdict hosts event) }
+    ensures by_lists { (carries : List ℕ → Segment → Bool) (rows : RowLists) (hosts : List Host) → HoldRows carries rows hosts → (events : List Event) → Each (CrossesAtRouters rows) (fabric_verdicts hosts events) }
 {}
 
 /// The port that holds a floating address is never live, so it needs no case of its own among
