@@ -61,7 +61,12 @@ const HOSTS: [Exchange; 4] = [
     ),
 ];
 
-const BARRED: [Exchange; 6] = [
+const BARRED: [Exchange; 7] = [
+    // A MAC that a port of the network has.
+    (
+        b"POST /v2.0/ports HTTP/1.1\r\nX-Project-Id: adm\r\nX-Roles: admin\r\nContent-Length: 149\r\n\r\n{\"port\":{\"binding:host_id\":\"c1\",\"mac_address\":\"02:00:00:00:00:07\",\"network_id\":\"00000001-0000-8000-8000-000000000006\",\"port_security_enabled\":false}}",
+        b"HTTP/1.1 409 Conflict\r\nContent-Type: application/json\r\nContent-Length: 156\r\n\r\n{\"NeutronError\":{\"detail\":\"\",\"message\":\"MAC address 02:00:00:00:00:07 is in use in network 00000001-0000-8000-8000-000000000006.\",\"type\":\"MacAddressInUse\"}}",
+    ),
     // A port that is not there.
     (
         b"POST /lab/v1/frames HTTP/1.1\r\nX-Project-Id: adm\r\nX-Roles: admin\r\nContent-Length: 215\r\n\r\n{\"event\":{\"frame\":{\"kind\":\"ip4\",\"src\":\"02:00:00:00:00:07\",\"dst\":\"02:00:00:00:00:08\",\"from\":\"10.0.0.7\",\"to\":\"10.0.0.8\",\"ttl\":64,\"proto\":\"udp\",\"sport\":1000,\"dport\":2000},\"port\":\"00000001-0000-8000-8000-000000000020\"}}",
