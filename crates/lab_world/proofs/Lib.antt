@@ -1,2 +1,3 @@
+mod AskApart
 mod HostLaws
 mod OwnRefusals

@@ -16,6 +16,7 @@ use Rattle.plane_types.specs.declared.ask.Reply.{Reply}
 use Rattle.plane_types.specs.declared.ask.Reply.TheVariants.{Done, LabDone, Refused}
 use Rattle.api_check.specs.Carrying.{carries}
 use Rattle.api_steps.specs.InForm.{IsInForm}
+use Rattle.api_steps.specs.Refusing.{told}
 use Rattle.api_steps.specs.Step.{api_step}
 use Rattle.plane_laws.specs.Held.{HoldRows}
 use Rattle.agent_node.specs.Wired.{wired}
@@ -57,6 +58,12 @@ world_after w (ByMachine (Told reply)) = w
 world_after w (ByMachine (Moved rows reply)) = moved w rows
 world_after w (ByLab (Barred refusal)) = w
 world_after w (ByLab (Answered answer hosts)) = record w { hosts = hosts }
+
+-- what the caller is told of an outcome
+abbrev pub told_of : AskOutcome → AskOutcome
+told_of (ByMachine outcome) = ByMachine (told outcome)
+told_of (ByLab (Barred refusal)) = ByLab (Barred refusal)
+told_of (ByLab (Answered answer hosts)) = ByLab (Answered answer [])
 
 -- the reply is the outcome's
 abbrev pub IsTold : AskOutcome → Reply → Type 0

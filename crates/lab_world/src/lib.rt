@@ -5,10 +5,13 @@
 //! gets it, for the machine and for each host, and put in place after it, so that nothing can fail in
 //! between: the kept rows are the world's, and each host's tables are those of these rows, always.
 //! Calls of the lab send frames through the tables, tell what the rows say of them, and show the
-//! tables. Messages to hosts aren't built yet.
+//! tables. Messages to hosts aren't built yet. `tenants_stay_apart` is a law: what a tenant is told
+//! depends on its footing alone.
 #![tactic(auto)]
 
 mod lab;
+mod laws;
 mod world;
 
+pub use laws::tenants_stay_apart;
 pub use world::World;

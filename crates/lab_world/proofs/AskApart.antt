@@ -1,0 +1,91 @@
+-- What a tenant is told of an ask depends on its footing alone.
+use Rattle.std.proofs.Common.{◌≡◌, ◌∙◌, List, [], ◌∷◌, Bool, true, false, true≢false, not, cond, Option, None, Some, is_some, refl, ap, sym}
+use Rattle.std.specs.Prelude.{◌&&◌, ◌||◌, codes}
+use Rattle.std.specs.List.{filter, list_any}
+use Rattle.api_types.specs.Consistent.{IsConsistent}
+use Rattle.api_types.specs.Ident.{Ident, ident_text}
+use Rattle.api_types.specs.Lists.{stands_so}
+use Rattle.api_types.specs.RowLists.{RowLists}
+use Rattle.api_types.specs.Table.{ident_eq}
+use Rattle.api_types.specs.declared.call.Caller.{Caller}
+use Rattle.api_types.specs.declared.kind.Kind.TheVariants.{Port as PortKind}
+use Rattle.api_types.specs.declared.port.PortRow.{PortRow}
+use Rattle.api_types.specs.declared.refusal.PolicyRule.TheVariants.{AdminOnly}
+use Rattle.api_types.specs.declared.refusal.Refusal.{Refusal}
+use Rattle.api_types.specs.declared.refusal.Refusal.TheVariants.{Forbidden, Invalid}
+use Rattle.net_settings.specs.Defaults.{default_parts}
+use Rattle.api_policy.specs.Visibility.{seen_ports, sees_port, sees_row}
+use Rattle.api_steps.specs.Footing.{Footing, footing}
+use Rattle.api_steps.specs.Refusing.{first_refusal, not_found, when}
+use Rattle.api_steps.proofs.StepApart.{step_apart}
+use Rattle.plane_types.specs.Meaning.{network_on}
+use Rattle.plane_types.specs.declared.ask.Ask.{Ask}
+use Rattle.plane_types.specs.declared.ask.Ask.TheVariants.{Api, Lab}
+use Rattle.plane_types.specs.declared.ask.LabCall.{LabCall}
+use Rattle.plane_types.specs.declared.ask.LabCall.TheVariants.{Deliver, Explain, Forget, Frames, Hosts, Resync, Restart, Settle, Tables}
+use Rattle.plane_types.specs.declared.event.Event.{Event}
+use Rattle.plane_types.specs.declared.event.Event.TheVariants.{FromPort, FromWire}
+use Rattle.lab_world.specs.Lab.{LabOutcome, WorldState, event_refusal, lab_outcome, unless_barred}
+use Rattle.lab_world.specs.World.{ByLab, ByMachine, ask_outcome, told_of}
+
+-- what is seen stands among what is seen
+seen_there : (i : Ident) (sees : PortRow → Bool) (ports : List PortRow) → stands_so (λ (p : PortRow). p.id) i sees ports ≡ list_any (λ (p : PortRow). ident_eq i p.id) (filter sees ports)
+seen_there i sees [] = refl
+seen_there i sees (p ∷ ps) = go (ident_eq i p.id) refl (sees p) refl (seen_there i sees ps)
+  where
+    kept : List PortRow
+    kept = filter sees ps
+
+    go : (a : Bool) → ident_eq i p.id ≡ a → (b : Bool) → sees p ≡ b → stands_so (λ (q : PortRow). q.id) i sees ps ≡ list_any (λ (q : PortRow). ident_eq i q.id) kept
+        → a && b || stands_so (λ (q : PortRow). q.id) i sees ps ≡ list_any (λ (q : PortRow). ident_eq i q.id) (cond b (p ∷ kept) kept)
+    go true e true f rest = sym (ap (λ t. t || list_any (λ (q : PortRow). ident_eq i q.id) kept) e)
+    go true e false f rest = rest
+    go false e true f rest = rest ∙ sym (ap (λ t. t || list_any (λ (q : PortRow). ident_eq i q.id) kept) e)
+    go false e false f rest = rest
+
+module _ (caller : Caller) (v w : WorldState) (tenant : caller.admin ≡ false) (same : footing default_parts v.state caller ≡ footing default_parts w.state caller) where
+  port_alike : (i : Ident) → sees_row v.state.rows caller PortKind i ≡ sees_row w.state.rows caller PortKind i
+  port_alike i =
+      seen_there i (sees_port v.state.rows caller) v.state.rows.ports
+      ∙ ap (λ (f : Footing). list_any (λ (p : PortRow). ident_eq i p.id) f.ports) same
+      ∙ sym (seen_there i (sees_port w.state.rows caller) w.state.rows.ports)
+
+  event_alike : (event : Event) → event_refusal v.state.rows caller event ≡ event_refusal w.state.rows caller event
+  event_alike (FromPort port frame) =
+      ap (λ b. first_refusal (when (not b) (not_found PortKind (ident_text port)) ∷ when (not caller.admin) (Forbidden AdminOnly) ∷ [])) (port_alike port)
+  event_alike (FromWire physical tag frame) =
+      ap (λ b. first_refusal (when (not b) (Forbidden AdminOnly) ∷ when (not (is_some (network_on v.state.rows (record { physical = physical; tag = tag })))) (Invalid (codes "physical_network")) ∷ [])) tenant
+      ∙ sym (ap (λ b. first_refusal (when (not b) (Forbidden AdminOnly) ∷ when (not (is_some (network_on w.state.rows (record { physical = physical; tag = tag })))) (Invalid (codes "physical_network")) ∷ [])) tenant)
+
+  -- a tenant is refused
+  seen_or_not : (b : Bool) (refusal : Refusal) → is_some (first_refusal (when b refusal ∷ when (not caller.admin) (Forbidden AdminOnly) ∷ [])) ≡ true
+  seen_or_not true refusal = refl
+  seen_or_not false refusal = ap (λ b. is_some (first_refusal (when (not b) (Forbidden AdminOnly) ∷ []))) tenant
+
+  is_barred : (rows : RowLists) (event : Event) → is_some (event_refusal rows caller event) ≡ true
+  is_barred rows (FromPort port frame) = seen_or_not (not (sees_row rows caller PortKind port)) (not_found PortKind (ident_text port))
+  is_barred rows (FromWire physical tag frame) =
+      ap (λ b. is_some (first_refusal (when (not b) (Forbidden AdminOnly) ∷ when (not (is_some (network_on rows (record { physical = physical; tag = tag })))) (Invalid (codes "physical_network")) ∷ []))) tenant
+
+  barred_alike : (o p : Option Refusal) (x y : LabOutcome) → o ≡ p → is_some o ≡ true → unless_barred o x ≡ unless_barred p y
+  barred_alike None p x y e some = absurd (true≢false (sym some))
+  barred_alike (Some r) p x y e some = ap (λ o. unless_barred o y) e
+
+  admin_alike : (x y : LabOutcome) → unless_barred (when (not caller.admin) (Forbidden AdminOnly)) x ≡ unless_barred (when (not caller.admin) (Forbidden AdminOnly)) y
+  admin_alike x y = ap (λ b. unless_barred (when (not b) (Forbidden AdminOnly)) x) tenant ∙ sym (ap (λ b. unless_barred (when (not b) (Forbidden AdminOnly)) y) tenant)
+
+  lab_apart : (call : LabCall) → lab_outcome v caller call ≡ lab_outcome w caller call
+  lab_apart (Frames event) = barred_alike (event_refusal v.state.rows caller event) (event_refusal w.state.rows caller event) _ _ (event_alike event) (is_barred v.state.rows event)
+  lab_apart (Explain event) = barred_alike (event_refusal v.state.rows caller event) (event_refusal w.state.rows caller event) _ _ (event_alike event) (is_barred v.state.rows event)
+  lab_apart Hosts = admin_alike _ _
+  lab_apart (Tables name) = admin_alike _ _
+  lab_apart (Deliver host number) = refl
+  lab_apart (Resync host) = refl
+  lab_apart (Restart host) = refl
+  lab_apart (Forget host) = refl
+  lab_apart Settle = refl
+
+pub ask_apart : (caller : Caller) (v w : WorldState) → caller.admin ≡ false → IsConsistent v.state.rows → IsConsistent w.state.rows → footing default_parts v.state caller ≡ footing default_parts w.state caller
+    → (ask : Ask) → told_of (ask_outcome v caller ask) ≡ told_of (ask_outcome w caller ask)
+ask_apart caller v w tenant c d same (Api call) = ap ByMachine (step_apart default_parts caller v.state w.state tenant c d same call)
+ask_apart caller v w tenant c d same (Lab call) = ap (λ o. told_of (ByLab o)) (lab_apart caller v w tenant same call)
