@@ -1,13 +1,15 @@
-//! Tests of `l2_agent` and `l3_agent`: the tables of hosts for rows made by hand.
+//! Tests of `l2_agent`, `l3_agent` and `dhcp_agent`: the tables of hosts for rows made by hand.
 //!
 //! The rows of the tables were worked out by hand. A crate with tests is proved twice, so they stand
-//! here, above the two crates, and not in them. It promises nothing by itself.
+//! here, above the three crates, and not in them. It promises nothing by itself.
 #![tactic(auto)]
 
 #[cfg(test)]
 mod bridge;
 #[cfg(test)]
 mod filters;
+#[cfg(test)]
+mod leases;
 #[cfg(test)]
 mod lines;
 #[cfg(test)]

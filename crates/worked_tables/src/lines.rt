@@ -1,7 +1,7 @@
-use net_addr::OutOfMemory;
+use net_addr::{Addr4, OutOfMemory};
 use plane_types::{
-    BridgeKey, BridgeRow, BridgeTo, Carrier, FilterRow, InwardRow, NeighbourRow, SetRow, TagRow,
-    TapRow,
+    BridgeKey, BridgeRow, BridgeTo, Carrier, FilterRow, InwardRow, LeaseRow, NeighbourRow, SetRow,
+    TagRow, TapRow,
 };
 use std::alloc::Global;
 
@@ -138,5 +138,22 @@ impl Line for NeighbourRow {
         let address = self.address.0 % 256;
         let mac = self.mac.0 % 256;
         Ok(format!(in alloc; "{tag} {address} {mac}")?)
+    }
+}
+
+impl Line for LeaseRow {
+    fn line(&self, alloc: Global) -> Result<String, OutOfMemory> {
+        let tag = self.tag;
+        let mac = self.mac.0 % 256;
+        let address = self.lease.address.0 % 256;
+        let length = self.lease.length;
+        let gateway = self.lease.gateway.unwrap_or(Addr4(0)).0 % 256;
+        let mut text = format!(in alloc; "{tag} {mac} {address}/{length} {gateway}")?;
+        for server in self.lease.name_servers.as_slice() {
+            let server = server.0 % 256;
+            let server = format!(in alloc; " {server}")?;
+            text.push_str(server.as_str())?;
+        }
+        Ok(text)
     }
 }
