@@ -10,7 +10,7 @@ use Rattle.plane_types.specs.Hosts.{bridge_before, key_place, neighbour_before, 
 use Rattle.plane_types.specs.Realises.{Realises}
 use Rattle.plane_types.specs.TableRows.{bridge_rows, dhcp_row, floating_neighbour, mac_row, neighbour_rows, neighbours_of}
 use Rattle.plane_types.specs.declared.tables.HostTables.{HostTables}
-use Rattle.plane_rows.proofs.SortLemmas.{ascending_sorted}
+use Rattle.api_types.proofs.SortLemmas.{ascending_sorted}
 
 -- pairs of numbers are ordered
 pair_one_way : (a b x y : ℕ) → pair_before a b x y ≡ true → pair_before x y a b ≡ false
@@ -27,8 +27,8 @@ bridge_order = record {
 
 neighbour_order : IsStrictWeakOrder neighbour_before
 neighbour_order = record {
-  one_way = λ r s h. pair_one_way r.tag r.address s.tag s.address h;
-  chain = λ r s t h k. pair_chain r.tag r.address s.tag s.address t.tag t.address h k;
+  one_way = λ r s h. grind (arith, nat_tests);
+  chain = λ r s t h k. grind (arith, nat_tests);
 }
 
 pub are_ordered : (rows : RowLists) (host : List ℕ) (t : HostTables) → Realises rows host t → AreOrdered t

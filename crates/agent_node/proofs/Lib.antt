@@ -1,3 +1,1 @@
 pub mod AscendingLemmas
-pub mod PlacedLemmas
-pub mod TagLemmas

@@ -3,8 +3,8 @@ ghost use Rattle.api_types.specs.Consistent.{IsConsistent};
 ghost use Rattle.host_plane.specs.Ordered.{AreOrdered};
 ghost use Rattle.plane_types.specs.Placed.{IsPlaced};
 ghost use Rattle.plane_types.specs.Realises.{Realises};
-ghost use Rattle.agent_node.specs.Node.{host_of, host_with, resynced, started, with_entries};
-ghost use Rattle.agent_node.specs.Wired.{wired as wired_by_rows};
+ghost use Rattle.plane_types.specs.Node.{host_of, host_with, resynced, started, with_entries};
+ghost use Rattle.plane_types.specs.Wired.{wired as wired_by_rows};
 
 use crate::ready::ReadyNode;
 use api_types::Rows;
@@ -31,7 +31,7 @@ pub struct AgentNode {
 }
 
 impl Model for AgentNode {
-    ghost use Rattle.agent_node.specs.Node.{Node, Stands};
+    ghost use Rattle.plane_types.specs.Node.{Node, Stands};
 
     ghost Value = { Node };
 

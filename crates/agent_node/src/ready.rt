@@ -1,7 +1,7 @@
 ghost use Rattle.std.specs.Prelude.{◌≡◌, IfOk};
 ghost use Rattle.api_types.specs.Consistent.{IsConsistent};
-ghost use Rattle.l2_agent.specs.Retagged.{AreTags};
-ghost use Rattle.agent_node.specs.Wired.{wired as wired_by_rows};
+ghost use Rattle.plane_types.specs.Retagged.{AreTags};
+ghost use Rattle.plane_types.specs.Wired.{wired as wired_by_rows};
 
 use crate::wiring::wired;
 use api_types::Rows;
@@ -22,7 +22,7 @@ pub struct ReadyNode {
 }
 
 impl Model for ReadyNode {
-    ghost use Rattle.agent_node.specs.Node.{IsReady, Ready};
+    ghost use Rattle.plane_types.specs.Node.{IsReady, Ready};
 
     ghost Value = { Ready };
 

@@ -1,8 +1,8 @@
 ghost use Rattle.std.specs.Prelude.{◌≡◌, IfOk};
 ghost use Rattle.api_types.specs.Consistent.{IsConsistent};
-ghost use Rattle.l2_agent.specs.Retagged.{AreTags};
+ghost use Rattle.plane_types.specs.Retagged.{AreTags};
 ghost use Rattle.plane_types.specs.Realises.{Realises};
-ghost use Rattle.agent_node.specs.Wired.{wired as wired_by_rows};
+ghost use Rattle.plane_types.specs.Wired.{wired as wired_by_rows};
 
 use api_types::Rows;
 use dhcp_agent::wire_leases;
@@ -33,7 +33,7 @@ fn joined(l2: L2Tables, l3: L3Tables, leases: Leases) -> HostTables
 
 /// The tables that a host makes of rows, where its tags were these. Its cost is that of `wire_ports`,
 /// `wire_routers` and `wire_leases`.
-#[tactic(auto, unfolding(crate::specs::Wired::wired))]
+#[tactic(auto, unfolding(plane_types::specs::Wired::wired))]
 pub(crate) fn wired(
     alloc: Global,
     rows: &Rows,

@@ -1,8 +1,11 @@
 -- No clause is broken exactly where rows are consistent, clause by clause.
-use Rattle.std.proofs.Common.{◌≡◌, ◌+◌, ◌<◌, ◌≤◌, ◌^◌, ◌∷◌, ◌∙◌, ℕ, [], List, Bool, true, false, cond, Option, Some, None, length, refl, ap, sym, arith, subst, sum_by}
-use Rattle.std.specs.Prelude.{◌==◌, ◌&&◌, ◌||◌, not, nat_lt, nat_le, count_by}
+use Rattle.std.proofs.Common.{◌≡◌, ◌+◌, ◌<◌, ◌≤◌, ◌^◌, ◌∷◌, ◌∙◌, ℕ, zero, suc, slice_get, [], List, Bool, true, false, cond, Option, Some, None, length, refl, ap, sym, arith, subst, sum_by}
+use Rattle.std.specs.Prelude.{◌==◌, ◌&&◌, ◌||◌, not, nat_lt, nat_le, count_by, position, min}
 use Rattle.std.specs.List.{list_any, list_all}
 use Rattle.std.specs.Str.{bytes_eq}
+use Rattle.net_addr.specs.Addresses.{addr_eq}
+use Rattle.net_addr.specs.declared.address.Addr.{Addr}
+use Rattle.net_addr.proofs.AddrLemmas.{addr_same}
 use Rattle.api_types.specs.Ident.{Ident}
 use Rattle.api_types.specs.Table.{ident_eq}
 use Rattle.api_types.specs.RowLists.{RowLists}
@@ -39,21 +42,21 @@ use Rattle.api_types.specs.declared.policy.Action.TheVariants.{Shared, External}
 use Rattle.std.specs.Option.{option_or}
 use Rattle.std.proofs.lemmas.Bool.Decides.{nat_tests}
 use Rattle.std.proofs.lemmas.List.Sums.{sum_by-cons}
-use Rattle.std.specs.Prelude.{position, min}
+use Rattle.std.proofs.lemmas.Option.{slice_get_within}
 use Rattle.api_types.specs.Rows.{project_id}
 use Rattle.api_types.specs.declared.kind.Kind.TheVariants.{Project, Network, Subnet, Port, Group, Rule, Router, Floating, Policy}
 use Rattle.api_types.specs.declared.network.Segment.TheVariants.{Local, Flat, Vlan, Vxlan}
 use Rattle.net_settings.specs.declared.settings.Host.{Host}
 use Rattle.api_check.specs.Broken.{told_at, breaks, first_place, earlier}
-use Rattle.api_check.specs.Carrying.{carries}
-use Rattle.row_tests.specs.RowTests.{project_numbered, is_numbered, subnet_named, port_named, rule_named, gateway_named, router_named, target_named, floating_named, policy_named, subnet_formed, port_formed, is_held_once, port_alone, segment_alone}
-use Rattle.service_tests.specs.ServiceTests.{network_served, dhcp_serves, router_port_serves, port_serves, router_served, floating_served, target_alone, floating_leads, project_grouped, port_grouped, rule_grouped, router_permitted, policy_alone}
+use Rattle.api_ml2.specs.Carrying.{carries}
+use Rattle.api_check_rows.specs.RowTests.{project_numbered, is_numbered, subnet_named, port_named, rule_named, gateway_named, router_named, target_named, floating_named, policy_named, subnet_formed, port_formed, is_held_once, port_alone, segment_alone}
+use Rattle.api_check_services.specs.ServiceTests.{network_served, dhcp_serves, router_port_serves, port_serves, router_served, floating_served, target_alone, floating_leads, project_grouped, port_grouped, rule_grouped, router_permitted, policy_alone}
 use Rattle.api_check.specs.Placing.{port_placed}
 use Rattle.api_check.specs.FirstBroken.{numbers_broken, names_broken, forms_broken, disjoint_broken, too_many, segments_broken, services_broken, groups_broken, outsides_broken, first_broken_of}
 use Rattle.api_check.proofs.Places.{position_first}
-use Rattle.api_check.proofs.FirstBrokenLaw.{at_most, is_at_most, equal_to, is_equal_to, or_both, both_or, no_place_passes, passes_no_place, place_within, told_within, told_none, placed_none, none_placed, breaks-none, pass-breaks, once_by_rows}
-use Rattle.row_laws.proofs.ListLemmas.{some_equal, none_some, false_true, and_both, both_and, none-any, sum-none, count-none, any-at}
-use Rattle.row_laws.proofs.NameLemmas.{ident_same, bytes_same, by_test, all-at, at-all}
+use Rattle.api_check.proofs.FirstBrokenLaw.{at_most, is_at_most, equal_to, is_equal_to, or_both, both_or, no_place_passes, passes_no_place, place_within, there, told_within, told_none, placed_none, none_placed, breaks-none, pass-breaks, once_by_rows}
+use Rattle.api_types.proofs.ListLemmas.{some_equal, none_some, false_true, and_both, both_and, none-any, sum-none, count-none, any-at}
+use Rattle.api_types.proofs.NameLemmas.{ident_same, bytes_same, by_test, all-at, at-all}
 
 module _ (rows : RowLists) where
   below : (a b : ℕ) → nat_lt a b ≡ true → a < b
@@ -77,11 +80,25 @@ module _ (rows : RowLists) where
   numbered_of : {R : Type 0} (id_of : R → Ident) (xs : List R) → ((i : Ident) → times_in rows i ≤ 1) → Pass (λ r. is_drawn rows.projects (id_of r)) xs → Pass (λ r. is_numbered rows (id_of r)) xs
   numbered_of id_of xs once drawn k r at = both_and (nat_le (times_in rows (id_of r)) 1) (is_drawn rows.projects (id_of r)) (is_at_most (times_in rows (id_of r)) 1 (once (id_of r))) (drawn k r at)
 
-  project_parts : (k : ℕ) (p : ProjectRow) → project_numbered rows.projects k p ≡ true → (p.ordinal ≡ k + 1) × (p.count < 2 ^ 62) × (nat_le (count_by (is_named p.name) rows.projects) 1 ≡ true)
+  project_parts : (k : ℕ) (p : ProjectRow) → project_numbered rows.projects k p ≡ true
+      → (p.ordinal ≡ k + 1) × (p.count < 2 ^ 62) × (nat_le (count_by (is_named p.name) rows.projects) 1 ≡ true) × (k + 1 < 2 ^ 32) × (not (is_empty p.name) ≡ true)
   project_parts k p h =
-      let a = and_both (p.ordinal == k + 1) (nat_lt p.count (2 ^ 62) && nat_le (count_by (is_named p.name) rows.projects) 1) h in
-      let b = and_both (nat_lt p.count (2 ^ 62)) (nat_le (count_by (is_named p.name) rows.projects) 1) a.1 in
-      (equal_to p.ordinal (k + 1) a.0, below p.count (2 ^ 62) b.0, b.1)
+      let a = and_both (p.ordinal == k + 1) (nat_lt p.count (2 ^ 62) && (nat_le (count_by (is_named p.name) rows.projects) 1 && (nat_lt (k + 1) (2 ^ 32) && not (is_empty p.name)))) h in
+      let b = and_both (nat_lt p.count (2 ^ 62)) (nat_le (count_by (is_named p.name) rows.projects) 1 && (nat_lt (k + 1) (2 ^ 32) && not (is_empty p.name))) a.1 in
+      let d = and_both (nat_le (count_by (is_named p.name) rows.projects) 1) (nat_lt (k + 1) (2 ^ 32) && not (is_empty p.name)) b.1 in
+      let e = and_both (nat_lt (k + 1) (2 ^ 32)) (not (is_empty p.name)) d.1 in
+      (equal_to p.ordinal (k + 1) a.0, below p.count (2 ^ 62) b.0, d.0, below (k + 1) (2 ^ 32) e.0, e.1)
+
+  -- where each project's place has 32 bits, there are so few
+  few_of_places : (xs : List ProjectRow) → ((k : ℕ) (p : ProjectRow) → slice_get xs k ≡ Some p → k + 1 < 2 ^ 32) → length xs < 2 ^ 32
+  few_of_places xs all = by_length (length xs) refl
+    where
+      by_length : (n : ℕ) → length xs ≡ n → length xs < 2 ^ 32
+      by_length zero e = omega (arith, e)
+      by_length (suc n) e = let last = there xs n (omega (arith, e)) in let low = all n last.0 last.1 in omega (arith, e, low)
+
+  place_fits : (k : ℕ) → k < length rows.projects → length rows.projects < 2 ^ 32 → k + 1 < 2 ^ 32
+  place_fits k within few = omega (arith, within, few)
 
   pub numbers_holds : numbers_broken rows ≡ None → AreNumbered rows
   unfolding numbers_broken
@@ -107,6 +124,8 @@ module _ (rows : RowLists) where
         projects = record {
           ordered = λ k p at. let parts = project_parts k p (p1 k p at) in (parts.0, parts.1);
           names = once_by_rows (λ (p : ProjectRow). p.name) is_named (λ name p e. sym (bytes_same p.name name e)) rows.projects (λ k p at. (project_parts k p (p1 k p at)).2);
+          named = λ k p at. (project_parts k p (p1 k p at)).4;
+          few = few_of_places rows.projects (λ k p at. (project_parts k p (p1 k p at)).3);
         };
         ids = λ i. in_list (λ r. r.id) rows.networks i p2 (λ z2. in_list (λ r. r.id) rows.subnets i p3 (λ z3. in_list (λ r. r.id) rows.ports i p4 (λ z4. in_list (λ r. r.id) rows.groups i p5 (λ z5. in_list (λ r. r.id) rows.rules i p6 (λ z6. in_list (λ r. r.id) rows.routers i p7 (λ z7. in_list (λ r. r.id) rows.floatings i p8 (λ z8. in_list (λ r. r.id) rows.policies i p9 (λ z9. omega (arith, z2, z3, z4, z5, z6, z7, z8, z9)))))))));
         drawn = record {
@@ -125,7 +144,9 @@ module _ (rows : RowLists) where
   unfolding numbers_broken
   numbers_none c =
       both_or (told_at 1 Project project_id rows.projects (first_place (project_numbered rows.projects) 0 rows.projects)) (option_or (breaks 1 Network (λ r. r.id) (λ r. is_numbered rows r.id) rows.networks) (option_or (breaks 1 Subnet (λ r. r.id) (λ r. is_numbered rows r.id) rows.subnets) (option_or (breaks 1 Port (λ r. r.id) (λ r. is_numbered rows r.id) rows.ports) (option_or (breaks 1 Group (λ r. r.id) (λ r. is_numbered rows r.id) rows.groups) (option_or (breaks 1 Rule (λ r. r.id) (λ r. is_numbered rows r.id) rows.rules) (option_or (breaks 1 Router (λ r. r.id) (λ r. is_numbered rows r.id) rows.routers) (option_or (breaks 1 Floating (λ r. r.id) (λ r. is_numbered rows r.id) rows.floatings) (breaks 1 Policy (λ r. r.id) (λ r. is_numbered rows r.id) rows.policies)))))))) (none_placed 1 Project project_id (project_numbered rows.projects) rows.projects (λ k p at. let o = c.projects.ordered k p at in
-      both_and (p.ordinal == k + 1) _ (is_equal_to p.ordinal (k + 1) o.0) (both_and (nat_lt p.count (2 ^ 62)) _ (is_below p.count (2 ^ 62) o.1) (is_at_most (count_by (is_named p.name) rows.projects) 1 (c.projects.names p.name)))))
+      both_and (p.ordinal == k + 1) _ (is_equal_to p.ordinal (k + 1) o.0) (both_and (nat_lt p.count (2 ^ 62)) _ (is_below p.count (2 ^ 62) o.1)
+      (both_and (nat_le (count_by (is_named p.name) rows.projects) 1) _ (is_at_most (count_by (is_named p.name) rows.projects) 1 (c.projects.names p.name))
+      (both_and (nat_lt (k + 1) (2 ^ 32)) (not (is_empty p.name)) (is_below (k + 1) (2 ^ 32) (place_fits k (slice_get_within rows.projects k p at) c.projects.few)) (c.projects.named k p at))))))
       (both_or (breaks 1 Network (λ r. r.id) (λ r. is_numbered rows r.id) rows.networks) (option_or (breaks 1 Subnet (λ r. r.id) (λ r. is_numbered rows r.id) rows.subnets) (option_or (breaks 1 Port (λ r. r.id) (λ r. is_numbered rows r.id) rows.ports) (option_or (breaks 1 Group (λ r. r.id) (λ r. is_numbered rows r.id) rows.groups) (option_or (breaks 1 Rule (λ r. r.id) (λ r. is_numbered rows r.id) rows.rules) (option_or (breaks 1 Router (λ r. r.id) (λ r. is_numbered rows r.id) rows.routers) (option_or (breaks 1 Floating (λ r. r.id) (λ r. is_numbered rows r.id) rows.floatings) (breaks 1 Policy (λ r. r.id) (λ r. is_numbered rows r.id) rows.policies))))))) (pass-breaks 1 Network (λ r. r.id) (λ r. is_numbered rows r.id) rows.networks (numbered_of (λ r. r.id) rows.networks c.ids c.drawn.networks))
       (both_or (breaks 1 Subnet (λ r. r.id) (λ r. is_numbered rows r.id) rows.subnets) (option_or (breaks 1 Port (λ r. r.id) (λ r. is_numbered rows r.id) rows.ports) (option_or (breaks 1 Group (λ r. r.id) (λ r. is_numbered rows r.id) rows.groups) (option_or (breaks 1 Rule (λ r. r.id) (λ r. is_numbered rows r.id) rows.rules) (option_or (breaks 1 Router (λ r. r.id) (λ r. is_numbered rows r.id) rows.routers) (option_or (breaks 1 Floating (λ r. r.id) (λ r. is_numbered rows r.id) rows.floatings) (breaks 1 Policy (λ r. r.id) (λ r. is_numbered rows r.id) rows.policies)))))) (pass-breaks 1 Subnet (λ r. r.id) (λ r. is_numbered rows r.id) rows.subnets (numbered_of (λ r. r.id) rows.subnets c.ids c.drawn.subnets))
       (both_or (breaks 1 Port (λ r. r.id) (λ r. is_numbered rows r.id) rows.ports) (option_or (breaks 1 Group (λ r. r.id) (λ r. is_numbered rows r.id) rows.groups) (option_or (breaks 1 Rule (λ r. r.id) (λ r. is_numbered rows r.id) rows.rules) (option_or (breaks 1 Router (λ r. r.id) (λ r. is_numbered rows r.id) rows.routers) (option_or (breaks 1 Floating (λ r. r.id) (λ r. is_numbered rows r.id) rows.floatings) (breaks 1 Policy (λ r. r.id) (λ r. is_numbered rows r.id) rows.policies))))) (pass-breaks 1 Port (λ r. r.id) (λ r. is_numbered rows r.id) rows.ports (numbered_of (λ r. r.id) rows.ports c.ids c.drawn.ports))
@@ -236,14 +257,18 @@ module _ (rows : RowLists) where
       (both_or (breaks 3 Rule (λ r. r.id) (λ r. is_group_of rows.groups r.project r.group) rows.rules) (breaks 3 Router (λ r. r.id) (λ r. nat_le (length r.routes) 30) rows.routers) (pass-breaks 3 Rule (λ r. r.id) (λ r. is_group_of rows.groups r.project r.group) rows.rules (c.rule_owners))
       (pass-breaks 3 Router (λ r. r.id) (λ r. nat_le (length r.routes) 30) rows.routers (c.routes)))))
 
+  -- whether a held address is this one
+  abbrev holds_at : Addr → Fixed → Bool
+  holds_at x f = addr_eq f.address x
+
   -- an address that a port holds is among its fixed addresses
-  sum_zero : (network : Ident) (x : ℕ) (ports : List PortRow) → list_any (λ p. ident_eq network p.network && list_any (λ (f : Fixed). f.address == x) p.fixed) ports ≡ false → sum_by (holds_times network x) ports ≡ 0
+  sum_zero : (network : Ident) (x : Addr) (ports : List PortRow) → list_any (λ p. ident_eq network p.network && list_any (holds_at x) p.fixed) ports ≡ false → sum_by (holds_times network x) ports ≡ 0
   sum_zero network x ports none = sum-none (holds_times network x) ports (λ k p at. by_test (ident_eq network p.network) (holds_times network x p ≡ 0)
-      (λ here. ap (λ b. cond {A = ℕ} b (count_by (λ (f : Fixed). f.address == x) p.fixed) 0) here
-      ∙ count-none (λ (f : Fixed). f.address == x) p.fixed (none-any (λ (f : Fixed). f.address == x) p.fixed
-      (sym (ap (λ b. b && list_any (λ (f : Fixed). f.address == x) p.fixed) here)
-      ∙ none-any (λ p. ident_eq network p.network && list_any (λ (f : Fixed). f.address == x) p.fixed) ports none k p at)))
-      (λ away. ap (λ b. cond {A = ℕ} b (count_by (λ (f : Fixed). f.address == x) p.fixed) 0) away))
+      (λ here. ap (λ b. cond {A = ℕ} b (count_by (holds_at x) p.fixed) 0) here
+      ∙ count-none (holds_at x) p.fixed (none-any (holds_at x) p.fixed
+      (sym (ap (λ b. b && list_any (holds_at x) p.fixed) here)
+      ∙ none-any (λ p. ident_eq network p.network && list_any (holds_at x) p.fixed) ports none k p at)))
+      (λ away. ap (λ b. cond {A = ℕ} b (count_by (holds_at x) p.fixed) 0) away))
 
   held_holds : breaks 4 Port (λ r. r.id) (port_alone rows.ports) rows.ports ≡ None → AreHeldOnce rows.ports
   held_holds h =
@@ -255,16 +280,16 @@ module _ (rows : RowLists) where
             let b = equal_to p.mac key.1 both.1 in
             λ j. (a j, sym b j))
             rows.ports (λ k p at. (and_both (nat_le (count_by (has_mac p.network p.mac) rows.ports) 1) (list_all (is_held_once rows.ports p.network) p.fixed) (p1 k p at)).0) (network, mac);
-        addresses = λ network x. by_test (list_any (λ p. ident_eq network p.network && list_any (λ (f : Fixed). f.address == x) p.fixed) rows.ports) (sum_by (holds_times network x) rows.ports ≤ 1)
+        addresses = λ network x. by_test (list_any (λ p. ident_eq network p.network && list_any (holds_at x) p.fixed) rows.ports) (sum_by (holds_times network x) rows.ports ≤ 1)
             (λ found.
-            let r = any-at (λ p. ident_eq network p.network && list_any (λ (f : Fixed). f.address == x) p.fixed) rows.ports found in
+            let r = any-at (λ p. ident_eq network p.network && list_any (holds_at x) p.fixed) rows.ports found in
             let p : PortRow = r.1 in
-            let both = and_both (ident_eq network p.network) (list_any (λ (f : Fixed). f.address == x) p.fixed) r.3 in
-            let g = any-at (λ (f : Fixed). f.address == x) p.fixed both.1 in
+            let both = and_both (ident_eq network p.network) (list_any (holds_at x) p.fixed) r.3 in
+            let g = any-at (holds_at x) p.fixed both.1 in
             let f : Fixed = g.1 in
             let once = all-at (is_held_once rows.ports p.network) p.fixed (and_both (nat_le (count_by (has_mac p.network p.mac) rows.ports) 1) (list_all (is_held_once rows.ports p.network) p.fixed) (p1 r.0 p r.2)).1 g.0 f g.2 in
             let same : network ≡ p.network = ident_same network p.network both.0 in
-            let there : f.address ≡ x = equal_to f.address x g.3 in
+            let there : f.address ≡ x = addr_same f.address x g.3 in
             at_most (sum_by (holds_times network x) rows.ports) 1 ((λ j. nat_le (sum_by (holds_times (same j) (sym there j)) rows.ports) 1) ∙ once))
             (λ none. let zeros : sum_by (holds_times network x) rows.ports ≡ 0 = sum_zero network x rows.ports none in omega (arith, zeros));
       }
@@ -560,11 +585,11 @@ module _ (rows : RowLists) where
   pub consistent_holds : (hosts : List Host) → first_broken_of hosts rows ≡ None → IsConsistent rows × AreCarried (carries hosts) rows.networks rows.ports
   unfolding first_broken_of
   consistent_holds hosts h =
-      let s1 = or_both (numbers_broken rows) (option_or (names_broken rows) (option_or (forms_broken rows) (option_or (breaks 4 Port (λ r. r.id) (port_alone rows.ports) rows.ports) (option_or (breaks 5 Port (λ r. r.id) (λ r. list_all (is_host_in rows.subnets) r.fixed) rows.ports) (option_or (disjoint_broken rows) (option_or (segments_broken rows) (option_or (breaks 8 Port (λ r. r.id) (port_placed (carries hosts) rows) rows.ports) (option_or (services_broken rows) (option_or (breaks 10 Floating (λ r. r.id) (floating_leads rows) rows.floatings) (option_or (groups_broken rows) (option_or (breaks 12 Port (λ r. r.id) (may_be_there rows.networks rows.policies) rows.ports) (option_or (outsides_broken rows) (breaks 14 Router (λ r. r.id) (λ r. list_all (is_reached rows.subnets rows.ports r) r.routes) rows.routers))))))))))))) h in
-      let s2 = or_both (names_broken rows) (option_or (forms_broken rows) (option_or (breaks 4 Port (λ r. r.id) (port_alone rows.ports) rows.ports) (option_or (breaks 5 Port (λ r. r.id) (λ r. list_all (is_host_in rows.subnets) r.fixed) rows.ports) (option_or (disjoint_broken rows) (option_or (segments_broken rows) (option_or (breaks 8 Port (λ r. r.id) (port_placed (carries hosts) rows) rows.ports) (option_or (services_broken rows) (option_or (breaks 10 Floating (λ r. r.id) (floating_leads rows) rows.floatings) (option_or (groups_broken rows) (option_or (breaks 12 Port (λ r. r.id) (may_be_there rows.networks rows.policies) rows.ports) (option_or (outsides_broken rows) (breaks 14 Router (λ r. r.id) (λ r. list_all (is_reached rows.subnets rows.ports r) r.routes) rows.routers)))))))))))) s1.1 in
-      let s3 = or_both (forms_broken rows) (option_or (breaks 4 Port (λ r. r.id) (port_alone rows.ports) rows.ports) (option_or (breaks 5 Port (λ r. r.id) (λ r. list_all (is_host_in rows.subnets) r.fixed) rows.ports) (option_or (disjoint_broken rows) (option_or (segments_broken rows) (option_or (breaks 8 Port (λ r. r.id) (port_placed (carries hosts) rows) rows.ports) (option_or (services_broken rows) (option_or (breaks 10 Floating (λ r. r.id) (floating_leads rows) rows.floatings) (option_or (groups_broken rows) (option_or (breaks 12 Port (λ r. r.id) (may_be_there rows.networks rows.policies) rows.ports) (option_or (outsides_broken rows) (breaks 14 Router (λ r. r.id) (λ r. list_all (is_reached rows.subnets rows.ports r) r.routes) rows.routers))))))))))) s2.1 in
-      let s4 = or_both (breaks 4 Port (λ r. r.id) (port_alone rows.ports) rows.ports) (option_or (breaks 5 Port (λ r. r.id) (λ r. list_all (is_host_in rows.subnets) r.fixed) rows.ports) (option_or (disjoint_broken rows) (option_or (segments_broken rows) (option_or (breaks 8 Port (λ r. r.id) (port_placed (carries hosts) rows) rows.ports) (option_or (services_broken rows) (option_or (breaks 10 Floating (λ r. r.id) (floating_leads rows) rows.floatings) (option_or (groups_broken rows) (option_or (breaks 12 Port (λ r. r.id) (may_be_there rows.networks rows.policies) rows.ports) (option_or (outsides_broken rows) (breaks 14 Router (λ r. r.id) (λ r. list_all (is_reached rows.subnets rows.ports r) r.routes) rows.routers)))))))))) s3.1 in
-      let s5 = or_both (breaks 5 Port (λ r. r.id) (λ r. list_all (is_host_in rows.subnets) r.fixed) rows.ports) (option_or (disjoint_broken rows) (option_or (segments_broken rows) (option_or (breaks 8 Port (λ r. r.id) (port_placed (carries hosts) rows) rows.ports) (option_or (services_broken rows) (option_or (breaks 10 Floating (λ r. r.id) (floating_leads rows) rows.floatings) (option_or (groups_broken rows) (option_or (breaks 12 Port (λ r. r.id) (may_be_there rows.networks rows.policies) rows.ports) (option_or (outsides_broken rows) (breaks 14 Router (λ r. r.id) (λ r. list_all (is_reached rows.subnets rows.ports r) r.routes) rows.routers))))))))) s4.1 in
+      let s1 = or_both (numbers_broken rows) (option_or (names_broken rows) (option_or (forms_broken rows) (option_or (breaks 4 Port (λ r. r.id) (port_alone rows.ports) rows.ports) (option_or (breaks 5 Port (λ r. r.id) (λ r. list_all (is_host_in rows.subnets r) r.fixed) rows.ports) (option_or (disjoint_broken rows) (option_or (segments_broken rows) (option_or (breaks 8 Port (λ r. r.id) (port_placed (carries hosts) rows) rows.ports) (option_or (services_broken rows) (option_or (breaks 10 Floating (λ r. r.id) (floating_leads rows) rows.floatings) (option_or (groups_broken rows) (option_or (breaks 12 Port (λ r. r.id) (may_be_there rows.networks rows.policies) rows.ports) (option_or (outsides_broken rows) (breaks 14 Router (λ r. r.id) (λ r. list_all (is_reached rows.subnets rows.ports r) r.routes) rows.routers))))))))))))) h in
+      let s2 = or_both (names_broken rows) (option_or (forms_broken rows) (option_or (breaks 4 Port (λ r. r.id) (port_alone rows.ports) rows.ports) (option_or (breaks 5 Port (λ r. r.id) (λ r. list_all (is_host_in rows.subnets r) r.fixed) rows.ports) (option_or (disjoint_broken rows) (option_or (segments_broken rows) (option_or (breaks 8 Port (λ r. r.id) (port_placed (carries hosts) rows) rows.ports) (option_or (services_broken rows) (option_or (breaks 10 Floating (λ r. r.id) (floating_leads rows) rows.floatings) (option_or (groups_broken rows) (option_or (breaks 12 Port (λ r. r.id) (may_be_there rows.networks rows.policies) rows.ports) (option_or (outsides_broken rows) (breaks 14 Router (λ r. r.id) (λ r. list_all (is_reached rows.subnets rows.ports r) r.routes) rows.routers)))))))))))) s1.1 in
+      let s3 = or_both (forms_broken rows) (option_or (breaks 4 Port (λ r. r.id) (port_alone rows.ports) rows.ports) (option_or (breaks 5 Port (λ r. r.id) (λ r. list_all (is_host_in rows.subnets r) r.fixed) rows.ports) (option_or (disjoint_broken rows) (option_or (segments_broken rows) (option_or (breaks 8 Port (λ r. r.id) (port_placed (carries hosts) rows) rows.ports) (option_or (services_broken rows) (option_or (breaks 10 Floating (λ r. r.id) (floating_leads rows) rows.floatings) (option_or (groups_broken rows) (option_or (breaks 12 Port (λ r. r.id) (may_be_there rows.networks rows.policies) rows.ports) (option_or (outsides_broken rows) (breaks 14 Router (λ r. r.id) (λ r. list_all (is_reached rows.subnets rows.ports r) r.routes) rows.routers))))))))))) s2.1 in
+      let s4 = or_both (breaks 4 Port (λ r. r.id) (port_alone rows.ports) rows.ports) (option_or (breaks 5 Port (λ r. r.id) (λ r. list_all (is_host_in rows.subnets r) r.fixed) rows.ports) (option_or (disjoint_broken rows) (option_or (segments_broken rows) (option_or (breaks 8 Port (λ r. r.id) (port_placed (carries hosts) rows) rows.ports) (option_or (services_broken rows) (option_or (breaks 10 Floating (λ r. r.id) (floating_leads rows) rows.floatings) (option_or (groups_broken rows) (option_or (breaks 12 Port (λ r. r.id) (may_be_there rows.networks rows.policies) rows.ports) (option_or (outsides_broken rows) (breaks 14 Router (λ r. r.id) (λ r. list_all (is_reached rows.subnets rows.ports r) r.routes) rows.routers)))))))))) s3.1 in
+      let s5 = or_both (breaks 5 Port (λ r. r.id) (λ r. list_all (is_host_in rows.subnets r) r.fixed) rows.ports) (option_or (disjoint_broken rows) (option_or (segments_broken rows) (option_or (breaks 8 Port (λ r. r.id) (port_placed (carries hosts) rows) rows.ports) (option_or (services_broken rows) (option_or (breaks 10 Floating (λ r. r.id) (floating_leads rows) rows.floatings) (option_or (groups_broken rows) (option_or (breaks 12 Port (λ r. r.id) (may_be_there rows.networks rows.policies) rows.ports) (option_or (outsides_broken rows) (breaks 14 Router (λ r. r.id) (λ r. list_all (is_reached rows.subnets rows.ports r) r.routes) rows.routers))))))))) s4.1 in
       let s6 = or_both (disjoint_broken rows) (option_or (segments_broken rows) (option_or (breaks 8 Port (λ r. r.id) (port_placed (carries hosts) rows) rows.ports) (option_or (services_broken rows) (option_or (breaks 10 Floating (λ r. r.id) (floating_leads rows) rows.floatings) (option_or (groups_broken rows) (option_or (breaks 12 Port (λ r. r.id) (may_be_there rows.networks rows.policies) rows.ports) (option_or (outsides_broken rows) (breaks 14 Router (λ r. r.id) (λ r. list_all (is_reached rows.subnets rows.ports r) r.routes) rows.routers)))))))) s5.1 in
       let s7 = or_both (segments_broken rows) (option_or (breaks 8 Port (λ r. r.id) (port_placed (carries hosts) rows) rows.ports) (option_or (services_broken rows) (option_or (breaks 10 Floating (λ r. r.id) (floating_leads rows) rows.floatings) (option_or (groups_broken rows) (option_or (breaks 12 Port (λ r. r.id) (may_be_there rows.networks rows.policies) rows.ports) (option_or (outsides_broken rows) (breaks 14 Router (λ r. r.id) (λ r. list_all (is_reached rows.subnets rows.ports r) r.routes) rows.routers))))))) s6.1 in
       let s8 = or_both (breaks 8 Port (λ r. r.id) (port_placed (carries hosts) rows) rows.ports) (option_or (services_broken rows) (option_or (breaks 10 Floating (λ r. r.id) (floating_leads rows) rows.floatings) (option_or (groups_broken rows) (option_or (breaks 12 Port (λ r. r.id) (may_be_there rows.networks rows.policies) rows.ports) (option_or (outsides_broken rows) (breaks 14 Router (λ r. r.id) (λ r. list_all (is_reached rows.subnets rows.ports r) r.routes) rows.routers)))))) s7.1 in
@@ -579,7 +604,7 @@ module _ (rows : RowLists) where
           named = names_holds s2.0;
           in_form = forms_holds s3.0;
           held_once = held_holds s4.0;
-          hosts = record { addresses = breaks-none 5 Port (λ r. r.id) (λ r. list_all (is_host_in rows.subnets) r.fixed) rows.ports s5.0 };
+          hosts = record { addresses = breaks-none 5 Port (λ r. r.id) (λ r. list_all (is_host_in rows.subnets r) r.fixed) rows.ports s5.0 };
           disjoint = disjoint_holds s6.0;
           segments = segments_holds s7.0;
           on_hosts = placed.0;
@@ -596,11 +621,11 @@ module _ (rows : RowLists) where
   pub consistent_none : (hosts : List Host) → IsConsistent rows → AreCarried (carries hosts) rows.networks rows.ports → first_broken_of hosts rows ≡ None
   unfolding first_broken_of
   consistent_none hosts c d =
-      both_or (numbers_broken rows) (option_or (names_broken rows) (option_or (forms_broken rows) (option_or (breaks 4 Port (λ r. r.id) (port_alone rows.ports) rows.ports) (option_or (breaks 5 Port (λ r. r.id) (λ r. list_all (is_host_in rows.subnets) r.fixed) rows.ports) (option_or (disjoint_broken rows) (option_or (segments_broken rows) (option_or (breaks 8 Port (λ r. r.id) (port_placed (carries hosts) rows) rows.ports) (option_or (services_broken rows) (option_or (breaks 10 Floating (λ r. r.id) (floating_leads rows) rows.floatings) (option_or (groups_broken rows) (option_or (breaks 12 Port (λ r. r.id) (may_be_there rows.networks rows.policies) rows.ports) (option_or (outsides_broken rows) (breaks 14 Router (λ r. r.id) (λ r. list_all (is_reached rows.subnets rows.ports r) r.routes) rows.routers))))))))))))) (numbers_none c.numbered)
-      (both_or (names_broken rows) (option_or (forms_broken rows) (option_or (breaks 4 Port (λ r. r.id) (port_alone rows.ports) rows.ports) (option_or (breaks 5 Port (λ r. r.id) (λ r. list_all (is_host_in rows.subnets) r.fixed) rows.ports) (option_or (disjoint_broken rows) (option_or (segments_broken rows) (option_or (breaks 8 Port (λ r. r.id) (port_placed (carries hosts) rows) rows.ports) (option_or (services_broken rows) (option_or (breaks 10 Floating (λ r. r.id) (floating_leads rows) rows.floatings) (option_or (groups_broken rows) (option_or (breaks 12 Port (λ r. r.id) (may_be_there rows.networks rows.policies) rows.ports) (option_or (outsides_broken rows) (breaks 14 Router (λ r. r.id) (λ r. list_all (is_reached rows.subnets rows.ports r) r.routes) rows.routers)))))))))))) (names_none c.named)
-      (both_or (forms_broken rows) (option_or (breaks 4 Port (λ r. r.id) (port_alone rows.ports) rows.ports) (option_or (breaks 5 Port (λ r. r.id) (λ r. list_all (is_host_in rows.subnets) r.fixed) rows.ports) (option_or (disjoint_broken rows) (option_or (segments_broken rows) (option_or (breaks 8 Port (λ r. r.id) (port_placed (carries hosts) rows) rows.ports) (option_or (services_broken rows) (option_or (breaks 10 Floating (λ r. r.id) (floating_leads rows) rows.floatings) (option_or (groups_broken rows) (option_or (breaks 12 Port (λ r. r.id) (may_be_there rows.networks rows.policies) rows.ports) (option_or (outsides_broken rows) (breaks 14 Router (λ r. r.id) (λ r. list_all (is_reached rows.subnets rows.ports r) r.routes) rows.routers))))))))))) (forms_none c.in_form)
-      (both_or (breaks 4 Port (λ r. r.id) (port_alone rows.ports) rows.ports) (option_or (breaks 5 Port (λ r. r.id) (λ r. list_all (is_host_in rows.subnets) r.fixed) rows.ports) (option_or (disjoint_broken rows) (option_or (segments_broken rows) (option_or (breaks 8 Port (λ r. r.id) (port_placed (carries hosts) rows) rows.ports) (option_or (services_broken rows) (option_or (breaks 10 Floating (λ r. r.id) (floating_leads rows) rows.floatings) (option_or (groups_broken rows) (option_or (breaks 12 Port (λ r. r.id) (may_be_there rows.networks rows.policies) rows.ports) (option_or (outsides_broken rows) (breaks 14 Router (λ r. r.id) (λ r. list_all (is_reached rows.subnets rows.ports r) r.routes) rows.routers)))))))))) (held_none c.held_once)
-      (both_or (breaks 5 Port (λ r. r.id) (λ r. list_all (is_host_in rows.subnets) r.fixed) rows.ports) (option_or (disjoint_broken rows) (option_or (segments_broken rows) (option_or (breaks 8 Port (λ r. r.id) (port_placed (carries hosts) rows) rows.ports) (option_or (services_broken rows) (option_or (breaks 10 Floating (λ r. r.id) (floating_leads rows) rows.floatings) (option_or (groups_broken rows) (option_or (breaks 12 Port (λ r. r.id) (may_be_there rows.networks rows.policies) rows.ports) (option_or (outsides_broken rows) (breaks 14 Router (λ r. r.id) (λ r. list_all (is_reached rows.subnets rows.ports r) r.routes) rows.routers))))))))) (pass-breaks 5 Port (λ r. r.id) (λ r. list_all (is_host_in rows.subnets) r.fixed) rows.ports c.hosts.addresses)
+      both_or (numbers_broken rows) (option_or (names_broken rows) (option_or (forms_broken rows) (option_or (breaks 4 Port (λ r. r.id) (port_alone rows.ports) rows.ports) (option_or (breaks 5 Port (λ r. r.id) (λ r. list_all (is_host_in rows.subnets r) r.fixed) rows.ports) (option_or (disjoint_broken rows) (option_or (segments_broken rows) (option_or (breaks 8 Port (λ r. r.id) (port_placed (carries hosts) rows) rows.ports) (option_or (services_broken rows) (option_or (breaks 10 Floating (λ r. r.id) (floating_leads rows) rows.floatings) (option_or (groups_broken rows) (option_or (breaks 12 Port (λ r. r.id) (may_be_there rows.networks rows.policies) rows.ports) (option_or (outsides_broken rows) (breaks 14 Router (λ r. r.id) (λ r. list_all (is_reached rows.subnets rows.ports r) r.routes) rows.routers))))))))))))) (numbers_none c.numbered)
+      (both_or (names_broken rows) (option_or (forms_broken rows) (option_or (breaks 4 Port (λ r. r.id) (port_alone rows.ports) rows.ports) (option_or (breaks 5 Port (λ r. r.id) (λ r. list_all (is_host_in rows.subnets r) r.fixed) rows.ports) (option_or (disjoint_broken rows) (option_or (segments_broken rows) (option_or (breaks 8 Port (λ r. r.id) (port_placed (carries hosts) rows) rows.ports) (option_or (services_broken rows) (option_or (breaks 10 Floating (λ r. r.id) (floating_leads rows) rows.floatings) (option_or (groups_broken rows) (option_or (breaks 12 Port (λ r. r.id) (may_be_there rows.networks rows.policies) rows.ports) (option_or (outsides_broken rows) (breaks 14 Router (λ r. r.id) (λ r. list_all (is_reached rows.subnets rows.ports r) r.routes) rows.routers)))))))))))) (names_none c.named)
+      (both_or (forms_broken rows) (option_or (breaks 4 Port (λ r. r.id) (port_alone rows.ports) rows.ports) (option_or (breaks 5 Port (λ r. r.id) (λ r. list_all (is_host_in rows.subnets r) r.fixed) rows.ports) (option_or (disjoint_broken rows) (option_or (segments_broken rows) (option_or (breaks 8 Port (λ r. r.id) (port_placed (carries hosts) rows) rows.ports) (option_or (services_broken rows) (option_or (breaks 10 Floating (λ r. r.id) (floating_leads rows) rows.floatings) (option_or (groups_broken rows) (option_or (breaks 12 Port (λ r. r.id) (may_be_there rows.networks rows.policies) rows.ports) (option_or (outsides_broken rows) (breaks 14 Router (λ r. r.id) (λ r. list_all (is_reached rows.subnets rows.ports r) r.routes) rows.routers))))))))))) (forms_none c.in_form)
+      (both_or (breaks 4 Port (λ r. r.id) (port_alone rows.ports) rows.ports) (option_or (breaks 5 Port (λ r. r.id) (λ r. list_all (is_host_in rows.subnets r) r.fixed) rows.ports) (option_or (disjoint_broken rows) (option_or (segments_broken rows) (option_or (breaks 8 Port (λ r. r.id) (port_placed (carries hosts) rows) rows.ports) (option_or (services_broken rows) (option_or (breaks 10 Floating (λ r. r.id) (floating_leads rows) rows.floatings) (option_or (groups_broken rows) (option_or (breaks 12 Port (λ r. r.id) (may_be_there rows.networks rows.policies) rows.ports) (option_or (outsides_broken rows) (breaks 14 Router (λ r. r.id) (λ r. list_all (is_reached rows.subnets rows.ports r) r.routes) rows.routers)))))))))) (held_none c.held_once)
+      (both_or (breaks 5 Port (λ r. r.id) (λ r. list_all (is_host_in rows.subnets r) r.fixed) rows.ports) (option_or (disjoint_broken rows) (option_or (segments_broken rows) (option_or (breaks 8 Port (λ r. r.id) (port_placed (carries hosts) rows) rows.ports) (option_or (services_broken rows) (option_or (breaks 10 Floating (λ r. r.id) (floating_leads rows) rows.floatings) (option_or (groups_broken rows) (option_or (breaks 12 Port (λ r. r.id) (may_be_there rows.networks rows.policies) rows.ports) (option_or (outsides_broken rows) (breaks 14 Router (λ r. r.id) (λ r. list_all (is_reached rows.subnets rows.ports r) r.routes) rows.routers))))))))) (pass-breaks 5 Port (λ r. r.id) (λ r. list_all (is_host_in rows.subnets r) r.fixed) rows.ports c.hosts.addresses)
       (both_or (disjoint_broken rows) (option_or (segments_broken rows) (option_or (breaks 8 Port (λ r. r.id) (port_placed (carries hosts) rows) rows.ports) (option_or (services_broken rows) (option_or (breaks 10 Floating (λ r. r.id) (floating_leads rows) rows.floatings) (option_or (groups_broken rows) (option_or (breaks 12 Port (λ r. r.id) (may_be_there rows.networks rows.policies) rows.ports) (option_or (outsides_broken rows) (breaks 14 Router (λ r. r.id) (λ r. list_all (is_reached rows.subnets rows.ports r) r.routes) rows.routers)))))))) (disjoint_none c.disjoint)
       (both_or (segments_broken rows) (option_or (breaks 8 Port (λ r. r.id) (port_placed (carries hosts) rows) rows.ports) (option_or (services_broken rows) (option_or (breaks 10 Floating (λ r. r.id) (floating_leads rows) rows.floatings) (option_or (groups_broken rows) (option_or (breaks 12 Port (λ r. r.id) (may_be_there rows.networks rows.policies) rows.ports) (option_or (outsides_broken rows) (breaks 14 Router (λ r. r.id) (λ r. list_all (is_reached rows.subnets rows.ports r) r.routes) rows.routers))))))) (segments_none c.segments)
       (both_or (breaks 8 Port (λ r. r.id) (port_placed (carries hosts) rows) rows.ports) (option_or (services_broken rows) (option_or (breaks 10 Floating (λ r. r.id) (floating_leads rows) rows.floatings) (option_or (groups_broken rows) (option_or (breaks 12 Port (λ r. r.id) (may_be_there rows.networks rows.policies) rows.ports) (option_or (outsides_broken rows) (breaks 14 Router (λ r. r.id) (λ r. list_all (is_reached rows.subnets rows.ports r) r.routes) rows.routers)))))) (placing_none (carries hosts) c.on_hosts d)

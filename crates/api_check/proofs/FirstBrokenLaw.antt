@@ -10,8 +10,8 @@ use Rattle.api_types.specs.declared.kind.Kind.{Kind}
 use Rattle.api_check.specs.declared.broken.Inconsistent.{Inconsistent}
 use Rattle.api_check.specs.Broken.{told_at, breaks, first_place}
 use Rattle.api_check.proofs.Places.{position_first}
-use Rattle.row_laws.proofs.ListLemmas.{none_some, some_equal, any-at, none-any, count-none}
-use Rattle.row_laws.proofs.NameLemmas.{by_test}
+use Rattle.api_types.proofs.ListLemmas.{none_some, some_equal, any-at, none-any, count-none}
+use Rattle.api_types.proofs.NameLemmas.{by_test}
 
 pub at_most : (a b : ℕ) → nat_le a b ≡ true → a ≤ b
 at_most a b h = grind (arith, nat_tests)
@@ -66,7 +66,7 @@ module _ {R : Type 0} where
       by true h rest = let r = rest h in (omega (arith, r.0), omega (arith, r.1))
       by false h rest = let e : k ≡ n = some_equal k n h in (omega arith, omega arith)
 
-  there : (xs : List R) (n : ℕ) → n < length xs → (x : R) × (slice_get xs n ≡ Some x)
+  pub there : (xs : List R) (n : ℕ) → n < length xs → (x : R) × (slice_get xs n ≡ Some x)
   there [] n h = absurd (omega (arith, h))
   there (a ∷ xs) zero h = (a, refl)
   there (a ∷ xs) (suc n) h = there xs n (omega (arith, h))

@@ -17,9 +17,9 @@ use Rattle.api_types.specs.declared.network.NetworkRow.{NetworkRow}
 use Rattle.net_settings.specs.declared.settings.Host.{Host}
 use Rattle.api_check.specs.declared.broken.Inconsistent.{Inconsistent}
 use Rattle.api_check.specs.Broken.{told_at, breaks, first_place, earlier}
-use Rattle.api_check.specs.Carrying.{carries}
-use Rattle.row_tests.specs.RowTests.{project_numbered, is_numbered, subnet_named, port_named, rule_named, router_named, floating_named, policy_named, subnet_formed, port_formed, port_alone, segment_alone}
-use Rattle.service_tests.specs.ServiceTests.{network_served, port_serves, router_served, floating_served, floating_leads, project_grouped, port_grouped, rule_grouped, router_permitted, policy_alone}
+use Rattle.api_ml2.specs.Carrying.{carries}
+use Rattle.api_check_rows.specs.RowTests.{project_numbered, is_numbered, subnet_named, port_named, rule_named, router_named, floating_named, policy_named, subnet_formed, port_formed, port_alone, segment_alone}
+use Rattle.api_check_services.specs.ServiceTests.{network_served, port_serves, router_served, floating_served, floating_leads, project_grouped, port_grouped, rule_grouped, router_permitted, policy_alone}
 use Rattle.api_check.specs.Placing.{port_placed}
 
 unfoldable pub numbers_broken : RowLists → Option Inconsistent
@@ -90,7 +90,7 @@ first_broken_of hosts rows =
     (option_or (names_broken rows)
     (option_or (forms_broken rows)
     (option_or (breaks 4 Port (λ r. r.id) (port_alone rows.ports) rows.ports)
-    (option_or (breaks 5 Port (λ r. r.id) (λ r. list_all (is_host_in rows.subnets) r.fixed) rows.ports)
+    (option_or (breaks 5 Port (λ r. r.id) (λ r. list_all (is_host_in rows.subnets r) r.fixed) rows.ports)
     (option_or (disjoint_broken rows)
     (option_or (segments_broken rows)
     (option_or (breaks 8 Port (λ r. r.id) (port_placed (carries hosts) rows) rows.ports)

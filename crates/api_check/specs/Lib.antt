@@ -1,4 +1,3 @@
 pub mod Broken
-pub mod Carrying
 pub mod Placing
 pub mod FirstBroken

@@ -1,7 +1,7 @@
 ghost use Rattle.std.specs.Prelude.{◌≡◌};
 ghost use Rattle.api_check.specs.Broken.{told_at};
 
-use api_types::{Id, Keyed, Kind};
+use api_types::{Id, Keyed, Kind, Shared};
 
 /// A row that breaks a clause of consistency.
 #[derive(Clone, Copy, Debug, PartialEq, Eq)]
@@ -19,7 +19,7 @@ pub struct Inconsistent {
 pub(crate) fn told<R: Keyed>(
     rule: u8,
     kind: Kind,
-    rows: &[R],
+    rows: &[Shared<R>],
     place: Option<usize>,
 ) -> Option<Inconsistent>
     ensures { result ≡ told_at rule kind R.id_of rows.now place }

@@ -6,10 +6,10 @@ ghost use Rattle.api_check.specs.Broken.{breaks};
 ghost use Rattle.api_check.specs.FirstBroken.{disjoint_broken};
 
 use crate::broken::{Inconsistent, told};
-use api_types::{Kind, PortRow, Rows, SubnetRow};
-use row_tests::{is_apart_port, is_apart_subnet};
+use api_check_rows::{is_apart_port, is_apart_subnet};
+use api_types::{Kind, PortRow, Rows, Shared, SubnetRow};
 
-fn first_subnet(rows: &Rows, subnets: &[SubnetRow]) -> Option<usize>
+fn first_subnet(rows: &Rows, subnets: &[Shared<SubnetRow>]) -> Option<usize>
     ensures { result ≡ position (λ r. not (not (list_any (clash_of_subnets r) rows.now.subnets))) subnets.now }
 {
     subnets
@@ -24,7 +24,7 @@ fn broken_subnet(rows: &Rows) -> Option<Inconsistent>
     told(6, Kind::Subnet, subnets, first_subnet(rows, subnets))
 }
 
-fn first_port(rows: &Rows, ports: &[PortRow]) -> Option<usize>
+fn first_port(rows: &Rows, ports: &[Shared<PortRow>]) -> Option<usize>
     ensures { result ≡ position (λ r. not (not (list_any (clash_of_ports rows.now.routers rows.now.subnets r) rows.now.ports))) ports.now }
 {
     ports.iter().position(|port| !is_apart_port(rows, port))

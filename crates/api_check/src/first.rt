@@ -1,7 +1,7 @@
 ghost use Rattle.std.specs.Prelude.{◌≡◌, ◌↔◌, None};
 ghost use Rattle.api_types.specs.Consistent.{IsConsistent};
 ghost use Rattle.api_types.specs.Consistent.Carried.{AreCarried};
-ghost use Rattle.api_check.specs.Carrying.{carries};
+ghost use Rattle.api_ml2.specs.Carrying.{carries};
 ghost use Rattle.api_check.specs.FirstBroken.{first_broken_of};
 
 use crate::broken::Inconsistent;

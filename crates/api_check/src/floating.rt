@@ -1,13 +1,13 @@
 ghost use Rattle.std.specs.Prelude.{◌≡◌, not, position};
 ghost use Rattle.api_types.specs.declared.kind.Kind.TheVariants.{Floating};
 ghost use Rattle.api_check.specs.Broken.{breaks};
-ghost use Rattle.service_tests.specs.ServiceTests.{floating_leads};
+ghost use Rattle.api_check_services.specs.ServiceTests.{floating_leads};
 
 use crate::broken::{Inconsistent, told};
-use api_types::{FloatingRow, Kind, Rows};
-use service_tests::leads;
+use api_check_services::leads;
+use api_types::{FloatingRow, Kind, Rows, Shared};
 
-fn first_target(rows: &Rows, floatings: &[FloatingRow]) -> Option<usize>
+fn first_target(rows: &Rows, floatings: &[Shared<FloatingRow>]) -> Option<usize>
     ensures { result ≡ position (λ r. not (floating_leads rows.now r)) floatings.now }
 {
     floatings.iter().position(|floating| !leads(rows, floating))

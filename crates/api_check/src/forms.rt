@@ -2,14 +2,16 @@ ghost use Rattle.std.specs.Prelude.{◌≡◌, not, nat_le, length, position};
 ghost use Rattle.api_types.specs.Consistent.InForm.{is_segment as segment_formed, is_group_of as group_of_in};
 ghost use Rattle.api_types.specs.declared.kind.Kind.TheVariants.{Network, Subnet, Port, Rule, Router};
 ghost use Rattle.api_check.specs.Broken.{breaks};
-ghost use Rattle.row_tests.specs.RowTests.{subnet_formed, port_formed};
+ghost use Rattle.api_check_rows.specs.RowTests.{subnet_formed, port_formed};
 ghost use Rattle.api_check.specs.FirstBroken.{forms_broken};
 
 use crate::broken::{Inconsistent, told};
-use api_types::{Kind, NetworkRow, PortRow, RouterRow, Rows, RuleRow, SubnetRow};
-use row_tests::{has_few_routes, is_formed_port, is_formed_subnet, is_group_of, is_segment};
+use api_check_rows::{has_few_routes, is_formed_port, is_formed_subnet, is_segment};
+use api_types::{
+    Kind, NetworkRow, PortRow, RouterRow, Rows, RuleRow, Shared, SubnetRow, is_group_of,
+};
 
-fn first_network(networks: &[NetworkRow]) -> Option<usize>
+fn first_network(networks: &[Shared<NetworkRow>]) -> Option<usize>
     ensures { result ≡ position (λ r. not (segment_formed r.segment)) networks.now }
 {
     networks
@@ -24,7 +26,7 @@ fn broken_network(rows: &Rows) -> Option<Inconsistent>
     told(3, Kind::Network, networks, first_network(networks))
 }
 
-fn first_subnet(rows: &Rows, subnets: &[SubnetRow]) -> Option<usize>
+fn first_subnet(rows: &Rows, subnets: &[Shared<SubnetRow>]) -> Option<usize>
     ensures { result ≡ position (λ r. not (subnet_formed rows.now.networks r)) subnets.now }
 {
     subnets
@@ -39,7 +41,7 @@ fn broken_subnet(rows: &Rows) -> Option<Inconsistent>
     told(3, Kind::Subnet, subnets, first_subnet(rows, subnets))
 }
 
-fn first_port(rows: &Rows, ports: &[PortRow]) -> Option<usize>
+fn first_port(rows: &Rows, ports: &[Shared<PortRow>]) -> Option<usize>
     ensures { result ≡ position (λ r. not (port_formed rows.now.networks r)) ports.now }
 {
     ports.iter().position(|port| !is_formed_port(rows, port))
@@ -52,7 +54,7 @@ fn broken_port(rows: &Rows) -> Option<Inconsistent>
     told(3, Kind::Port, ports, first_port(rows, ports))
 }
 
-fn first_rule(rows: &Rows, rules: &[RuleRow]) -> Option<usize>
+fn first_rule(rows: &Rows, rules: &[Shared<RuleRow>]) -> Option<usize>
     ensures { result ≡ position (λ r. not (group_of_in rows.now.groups r.project r.group)) rules.now }
 {
     rules.iter().position(|rule| !is_group_of(rows.groups().rows(), &rule.project, rule.group))
@@ -65,7 +67,7 @@ fn broken_rule(rows: &Rows) -> Option<Inconsistent>
     told(3, Kind::Rule, rules, first_rule(rows, rules))
 }
 
-fn first_router(routers: &[RouterRow]) -> Option<usize>
+fn first_router(routers: &[Shared<RouterRow>]) -> Option<usize>
     ensures { result ≡ position (λ r. not (nat_le (length r.routes) 30)) routers.now }
 {
     routers.iter().position(|router| !has_few_routes(router))

@@ -2,19 +2,25 @@ ghost use Rattle.std.specs.Prelude.{◌≡◌, not, position};
 ghost use Rattle.api_types.specs.Rows.{project_id};
 ghost use Rattle.api_types.specs.declared.kind.Kind.TheVariants.{Project, Port, Rule};
 ghost use Rattle.api_check.specs.Broken.{breaks};
-ghost use Rattle.service_tests.specs.ServiceTests.{project_grouped, port_grouped, rule_grouped};
+ghost use Rattle.api_check_services.specs.ServiceTests.{project_grouped, port_grouped, rule_grouped};
 ghost use Rattle.api_check.specs.FirstBroken.{groups_broken};
 
 use crate::broken::{Inconsistent, told};
-use api_types::{Kind, PortRow, ProjectRow, Rows, RuleRow};
-use service_tests::{has_one_default, is_grouped_port, is_grouped_rule};
+use api_check_services::{has_one_default, is_grouped_port, is_grouped_rule};
+use api_types::{Kind, PortRow, ProjectRow, Rows, RuleRow, Shared};
 
-fn first_project(rows: &Rows, projects: &[ProjectRow]) -> Option<usize>
+fn has_default(rows: &Rows, project: &ProjectRow) -> bool
+    ensures { result ≡ project_grouped rows.now.groups project.now }
+{
+    has_one_default(rows.groups().rows(), project)
+}
+
+fn first_project(rows: &Rows, projects: &[Shared<ProjectRow>]) -> Option<usize>
     ensures { result ≡ position (λ r. not (project_grouped rows.now.groups r)) projects.now }
 {
     projects
         .iter()
-        .position(|project| !has_one_default(rows.groups().rows(), project))
+        .position(|project| !has_default(rows, project))
 }
 
 fn broken_project(rows: &Rows) -> Option<Inconsistent>
@@ -24,7 +30,7 @@ fn broken_project(rows: &Rows) -> Option<Inconsistent>
     told(11, Kind::Project, projects, first_project(rows, projects))
 }
 
-fn first_port(rows: &Rows, ports: &[PortRow]) -> Option<usize>
+fn first_port(rows: &Rows, ports: &[Shared<PortRow>]) -> Option<usize>
     ensures { result ≡ position (λ r. not (port_grouped rows.now.groups r)) ports.now }
 {
     ports.iter().position(|port| !is_grouped_port(rows, port))
@@ -37,7 +43,7 @@ fn broken_port(rows: &Rows) -> Option<Inconsistent>
     told(11, Kind::Port, ports, first_port(rows, ports))
 }
 
-fn first_rule(rows: &Rows, rules: &[RuleRow]) -> Option<usize>
+fn first_rule(rows: &Rows, rules: &[Shared<RuleRow>]) -> Option<usize>
     ensures { result ≡ position (λ r. not (rule_grouped rows.now.groups rows.now.rules r)) rules.now }
 {
     rules.iter().position(|rule| !is_grouped_rule(rows, rule))

@@ -1,48 +1,19 @@
 ghost use Rattle.std.specs.Prelude.{◌≡◌, ◌||◌, not, position};
-ghost use Rattle.std.specs.List.{list_any, list_all};
+ghost use Rattle.std.specs.List.{list_all};
 ghost use Rattle.std.specs.Str.{bytes_eq};
 ghost use Rattle.api_types.specs.Lists.{stands_so, is_some_so};
 ghost use Rattle.api_types.specs.Owners.{is_port_of as port_of};
 ghost use Rattle.api_types.specs.declared.kind.Kind.TheVariants.{Port};
 ghost use Rattle.api_check.specs.Broken.{breaks};
-ghost use Rattle.api_check.specs.Carrying.{can_carry as carried_by, carries as carried_at};
+ghost use Rattle.api_ml2.specs.Carrying.{carries as carried_at};
 ghost use Rattle.api_check.specs.Placing.{port_placed};
 
 use crate::broken::{Inconsistent, told};
-use api_types::{Kind, NetworkRow, PortRow, RouterRow, Rows, Segment, Vif};
-use net_addr::Text;
+use api_ml2::carries;
+use api_types::{Kind, NetworkRow, PortRow, RouterRow, Rows, Shared, Vif, is_port_of};
 use net_settings::{Host, Settings};
-use row_tests::is_port_of;
 
-fn is_wired(host: &Host, physical: &Text) -> bool
-    ensures { result ≡ list_any (bytes_eq physical.now) host.now.physical }
-{
-    host.physical
-        .as_slice()
-        .iter()
-        .any(|other| physical == other)
-}
-
-fn can_carry(host: &Host, segment: &Segment) -> bool
-    ensures { result ≡ carried_by host.now segment.now }
-{
-    match segment {
-        Segment::Local => true,
-        Segment::Flat { physical } => is_wired(host, physical),
-        Segment::Vlan { physical, tag: _ } => is_wired(host, physical),
-        Segment::Vxlan { number: _ } => host.vxlan,
-    }
-}
-
-fn carries(hosts: &[Host], name: &Text, segment: &Segment) -> bool
-    ensures { result ≡ carried_at hosts.now name.now segment.now }
-{
-    hosts
-        .iter()
-        .any(|host| host.name == *name && can_carry(host, segment))
-}
-
-fn is_carried(hosts: &[Host], networks: &[NetworkRow], port: &PortRow) -> bool
+fn is_carried(hosts: &[Host], networks: &[Shared<NetworkRow>], port: &PortRow) -> bool
     ensures { result ≡ stands_so (λ n. n.id) port.now.network (λ n. carried_at hosts.now port.now.host n.segment) networks.now }
 {
     networks.iter().any(|network| {
@@ -60,7 +31,7 @@ fn is_on(port: &PortRow, router: &RouterRow) -> bool
     !is_port_of(router, port) || there
 }
 
-fn is_with_router(routers: &[RouterRow], port: &PortRow) -> bool
+fn is_with_router(routers: &[Shared<RouterRow>], port: &PortRow) -> bool
     ensures { result ≡ list_all (λ r. not (port_of r port.now) || is_some_so (bytes_eq port.now.host) r.host) routers.now }
 {
     routers.iter().all(|router| is_on(port, router))
@@ -74,7 +45,7 @@ fn is_placed(hosts: &[Host], rows: &Rows, port: &PortRow) -> bool
             && is_with_router(rows.routers().rows(), port))
 }
 
-fn first_port(hosts: &[Host], rows: &Rows, ports: &[PortRow]) -> Option<usize>
+fn first_port(hosts: &[Host], rows: &Rows, ports: &[Shared<PortRow>]) -> Option<usize>
     ensures { result ≡ position (λ r. not (port_placed (carried_at hosts.now) rows.now r)) ports.now }
 {
     ports.iter().position(|port| !is_placed(hosts, rows, port))

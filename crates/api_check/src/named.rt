@@ -1,21 +1,21 @@
 ghost use Rattle.std.specs.Prelude.{◌≡◌, not, position};
 ghost use Rattle.api_types.specs.Consistent.Named.{is_registered as registered_in};
-ghost use Rattle.row_tests.specs.RowTests.{subnet_named as subnet_names, port_named as port_names, rule_named as rule_names, router_named as router_names, floating_named as floating_names, policy_named as policy_names};
+ghost use Rattle.api_check_rows.specs.RowTests.{subnet_named as subnet_names, port_named as port_names, rule_named as rule_names, router_named as router_names, floating_named as floating_names, policy_named as policy_names};
 ghost use Rattle.api_check.specs.FirstBroken.{names_broken};
 ghost use Rattle.api_check.specs.Broken.{breaks};
 ghost use Rattle.api_types.specs.declared.kind.Kind.TheVariants.{Network, Subnet, Port, Group, Rule, Router, Floating, Policy};
 
 use crate::broken::{Inconsistent, told};
-use api_types::{
-    FloatingRow, GroupRow, Kind, NetworkRow, PolicyRow, PortRow, RouterRow, Rows, RuleRow,
-    SubnetRow,
-};
-use row_tests::{
+use api_check_rows::{
     is_named_floating, is_named_policy, is_named_port, is_named_router, is_named_rule,
     is_named_subnet, is_registered,
 };
+use api_types::{
+    FloatingRow, GroupRow, Kind, NetworkRow, PolicyRow, PortRow, RouterRow, Rows, RuleRow, Shared,
+    SubnetRow,
+};
 
-fn first_network(rows: &Rows, networks: &[NetworkRow]) -> Option<usize>
+fn first_network(rows: &Rows, networks: &[Shared<NetworkRow>]) -> Option<usize>
     ensures { result ≡ position (λ r. not (registered_in rows.now.projects r.project)) networks.now }
 {
     networks.iter().position(|network| !is_registered(rows.projects().rows(), &network.project))
@@ -28,7 +28,7 @@ fn broken_network(rows: &Rows) -> Option<Inconsistent>
     told(2, Kind::Network, networks, first_network(rows, networks))
 }
 
-fn first_subnet(rows: &Rows, subnets: &[SubnetRow]) -> Option<usize>
+fn first_subnet(rows: &Rows, subnets: &[Shared<SubnetRow>]) -> Option<usize>
     ensures { result ≡ position (λ r. not (subnet_names rows.now r)) subnets.now }
 {
     subnets
@@ -43,7 +43,7 @@ fn broken_subnet(rows: &Rows) -> Option<Inconsistent>
     told(2, Kind::Subnet, subnets, first_subnet(rows, subnets))
 }
 
-fn first_port(rows: &Rows, ports: &[PortRow]) -> Option<usize>
+fn first_port(rows: &Rows, ports: &[Shared<PortRow>]) -> Option<usize>
     ensures { result ≡ position (λ r. not (port_names rows.now r)) ports.now }
 {
     ports.iter().position(|port| !is_named_port(rows, port))
@@ -56,7 +56,7 @@ fn broken_port(rows: &Rows) -> Option<Inconsistent>
     told(2, Kind::Port, ports, first_port(rows, ports))
 }
 
-fn first_group(rows: &Rows, groups: &[GroupRow]) -> Option<usize>
+fn first_group(rows: &Rows, groups: &[Shared<GroupRow>]) -> Option<usize>
     ensures { result ≡ position (λ r. not (registered_in rows.now.projects r.project)) groups.now }
 {
     groups.iter().position(|group| !is_registered(rows.projects().rows(), &group.project))
@@ -69,7 +69,7 @@ fn broken_group(rows: &Rows) -> Option<Inconsistent>
     told(2, Kind::Group, groups, first_group(rows, groups))
 }
 
-fn first_rule(rows: &Rows, rules: &[RuleRow]) -> Option<usize>
+fn first_rule(rows: &Rows, rules: &[Shared<RuleRow>]) -> Option<usize>
     ensures { result ≡ position (λ r. not (rule_names rows.now r)) rules.now }
 {
     rules.iter().position(|rule| !is_named_rule(rows, rule))
@@ -82,7 +82,7 @@ fn broken_rule(rows: &Rows) -> Option<Inconsistent>
     told(2, Kind::Rule, rules, first_rule(rows, rules))
 }
 
-fn first_router(rows: &Rows, routers: &[RouterRow]) -> Option<usize>
+fn first_router(rows: &Rows, routers: &[Shared<RouterRow>]) -> Option<usize>
     ensures { result ≡ position (λ r. not (router_names rows.now r)) routers.now }
 {
     routers
@@ -97,7 +97,7 @@ fn broken_router(rows: &Rows) -> Option<Inconsistent>
     told(2, Kind::Router, routers, first_router(rows, routers))
 }
 
-fn first_floating(rows: &Rows, floatings: &[FloatingRow]) -> Option<usize>
+fn first_floating(rows: &Rows, floatings: &[Shared<FloatingRow>]) -> Option<usize>
     ensures { result ≡ position (λ r. not (floating_names rows.now r)) floatings.now }
 {
     floatings
@@ -117,7 +117,7 @@ fn broken_floating(rows: &Rows) -> Option<Inconsistent>
     )
 }
 
-fn first_policy(rows: &Rows, policies: &[PolicyRow]) -> Option<usize>
+fn first_policy(rows: &Rows, policies: &[Shared<PolicyRow>]) -> Option<usize>
     ensures { result ≡ position (λ r. not (policy_names rows.now r)) policies.now }
 {
     policies

@@ -1,14 +1,14 @@
 ghost use Rattle.std.specs.Prelude.{◌≡◌, not, position};
 ghost use Rattle.api_check.specs.Broken.{first_place};
-ghost use Rattle.row_tests.specs.RowTests.{project_numbered, is_numbered as numbered_in};
+ghost use Rattle.api_check_rows.specs.RowTests.{project_numbered, is_numbered as numbered_in};
 ghost use Rattle.api_check.specs.FirstBroken.{numbers_broken as broken_in};
 
 use crate::broken::{Inconsistent, told};
-use api_types::{Keyed, Kind, ProjectRow, Rows};
-use row_tests::{is_numbered, is_numbered_project};
+use api_check_rows::{is_numbered, is_numbered_project};
+use api_types::{Keyed, Kind, ProjectRow, Rows, Shared};
 
 #[tactic(auto, using(crate::proofs::Places::place_here, crate::proofs::Places::place_next, crate::proofs::Places::place_end))]
-fn first_misnumbered(projects: &[ProjectRow]) -> Option<usize>
+fn first_misnumbered(projects: &[Shared<ProjectRow>]) -> Option<usize>
     ensures { result ≡ first_place (project_numbered projects.now) 0 projects.now }
 {
     for place in 0..projects.len() {
@@ -20,7 +20,7 @@ fn first_misnumbered(projects: &[ProjectRow]) -> Option<usize>
 }
 
 #[tactic(auto, using(crate::proofs::Places::place_next))]
-fn first_unnumbered<R: Keyed>(rows: &Rows, list: &[R]) -> Option<usize>
+fn first_unnumbered<R: Keyed>(rows: &Rows, list: &[Shared<R>]) -> Option<usize>
     ensures { result ≡ position (λ r. not (numbered_in rows.now (R.id_of r))) list.now }
 {
     for place in 0..list.len() {
@@ -31,7 +31,7 @@ fn first_unnumbered<R: Keyed>(rows: &Rows, list: &[R]) -> Option<usize>
     None
 }
 
-fn broken_id<R: Keyed>(rows: &Rows, kind: Kind, list: &[R]) -> Option<Inconsistent>
+fn broken_id<R: Keyed>(rows: &Rows, kind: Kind, list: &[Shared<R>]) -> Option<Inconsistent>
     ensures { result ≡ Rattle.api_check.specs.Broken.breaks 1 kind R.id_of (λ r. numbered_in rows.now (R.id_of r)) list.now }
 {
     told(1, kind, list, first_unnumbered(rows, list))

@@ -5,16 +5,16 @@ ghost use Rattle.api_types.specs.Consistent.Access.{may_be_there as may_stand};
 ghost use Rattle.api_types.specs.Consistent.NextHops.{is_reached as reached_by};
 ghost use Rattle.api_types.specs.declared.kind.Kind.TheVariants.{Port, Router, Floating, Policy};
 ghost use Rattle.api_check.specs.Broken.{breaks};
-ghost use Rattle.service_tests.specs.ServiceTests.{router_permitted, policy_alone};
+ghost use Rattle.api_check_services.specs.ServiceTests.{router_permitted, policy_alone};
 ghost use Rattle.api_check.specs.FirstBroken.{outsides_broken};
 
 use crate::broken::{Inconsistent, told};
-use api_types::{FloatingRow, Kind, PolicyRow, PortRow, RouterRow, Rows};
-use service_tests::{
+use api_check_services::{
     has_reached_routes, is_only_policy, is_permitted_floating, is_permitted_router, may_be_there,
 };
+use api_types::{FloatingRow, Kind, PolicyRow, PortRow, RouterRow, Rows, Shared};
 
-fn first_port(rows: &Rows, ports: &[PortRow]) -> Option<usize>
+fn first_port(rows: &Rows, ports: &[Shared<PortRow>]) -> Option<usize>
     ensures { result ≡ position (λ r. not (may_stand rows.now.networks rows.now.policies r)) ports.now }
 {
     ports.iter().position(|port| !may_be_there(rows, port))
@@ -28,7 +28,7 @@ pub(crate) fn broken_port(rows: &Rows) -> Option<Inconsistent>
     told(12, Kind::Port, ports, first_port(rows, ports))
 }
 
-fn first_router(rows: &Rows, routers: &[RouterRow]) -> Option<usize>
+fn first_router(rows: &Rows, routers: &[Shared<RouterRow>]) -> Option<usize>
     ensures { result ≡ position (λ r. not (router_permitted rows.now.policies r)) routers.now }
 {
     routers
@@ -43,7 +43,7 @@ fn broken_router(rows: &Rows) -> Option<Inconsistent>
     told(13, Kind::Router, routers, first_router(rows, routers))
 }
 
-fn first_floating(rows: &Rows, floatings: &[FloatingRow]) -> Option<usize>
+fn first_floating(rows: &Rows, floatings: &[Shared<FloatingRow>]) -> Option<usize>
     ensures { result ≡ position (λ r. not (external_to rows.now.policies r.network r.project)) floatings.now }
 {
     floatings
@@ -63,7 +63,7 @@ fn broken_floating(rows: &Rows) -> Option<Inconsistent>
     )
 }
 
-fn first_policy(rows: &Rows, policies: &[PolicyRow]) -> Option<usize>
+fn first_policy(rows: &Rows, policies: &[Shared<PolicyRow>]) -> Option<usize>
     ensures { result ≡ position (λ r. not (policy_alone rows.now.policies r)) policies.now }
 {
     policies
@@ -92,7 +92,7 @@ pub(crate) fn broken_outside(rows: &Rows) -> Option<Inconsistent>
     broken_policy(rows)
 }
 
-fn first_route(rows: &Rows, routers: &[RouterRow]) -> Option<usize>
+fn first_route(rows: &Rows, routers: &[Shared<RouterRow>]) -> Option<usize>
     ensures { result ≡ position (λ r. not (list_all (reached_by rows.now.subnets rows.now.ports r) r.routes)) routers.now }
 {
     routers

@@ -1,13 +1,13 @@
 ghost use Rattle.std.specs.Prelude.{◌≡◌, not, position};
 ghost use Rattle.api_check.specs.Broken.{earlier as earlier_of};
-ghost use Rattle.row_tests.specs.RowTests.{segment_alone};
+ghost use Rattle.api_check_rows.specs.RowTests.{segment_alone};
 ghost use Rattle.api_check.specs.FirstBroken.{too_many as too_many_in, segments_broken};
 
 use crate::broken::{Inconsistent, told};
-use api_types::{Kind, NetworkRow, Rows};
-use row_tests::has_own_segment;
+use api_check_rows::has_own_segment;
+use api_types::{Kind, NetworkRow, Rows, Shared};
 
-fn first_double(networks: &[NetworkRow]) -> Option<usize>
+fn first_double(networks: &[Shared<NetworkRow>]) -> Option<usize>
     ensures { result ≡ position (λ r. not (segment_alone networks.now r)) networks.now }
 {
     networks
@@ -16,7 +16,7 @@ fn first_double(networks: &[NetworkRow]) -> Option<usize>
 }
 
 #[tactic(auto, unfolding(crate::specs::FirstBroken::too_many))]
-fn too_many(networks: &[NetworkRow]) -> Option<usize>
+fn too_many(networks: &[Shared<NetworkRow>]) -> Option<usize>
     ensures { result ≡ too_many_in networks.now }
 {
     if networks.len() > 4000 {

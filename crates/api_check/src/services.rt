@@ -1,14 +1,16 @@
 ghost use Rattle.std.specs.Prelude.{◌≡◌, not, position};
 ghost use Rattle.api_types.specs.declared.kind.Kind.TheVariants.{Network, Port, Router, Floating};
 ghost use Rattle.api_check.specs.Broken.{breaks};
-ghost use Rattle.service_tests.specs.ServiceTests.{network_served, port_serves, router_served, floating_served};
+ghost use Rattle.api_check_services.specs.ServiceTests.{network_served, port_serves, router_served, floating_served};
 ghost use Rattle.api_check.specs.FirstBroken.{services_broken};
 
 use crate::broken::{Inconsistent, told};
-use api_types::{FloatingRow, Kind, NetworkRow, PortRow, RouterRow, Rows};
-use service_tests::{is_served_floating, is_served_network, is_served_router, is_serving_port};
+use api_check_services::{
+    is_served_floating, is_served_network, is_served_router, is_serving_port,
+};
+use api_types::{FloatingRow, Kind, NetworkRow, PortRow, RouterRow, Rows, Shared};
 
-fn first_network(rows: &Rows, networks: &[NetworkRow]) -> Option<usize>
+fn first_network(rows: &Rows, networks: &[Shared<NetworkRow>]) -> Option<usize>
     ensures { result ≡ position (λ r. not (network_served rows.now r)) networks.now }
 {
     networks
@@ -23,7 +25,7 @@ fn broken_network(rows: &Rows) -> Option<Inconsistent>
     told(9, Kind::Network, networks, first_network(rows, networks))
 }
 
-fn first_port(rows: &Rows, ports: &[PortRow]) -> Option<usize>
+fn first_port(rows: &Rows, ports: &[Shared<PortRow>]) -> Option<usize>
     ensures { result ≡ position (λ r. not (port_serves rows.now r)) ports.now }
 {
     ports.iter().position(|port| !is_serving_port(rows, port))
@@ -36,7 +38,7 @@ fn broken_port(rows: &Rows) -> Option<Inconsistent>
     told(9, Kind::Port, ports, first_port(rows, ports))
 }
 
-fn first_router(rows: &Rows, routers: &[RouterRow]) -> Option<usize>
+fn first_router(rows: &Rows, routers: &[Shared<RouterRow>]) -> Option<usize>
     ensures { result ≡ position (λ r. not (router_served rows.now.ports r)) routers.now }
 {
     routers
@@ -51,7 +53,7 @@ fn broken_router(rows: &Rows) -> Option<Inconsistent>
     told(9, Kind::Router, routers, first_router(rows, routers))
 }
 
-fn first_floating(rows: &Rows, floatings: &[FloatingRow]) -> Option<usize>
+fn first_floating(rows: &Rows, floatings: &[Shared<FloatingRow>]) -> Option<usize>
     ensures { result ≡ position (λ r. not (floating_served rows.now r)) floatings.now }
 {
     floatings

@@ -1,6 +1,8 @@
 -- What a plan answers a tenant is what the step says at any state that the tenant can't tell from this one.
-use Rattle.std.proofs.Common.{◌≡◌, ◌∙◌, ap, sym, ◌⊎◌, inl, inr, List, Option, Some, None, Result, Ok, Err, IfOk, IfErr}
+use Rattle.std.proofs.Common.{◌≡◌, ◌∙◌, ap, sym, ◌⊎◌, inl, inr, List, Option, Some, None, true, Result, Ok, Err, IfOk, IfErr}
+use Rattle.std.specs.Prelude.{not}
 use Rattle.api_types.specs.Consistent.{IsConsistent}
+use Rattle.api_types.specs.Lists.{is_empty}
 use Rattle.api_types.specs.Outcome.{Outcome, Moved, Refused, Told}
 use Rattle.api_types.specs.Printed.{Reply}
 use Rattle.api_types.specs.declared.call.Call.{Call}
@@ -15,8 +17,8 @@ use Rattle.api_steps.proofs.StepApart.{step_apart}
 use Rattle.api_machine.specs.Alike.{AreAlike}
 use Rattle.api_machine.specs.Plan.{IsRefusalOf, PlansAs}
 
-pub told_alike : (caller : Caller) (now other : State) (call : Call) → IsConsistent now.rows → AreAlike caller now other → told (api_step default_parts now caller call) ≡ told (api_step default_parts other caller call)
-told_alike caller now other call c alike = step_apart default_parts caller now other alike.tenant c alike.consistent alike.same call
+pub told_alike : (caller : Caller) (now other : State) (call : Call) → not (is_empty caller.project) ≡ true → IsConsistent now.rows → AreAlike caller now other → told (api_step default_parts now caller call) ≡ told (api_step default_parts other caller call)
+told_alike caller now other call named c alike = step_apart default_parts caller now other alike.tenant named c alike.consistent alike.same call
 
 pub planned_told : (state : State) (outcome : Outcome) (change : Option (List Item)) (reply : Reply) → PlansAs state outcome change reply → told outcome ≡ Told reply
 planned_told state outcome None reply plans = ap told plans

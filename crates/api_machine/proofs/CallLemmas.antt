@@ -1,10 +1,11 @@
 -- A change leads where the step leads.
 use Rattle.std.proofs.Common.{◌≡◌, ℕ, zero, suc, ◌+◌, ◌-◌, ◌<◌, ◌^◌, List, [], ◌∷◌, ◌++◌, Bool, true, false, Option, Some, None, length, refl, ap, sym, subst, ◌∙◌, arith, lit<, lit≤, if◌then◌else◌}
-use Rattle.std.specs.Prelude.{◌==◌}
+use Rattle.std.specs.Prelude.{◌==◌, not}
 use Rattle.std.specs.List.{IsDistinct}
 use Rattle.std.proofs.lemmas.Bool.Decides.{nat_tests}
 use Rattle.api_types.specs.Consistent.{IsConsistent}
 use Rattle.api_types.specs.Ident.{Ident}
+use Rattle.api_types.specs.Lists.{is_empty}
 use Rattle.api_types.specs.Outcome.{Outcome, Moved}
 use Rattle.api_types.specs.Printed.{Reply}
 use Rattle.api_types.specs.Registration.{Drawing, draw_of, drawn_id, ident}
@@ -43,8 +44,8 @@ module _ (state : State) (project : List ℕ) (change : List Item) (ordinal firs
   pub drawn_at : drawing_at state project 1 ≡ Some (drawing state.rows change ordinal first)
   drawn_at = (λ j. if not_last state room j then None else draw_of state.rows project 1) ∙ d.drawn
 
-  pub drawn_so : IsConsistent state.rows → IsDrawing state.rows project 1 (drawing state.rows change ordinal first)
-  drawn_so c = draws state.rows project 1 (drawing state.rows change ordinal first) c (lit< tt) d.drawn
+  pub drawn_so : IsConsistent state.rows → not (is_empty project) ≡ true → IsDrawing state.rows project 1 (drawing state.rows change ordinal first)
+  drawn_so c named = draws state.rows project 1 (drawing state.rows change ordinal first) c named (lit< tt) d.drawn
 
   pub id_is : ident ordinal first ≡ drawn_id (drawing state.rows change ordinal first) 0
   id_is = ap (ident ordinal) (omega arith)

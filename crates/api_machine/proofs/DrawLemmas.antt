@@ -13,7 +13,8 @@ use Rattle.api_types.specs.declared.project.ProjectRow.{ProjectRow}
 use Rattle.api_types.specs.declared.group.Direction.TheVariants.{Ingress, Egress}
 use Rattle.api_types.specs.declared.group.Ethertype.TheVariants.{Ipv4, Ipv6}
 use Rattle.row_laws.specs.Drawn.{IsAbsent}
-use Rattle.row_laws.proofs.IdLemmas.{undrawn_absent, absent}
+use Rattle.api_types.proofs.IdLemmas.{undrawn_absent}
+use Rattle.row_laws.proofs.TimesLemmas.{absent}
 use Rattle.row_laws.proofs.ProjectRegistered.{undrawn_next}
 use Rattle.api_machine.specs.Items.{registration_items, raised_items}
 

@@ -4,7 +4,7 @@ use Rattle.std.specs.Prelude.{filter, find}
 use Rattle.std.specs.List.{AllByRecursion, IsDistinct}
 use Rattle.api_types.specs.Ident.{Ident}
 use Rattle.api_types.specs.Table.{HaveOwnIds, ident_eq, row_of}
-use Rattle.row_laws.proofs.NameLemmas.{ident_same}
+use Rattle.api_types.proofs.NameLemmas.{ident_same}
 
 abbrev pub if_seen : {R : Type 0} → (R → Bool) → Option R → Option R
 if_seen seen None = None

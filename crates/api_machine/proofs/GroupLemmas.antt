@@ -14,9 +14,9 @@ use Rattle.api_types.specs.Registration.{Drawing, default_group, draw_at, draw_f
 use Rattle.api_types.specs.RowLists.{RowLists}
 use Rattle.api_types.specs.declared.group.GroupRow.{GroupRow}
 use Rattle.api_types.specs.declared.project.ProjectRow.{ProjectRow}
-use Rattle.row_laws.proofs.IdLemmas.{none_found}
-use Rattle.row_laws.proofs.ListLemmas.{and_both, any-none, false_true, none-any, none_some, some_equal, any-weaker, any-at}
-use Rattle.row_laws.proofs.NameLemmas.{bytes_itself, bytes_same, by_test}
+use Rattle.api_types.proofs.IdLemmas.{none_found}
+use Rattle.api_types.proofs.ListLemmas.{and_both, any-none, false_true, none-any, none_some, some_equal, any-weaker, any-at}
+use Rattle.api_types.proofs.NameLemmas.{bytes_itself, bytes_same, by_test}
 use Rattle.api_steps.specs.Ports.{groups_at_first, ids_of}
 use Rattle.api_machine.specs.Groups.{first_groups, group_or}
 use Rattle.api_machine.proofs.PlaceLemmas.{no_place}

@@ -1,5 +1,4 @@
 pub mod DrawLemmas
-pub mod NumberLemmas
 pub mod ShownAfter
 pub mod DroppedLemmas
 pub mod PlaceLemmas

@@ -6,7 +6,7 @@ use Rattle.std.proofs.lemmas.Bool.Decides.{nat_tests}
 use Rattle.api_types.specs.Consistent.{IsConsistent}
 use Rattle.api_types.specs.Consistent.Numbered.{times_in}
 use Rattle.api_types.specs.Ident.{Ident}
-use Rattle.api_types.specs.Lists.{Each}
+use Rattle.api_types.specs.Lists.{Each, is_empty}
 use Rattle.api_types.specs.Outcome.{Outcome, Refused, Moved}
 use Rattle.api_types.specs.Printed.{NewRow, NoRow, OneRow, ShownRow}
 use Rattle.api_types.specs.Registration.{Drawing, drawn_id, ident}
@@ -28,17 +28,18 @@ use Rattle.row_laws.specs.Drawn.{IsDrawing}
 use Rattle.row_laws.specs.Gone.{without_network}
 use Rattle.row_laws.specs.NewRows.{with_network}
 use Rattle.row_laws.proofs.DrawnKept.{drawn_new}
-use Rattle.row_laws.proofs.ListLemmas.{none-counted}
-use Rattle.row_laws.proofs.NameLemmas.{unnamed}
+use Rattle.api_types.proofs.ListLemmas.{none-counted}
+use Rattle.api_types.proofs.NameLemmas.{unnamed}
 use Rattle.api_policy.specs.Visibility.{is_own, sees_network}
 use Rattle.api_steps.specs.Given.{owner_of}
+use Rattle.api_steps.specs.InForm.{have_names}
 use Rattle.api_steps.specs.Networks.{changed_network, creation_refusal, deletion_refusal, network_added, network_created, network_deleted, network_in_use, network_named, network_user, network_replaced, network_shown, network_updated, new_network, update_refusal, with_changed}
 use Rattle.api_steps.specs.NotBuilt.{is_network_ahead}
-use Rattle.api_steps.specs.Numbers.{free_number}
+use Rattle.api_ml2.specs.Numbers.{free_number}
 use Rattle.api_steps.specs.Refusing.{needing, not_found, unless, when}
 use Rattle.api_steps.specs.State.{State, drawing_at, is_last}
 use Rattle.api_steps.specs.Step.{network_asked, network_change_asked}
-use Rattle.api_steps.proofs.NetworksKept.{created_kept, deleted_kept, updated_kept}
+use Rattle.api_steps.proofs.NetworksKept.{created_kept, deleted_kept, owner_named, updated_kept}
 use Rattle.api_steps.proofs.OutcomeLemmas.{named_is, none_first, not_when}
 use Rattle.api_machine.specs.Items.{made_item}
 use Rattle.api_machine.specs.Plan.{Draws, IsRefusalOf, Leads, LeadsTo, StandsIn}
@@ -53,7 +54,7 @@ no_subnet rows project d n is same = unnamed (λ m. m.id) n.id d.rows.networks (
     none : times_in d.rows n.id ≡ 0
     none = ap (times_in d.rows) same ∙ is.fresh 0 (lit< tt)
 
-module _ (state : State) (caller : Caller) (form : NetworkForm) (c : IsConsistent state.rows) where
+module _ (state : State) (caller : Caller) (form : NetworkForm) (c : IsConsistent state.rows) (named : not (is_empty caller.project) ≡ true) (given : have_names form.project_id form.tenant_id ≡ true) where
   abbrev owner : List ℕ
   owner = owner_of caller form.project_id form.tenant_id
 
@@ -66,7 +67,7 @@ module _ (state : State) (caller : Caller) (form : NetworkForm) (c : IsConsisten
       → Leads state (network_asked default_parts state caller form) (change ++ made_item NetworkKind (length state.rows.networks) (NetworkOf network) ∷ []) (NewRow shown)
   created_leads change ordinal first number network shown built passed free room d network_is shown_is =
       let drawn : Drawing = drawing state.rows change ordinal first in
-      let is = drawn_so state owner change ordinal first room d c in
+      let is = drawn_so state owner change ordinal first room d c (owner_named caller form.project_id form.tenant_id named given) in
       let id : network.id ≡ drawn_id drawn 0 = ap (λ (n : NetworkRow). n.id) network_is ∙ id_is state owner change ordinal first room d in
       let new : RowLists = with_network drawn.rows network in
       let item = made_item NetworkKind (length state.rows.networks) (NetworkOf network) in
@@ -82,7 +83,7 @@ module _ (state : State) (caller : Caller) (form : NetworkForm) (c : IsConsisten
       leads_by state (network_asked default_parts state caller form) (change ++ item ∷ []) (NewRow shown) new
       (and_then state.rows change item d.fits (tt, refl, (ap length (sym is.networks), none)))
       (ap (λ b. if b then Refused NotBuilt else network_created default_parts state caller form) built ∙ made)
-      (created_kept default_parts state caller form new (NewRow shown) default_rules c made) room
+      (created_kept default_parts state caller form new (NewRow shown) default_rules c named given made) room
 
 module _ (state : State) (caller : Caller) (name : IdText) (c : IsConsistent state.rows) (n : NetworkRow) (found : network_named state.rows caller name ≡ Some n) where
   pub stands : StandsIn state.rows.networks n

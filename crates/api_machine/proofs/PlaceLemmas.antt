@@ -5,7 +5,7 @@ use Rattle.std.specs.List.{position_or_len}
 use Rattle.std.proofs.lemmas.Bool.Decides.{nat_tests}
 use Rattle.std.proofs.lemmas.List.Sums.{fails_before_first}
 use Rattle.std.proofs.lemmas.Option.{slice_get-get_or, slice_get_within}
-use Rattle.row_laws.proofs.ListLemmas.{none_some, some_equal}
+use Rattle.api_types.proofs.ListLemmas.{none_some, some_equal}
 
 least : (k p n : ℕ) → k < n → nat_lt p n ≡ false → k < p
 least k p n within h = grind (arith, nat_tests)

@@ -1,8 +1,9 @@
 -- What the creation of a port comes to, where nothing forbids it.
 use Rattle.std.proofs.Common.{◌≡◌, ℕ, ◌+◌, ◌-◌, ◌<◌, ◌^◌, List, [], ◌∷◌, ◌++◌, Bool, true, false, Option, Some, None, length, refl, ap, sym, subst, ◌∙◌, ◌⊎◌, inl, inr, lit<, if◌then◌else◌}
-use Rattle.std.specs.Prelude.{codes}
+use Rattle.std.specs.Prelude.{codes, not}
 use Rattle.api_types.specs.Consistent.{IsConsistent}
 use Rattle.api_types.specs.Ident.{Ident}
+use Rattle.api_types.specs.Lists.{is_empty}
 use Rattle.api_types.specs.Outcome.{Outcome, Refused, Moved}
 use Rattle.api_types.specs.Printed.{NewRow, ShownRow}
 use Rattle.api_types.specs.Registration.{Drawing, drawn_id, ident}
@@ -30,6 +31,7 @@ use Rattle.api_steps.specs.Ports.{creation_refusal, groups_at_first, new_port, p
 use Rattle.api_steps.specs.Refusing.{at_name, needing, not_found, unless, when}
 use Rattle.api_steps.specs.State.{State, drawing_at}
 use Rattle.api_steps.specs.Step.{port_asked}
+use Rattle.api_steps.proofs.NetworksKept.{owner_named}
 use Rattle.api_steps.proofs.StepKept.{step_kept}
 use Rattle.api_machine.specs.Groups.{first_groups}
 use Rattle.api_machine.specs.Items.{made_item}
@@ -38,7 +40,7 @@ use Rattle.api_machine.proofs.CallLemmas.{and_then, default_rules, drawing, draw
 use Rattle.api_machine.proofs.GroupLemmas.{groups_same}
 use Rattle.api_machine.proofs.ShownAfter.{port_alike}
 
-module _ (state : State) (caller : Caller) (form : PortForm) (c : IsConsistent state.rows) (given : IsPortForm form) where
+module _ (state : State) (caller : Caller) (form : PortForm) (c : IsConsistent state.rows) (named : not (is_empty caller.project) ≡ true) (given : IsPortForm form) where
   abbrev owner : List ℕ
   owner = owner_of caller form.project_id form.tenant_id
 
@@ -58,7 +60,7 @@ module _ (state : State) (caller : Caller) (form : PortForm) (c : IsConsistent s
       → Leads state (port_asked default_parts state caller form) (change ++ made_item PortKind (length state.rows.ports) (PortOf port) ∷ []) (NewRow shown)
   created_leads n change ordinal first port shown built alike found passed room d port_is shown_is =
       let drawn : Drawing = drawing state.rows change ordinal first in
-      let is = drawn_so state owner change ordinal first room d c in
+      let is = drawn_so state owner change ordinal first room d c (owner_named caller form.project_id form.tenant_id named given.projects) in
       let id : port.id ≡ drawn_id drawn 0 = ap (λ (p : PortRow). p.id) port_is ∙ id_is state owner change ordinal first room d in
       let new : RowLists = with_port drawn.rows port in
       let item = made_item PortKind (length state.rows.ports) (PortOf port) in
@@ -77,7 +79,7 @@ module _ (state : State) (caller : Caller) (form : PortForm) (c : IsConsistent s
       let asked : port_asked default_parts state caller form ≡ Moved new (NewRow shown) = ap (λ b. if b then Refused NotBuilt else port_created default_parts state caller form) built ∙ made in
       leads_by state (port_asked default_parts state caller form) (change ++ item ∷ []) (NewRow shown) new
       (and_then state.rows change item d.fits (tt, refl, (ap length (sym is.ports), none))) asked
-      (step_kept default_parts state caller (Create (PortOfForm form)) new (NewRow shown) default_rules c given asked) room
+      (step_kept default_parts state caller (Create (PortOfForm form)) new (NewRow shown) default_rules c (record { named = named; body = given }) asked) room
 
 module _ (state : State) (caller : Caller) (form : PortForm) (built : is_port_ahead form ≡ false) (alike : are_unlike form.project_id form.tenant_id ≡ false) where
   abbrev here : Option NetworkRow

@@ -9,8 +9,8 @@ use Rattle.api_types.specs.Table.{ident_eq}
 use Rattle.api_types.specs.declared.kind.Kind.TheVariants.{Network as NetworkKind}
 use Rattle.api_types.specs.declared.kind.Row.TheVariants.{Network as NetworkOf}
 use Rattle.api_types.specs.declared.network.NetworkRow.{NetworkRow}
-use Rattle.row_laws.proofs.ListLemmas.{false_true, one_row, some_equal}
-use Rattle.row_laws.proofs.NameLemmas.{ident_itself}
+use Rattle.api_types.proofs.ListLemmas.{false_true, one_row, some_equal}
+use Rattle.api_types.proofs.NameLemmas.{ident_itself}
 use Rattle.api_steps.specs.Networks.{with_changed}
 use Rattle.api_steps.proofs.OutcomeLemmas.{put_once}
 use Rattle.api_machine.specs.Items.{set_item}

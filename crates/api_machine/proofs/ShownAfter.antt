@@ -16,13 +16,13 @@ use Rattle.api_types.specs.declared.network.NetworkRow.{NetworkRow}
 use Rattle.api_types.specs.declared.policy.Action.TheVariants.{External, Shared}
 use Rattle.api_types.specs.declared.port.PortRow.{PortRow}
 use Rattle.api_types.specs.declared.subnet.SubnetRow.{SubnetRow}
-use Rattle.plane_types.specs.Live.{is_live}
-use Rattle.row_laws.proofs.ListLemmas.{any-set_same}
-use Rattle.row_laws.proofs.NameLemmas.{ident_itself}
+use Rattle.api_types.specs.Live.{is_live}
+use Rattle.api_types.proofs.ListLemmas.{any-set_same}
+use Rattle.api_types.proofs.NameLemmas.{ident_itself}
 use Rattle.api_policy.specs.Visibility.{is_own, sees_subnet, uses_network}
-use Rattle.api_shown.specs.Networks.{is_open, network_members, number_of, physical_of, subnets_of, type_word}
-use Rattle.api_shown.specs.Shown.{shown_as}
-use Rattle.api_shown.specs.Trees.{id_word, list_of}
+use Rattle.api_policy.specs.Networks.{is_open, network_members, number_of, physical_of, subnets_of, type_word}
+use Rattle.api_policy.specs.Shown.{shown_as}
+use Rattle.api_policy.specs.Trees.{id_word, list_of}
 use Rattle.api_steps.specs.Networks.{network_shown, with_changed}
 use Rattle.api_steps.specs.Ports.{port_shown}
 use Rattle.api_steps.proofs.OutcomeLemmas.{put_once}

@@ -9,7 +9,8 @@ ghost use Rattle.api_machine.specs.Plan.{Draws};
 
 use crate::items::made;
 use api_types::{
-    Change, Direction, Ethertype, GroupRow, Id, Item, Kind, ProjectRow, Refusal, Row, Rows, RuleRow,
+    Change, Direction, Ethertype, GroupRow, Id, Item, Kind, ProjectRow, Refusal, Row, Rows,
+    RuleRow, Shared,
 };
 use net_addr::{Copies, OutOfMemory, Same, Seq, Text};
 use std::alloc::Global;
@@ -31,7 +32,7 @@ pub struct Drawn {
 }
 
 /// The place of the project with this name.
-pub fn place_of(projects: &[ProjectRow], name: &Text) -> Option<usize>
+pub fn place_of(projects: &[Shared<ProjectRow>], name: &Text) -> Option<usize>
     ensures { result ≡ position (is_named name.now) projects.now }
 {
     projects.iter().position(|project| project.name == *name)
@@ -155,7 +156,7 @@ fn draw_ids(alloc: Global, rows: &Rows, name: &Text, many: u64) -> Result<Drawn,
             first: REGISTERED + 1,
         });
     };
-    let project = &projects[place];
+    let project = projects[place].get();
     if project.count >= COUNTS - many {
         return Err(Refusal::CountersSpent);
     }

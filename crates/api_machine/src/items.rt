@@ -8,7 +8,7 @@ ghost use Rattle.api_machine.specs.Items.{dropped_items, made_item, set_item};
 ghost use Rattle.api_machine.specs.Plan.{LeadsTo};
 
 use api_types::{
-    Change, Id, Item, Keyed, Kind, NetworkRow, PolicyRow, PortRow, Row, Rows, SubnetRow,
+    Change, Id, Item, Keyed, Kind, NetworkRow, PolicyRow, PortRow, Row, Rows, Shared, SubnetRow,
 };
 use net_addr::{Copies, OutOfMemory, Seq};
 use std::alloc::Global;
@@ -113,7 +113,7 @@ fn drop_rows<R: OfNetwork>(
     alloc: Global,
     change: &mut Change,
     kind: Kind,
-    rows: &[R],
+    rows: &[Shared<R>],
     network: Id,
 ) -> Result<(), OutOfMemory>
     ensures { OnOk result (change.new ≡ change.old ++ dropped_items kind R.row_of (R.network_of network) 0 rows.now) }
@@ -124,7 +124,7 @@ fn drop_rows<R: OfNetwork>(
             change.push(Item {
                 kind,
                 place,
-                before: Some(row.copy(alloc)?.into_row()),
+                before: Some(row.get().copy(alloc)?.into_row()),
                 after: None,
             })?;
         } else {

@@ -12,7 +12,6 @@ mod items;
 mod machine;
 mod named;
 mod network;
-mod numbers;
 mod port;
 mod reads;
 

@@ -1,5 +1,6 @@
-ghost use Rattle.std.specs.Prelude.{◌≡◌, ◌+◌, ◌-◌, ◌^◌, ◌<◌, None, IfOk, IfErr};
+ghost use Rattle.std.specs.Prelude.{◌≡◌, ◌+◌, ◌-◌, ◌^◌, ◌<◌, None, IfOk, IfErr, not, true};
 ghost use Rattle.api_types.specs.Consistent.{IsConsistent};
+ghost use Rattle.api_types.specs.Lists.{is_empty};
 ghost use Rattle.api_types.specs.Outcome.{Told};
 ghost use Rattle.api_types.specs.Printed.{reply_of};
 ghost use Rattle.api_types.specs.Rows.{Fits, after, no_rows};
@@ -110,7 +111,7 @@ impl Machine {
     /// the rows of now and leaves consistent ones. Nothing changes. A tenant is answered as at any
     /// other state in which it has the same footing. Its cost grows with the rows.
     pub fn plan(&self, alloc: Global, caller: &Caller, call: &Call) -> Result<Planned, Refusal>
-        requires in_form { IsInForm call.now }
+        requires in_form { IsInForm caller.now call.now }
         ensures ok { IfOk result (Plans self.now (api_step default_parts self.now caller.now call.now)) }
         ensures err { IfErr result (IsRefusalOf (api_step default_parts self.now caller.now call.now)) }
         ensures answer_apart { (other : State) → AreAlike caller.now self.now other → IfOk result (λ p. told (api_step default_parts other caller.now call.now) ≡ Told (reply_of p.answer)) }
@@ -121,7 +122,7 @@ impl Machine {
     }
 
     fn planned(&self, alloc: Global, caller: &Caller, call: &Call) -> Result<Planned, Refusal>
-        requires { IsInForm call.now }
+        requires { IsInForm caller.now call.now }
         ensures ok { IfOk result (Plans self.now (api_step default_parts self.now caller.now call.now)) }
         ensures err { IfErr result (IsRefusalOf (api_step default_parts self.now caller.now call.now)) }
     {
@@ -180,7 +181,8 @@ impl Machine {
     }
 
     fn create(&self, alloc: Global, caller: &Caller, form: &Form) -> Result<Planned, Refusal>
-        requires { IsForm form.now }
+        requires named { not (is_empty caller.now.project) ≡ true }
+        requires in_form { IsForm form.now }
         ensures ok { IfOk result (Plans self.now (row_created default_parts self.now caller.now form.now)) }
         ensures err { IfErr result (IsRefusalOf (row_created default_parts self.now caller.now form.now)) }
     {

@@ -1,8 +1,10 @@
-ghost use Rattle.std.specs.Prelude.{◌≡◌, IfOk, IfErr, option_copied, position};
+ghost use Rattle.std.specs.Prelude.{◌≡◌, IfOk, IfErr, not, option_copied, position, true};
 ghost use Rattle.api_types.specs.Consistent.{IsConsistent};
+ghost use Rattle.api_types.specs.Lists.{is_empty};
 ghost use Rattle.api_types.specs.Table.{ident_eq};
 ghost use Rattle.api_types.specs.declared.network.NetworkRow.{NetworkRow as NetworkOf};
 ghost use Rattle.net_settings.specs.Defaults.{default_parts};
+ghost use Rattle.api_steps.specs.InForm.{have_names};
 ghost use Rattle.api_steps.specs.Networks.{changed_network as changed_of, creation_refusal, deletion_refusal, network_deleted, network_in_use, network_user, new_network as network_of, update_refusal};
 ghost use Rattle.api_steps.specs.Step.{network_asked, network_change_asked};
 ghost use Rattle.api_steps.specs.State.{State};
@@ -15,15 +17,14 @@ use crate::given::{are_unlike, is_for_other, owner, text_or, value_or};
 use crate::items::{made, removal, set};
 use crate::machine::Planned;
 use crate::named::{forbidden, is_own, named, not_found};
-use crate::numbers::free_number;
+use api_ml2::free_number;
 use api_policy::Visible;
 use api_shown::shown_of;
 use api_types::{
     Answer, Caller, Change, Id, IdText, Kind, NetworkForm, NetworkRow, PolicyRule, PortRow,
-    Refusal, Row, Rows, Segment, UseRule,
+    Refusal, Row, Rows, Segment, Shared, UseRule, is_dhcp,
 };
 use net_addr::{Copies, OutOfMemory, Same, Seq, Text};
-use row_tests::is_dhcp;
 use std::alloc::Global;
 
 fn new_network(
@@ -68,7 +69,9 @@ pub fn create_network(
     caller: &Caller,
     form: &NetworkForm,
 ) -> Result<Planned, Refusal>
-    requires { IsConsistent rows.now }
+    requires consistent { IsConsistent rows.now }
+    requires named { not (is_empty caller.now.project) ≡ true }
+    requires in_form { have_names form.now.project_id form.now.tenant_id ≡ true }
     ensures ok { let state : State = record { rows = rows.now; version = version } in IfOk result (Plans state (network_asked default_parts state caller.now form.now)) }
     ensures err { let state : State = record { rows = rows.now; version = version } in IfErr result (IsRefusalOf (network_asked default_parts state caller.now form.now)) }
 {
@@ -136,7 +139,7 @@ fn check_update(
     Ok(())
 }
 
-fn place_of(networks: &[NetworkRow], id: Id) -> Option<usize>
+fn place_of(networks: &[Shared<NetworkRow>], id: Id) -> Option<usize>
     ensures { result ≡ position (λ (n : NetworkOf). ident_eq id n.id) networks.now }
 {
     networks.iter().position(|network| id == network.id)
@@ -204,12 +207,15 @@ pub fn update_network(
 }
 
 // The first port on a network that is no DHCP port.
-fn user(ports: &[PortRow], network: Id) -> Option<&PortRow>
+fn user(ports: &[Shared<PortRow>], network: Id) -> Option<&PortRow>
     ensures { option_copied result ≡ network_user ports.now network }
 {
-    ports
-        .iter()
-        .find(|port| network == port.network && !is_dhcp(&port.owner))
+    for port in ports {
+        if network == port.network && !is_dhcp(&port.owner) {
+            return Some(port);
+        }
+    }
+    None
 }
 
 fn in_use(rows: &Rows, caller: &Caller, network: Id, port: &PortRow) -> Refusal

@@ -1,8 +1,6 @@
-ghost use Rattle.std.specs.Prelude.{◌≡◌, ◌<◌, ◌^◌, ℕ, IfOk, IfErr, Some, codes, find, option_copied, true, false};
+ghost use Rattle.std.specs.Prelude.{◌≡◌, ◌<◌, ◌^◌, ℕ, IfOk, IfErr, Some, find, not, option_copied, true, false};
 ghost use Rattle.api_types.specs.Consistent.{IsConsistent};
-ghost use Rattle.net_settings.specs.Defaults.{default_host, default_parts};
-ghost use Rattle.api_check.specs.Carrying.{can_carry as can_carry_of};
-ghost use Rattle.api_steps.specs.Binding.{bound as bound_of};
+ghost use Rattle.net_settings.specs.Defaults.{default_parts};
 ghost use Rattle.api_steps.specs.InForm.{IsPortForm};
 ghost use Rattle.api_steps.specs.Ports.{creation_refusal, has_subnet as has_subnet_of, is_for_admin as is_for_admin_of, is_for_owner as is_for_owner_of, is_held as is_held_of, may_use as may_use_of, new_port as port_of, text_of};
 ghost use Rattle.api_steps.specs.Step.{port_asked};
@@ -11,6 +9,7 @@ ghost use Rattle.api_steps.specs.Given.{value_of, value_or as value_or_of};
 ghost use Rattle.api_steps.specs.State.{State};
 ghost use Rattle.api_types.specs.declared.kind.Kind.TheVariants.{Network as NetworkKind};
 ghost use Rattle.api_types.specs.Consistent.Groups.{is_default_of};
+ghost use Rattle.api_types.specs.Lists.{is_empty};
 ghost use Rattle.api_types.specs.Registration.{ident};
 ghost use Rattle.api_machine.specs.Groups.{first_groups, group_or};
 ghost use Rattle.api_machine.specs.Open.{IsOpen};
@@ -22,41 +21,14 @@ use crate::given::{are_unlike, is_for_other, is_given, owner, text_or, value_or}
 use crate::items::made;
 use crate::machine::Planned;
 use crate::named::{forbidden, is_own, named, not_found};
-use api_policy::is_shared_with;
+use api_ml2::bound;
 use api_shown::shown_of;
 use api_types::{
     Answer, Caller, Given, GroupRow, Id, Kind, NetworkRow, PolicyRule, PortForm, PortRow, Refusal,
-    Row, Rows, Segment, SubnetRow, Value, Vif,
+    Row, Rows, Shared, SubnetRow, Value, is_shared_with,
 };
 use net_addr::{Copies, Mac, OutOfMemory, Seq, Text};
 use std::alloc::Global;
-
-// Whether a host of the default settings can carry the segment.
-fn can_carry(segment: &Segment) -> bool
-    ensures first { result ≡ can_carry_of (default_host (codes "c1") true) segment.now }
-    ensures second { result ≡ can_carry_of (default_host (codes "c2") false) segment.now }
-{
-    match segment {
-        Segment::Local | Segment::Vxlan { number: _ } => true,
-        Segment::Flat { physical } => physical.as_str() == "physnet1",
-        Segment::Vlan { physical, tag: _ } => physical.as_str() == "physnet1",
-    }
-}
-
-// How a port is bound to a host by the default settings.
-fn bound(segment: &Segment, host: &Text) -> Vif
-    ensures { result ≡ bound_of default_parts segment.now host.now }
-{
-    if host.is_empty() {
-        return Vif::Unbound;
-    }
-    let is_there = host.as_str() == "c1" || host.as_str() == "c2";
-    if is_there && can_carry(segment) {
-        Vif::Ovs
-    } else {
-        Vif::Failed
-    }
-}
 
 fn given_id(given: &Given<Id>) -> Option<Id>
     ensures { result ≡ value_of given.now }
@@ -97,14 +69,14 @@ fn is_for_owner(form: &PortForm) -> bool
     is_given(&form.mac_address) || is_given(&form.port_security_enabled)
 }
 
-fn has_subnet(subnets: &[SubnetRow], network: Id) -> bool
+fn has_subnet(subnets: &[Shared<SubnetRow>], network: Id) -> bool
     ensures { result ≡ has_subnet_of subnets.now network }
 {
     subnets.iter().any(|subnet| network == subnet.network)
 }
 
 // Whether a port of the network has the MAC address.
-fn is_held(ports: &[PortRow], network: Id, mac: Mac) -> bool
+fn is_held(ports: &[Shared<PortRow>], network: Id, mac: Mac) -> bool
     ensures { result ≡ is_held_of ports.now network (Some mac) }
 {
     ports
@@ -176,16 +148,19 @@ fn port_network<'r>(
     Ok(network)
 }
 
-fn default_of<'g>(groups: &'g [GroupRow], owner: &Text) -> Option<&'g GroupRow>
+fn default_of<'g>(groups: &'g [Shared<GroupRow>], owner: &Text) -> Option<&'g GroupRow>
     ensures { option_copied result ≡ find (is_default_of owner.now) groups.now }
 {
-    groups
-        .iter()
-        .find(|group| group.is_default && group.project == *owner)
+    for group in groups {
+        if group.is_default && group.project == *owner {
+            return Some(group);
+        }
+    }
+    None
 }
 
 // The default group of a project; one that is new has it from its registration on.
-fn default_group(groups: &[GroupRow], owner: &Text, ordinal: u32) -> Id
+fn default_group(groups: &[Shared<GroupRow>], owner: &Text, ordinal: u32) -> Id
     ensures { result ≡ group_or (ident ordinal 1) (find (is_default_of owner.now) groups.now) }
 {
     match default_of(groups, owner) {
@@ -197,7 +172,7 @@ fn default_group(groups: &[GroupRow], owner: &Text, ordinal: u32) -> Id
 // The groups of a port that names none: the default one, where it is filtered.
 fn groups_at_first(
     alloc: Global,
-    groups: &[GroupRow],
+    groups: &[Shared<GroupRow>],
     owner: &Text,
     ordinal: u32,
     secured: bool,
@@ -256,6 +231,7 @@ pub fn create_port(
     form: &PortForm,
 ) -> Result<Planned, Refusal>
     requires consistent { IsConsistent rows.now }
+    requires named { not (is_empty caller.now.project) ≡ true }
     requires in_form { IsPortForm form.now }
     ensures ok { let state : State = record { rows = rows.now; version = version } in IfOk result (Plans state (port_asked default_parts state caller.now form.now)) }
     ensures err { let state : State = record { rows = rows.now; version = version } in IfErr result (IsRefusalOf (port_asked default_parts state caller.now form.now)) }

@@ -5,8 +5,8 @@ use Rattle.std.specs.List.{IsDistinct, AllByRecursion, list_any}
 use Rattle.api_types.specs.Ident.{Ident}
 use Rattle.api_types.specs.Table.{ident_eq, row_of, HaveOwnIds}
 use Rattle.api_types.specs.Lists.{stands_so, is_some_so}
-use Rattle.row_laws.proofs.NameLemmas.{ident_same}
-use Rattle.row_laws.proofs.ListLemmas.{or_false}
+use Rattle.api_types.proofs.NameLemmas.{ident_same}
+use Rattle.api_types.proofs.ListLemmas.{or_false}
 
 module _ {R : Type 0} (id_of : R → Ident) (test : R → Bool) where
   -- no row passes where none has the id

@@ -1,1 +1,12 @@
 pub mod Visibility
+pub mod Trees
+pub mod Networks
+pub mod Subnets
+pub mod Ports
+pub mod Groups
+pub mod Routers
+pub mod Floatings
+pub mod Policies
+pub mod Shown
+pub mod Filtered
+pub mod Listed

@@ -4,10 +4,9 @@ ghost use Rattle.api_types.specs.RowLists.{RowLists};
 ghost use Rattle.api_types.specs.declared.call.Caller.{Caller as TheCaller};
 ghost use Rattle.api_policy.specs.Visibility.{is_own as is_own_of, owns_network as owns_network_of, uses_network as uses_network_of, sees_network, sees_subnet, sees_port, sees_row};
 
-use crate::granted::{is_external_to, is_shared_with};
 use api_types::{
     Caller, FloatingRow, GroupRow, Id, Keyed, Kind, NetworkRow, PolicyRow, PortRow, RouterRow,
-    Rows, RuleRow, SubnetRow, Table,
+    Rows, RuleRow, SubnetRow, Table, is_external_to, is_shared_with,
 };
 use net_addr::Text;
 

@@ -1,15 +1,20 @@
 -- A sorted list of prefixes, each once.
 use Rattle.std.proofs.Common.{◌≡◌, ◌∙◌, List, [], ◌∷◌, Bool, true, false, true≢false, refl, sym, ap, arith}
-use Rattle.std.specs.Prelude.{◌||◌, ◌==◌, if◌then◌else◌}
+use Rattle.std.specs.Prelude.{◌||◌, ◌&&◌, ◌==◌, if◌then◌else◌}
 use Rattle.std.specs.Cmp.{IsStrictWeakOrder}
 use Rattle.std.specs.List.{list_any}
 use Rattle.std.proofs.lemmas.Bool.{and_parts, eqb-true}
 use Rattle.std.proofs.lemmas.Bool.Decides.{nat_tests}
+use Rattle.net_addr.specs.Addresses.{addr_eq}
+use Rattle.net_addr.specs.Ordered.{same_place}
 use Rattle.net_addr.specs.Prefixes.{Prefix}
+use Rattle.net_addr.specs.declared.address.Addr.{Addr}
+use Rattle.net_addr.specs.declared.address.Addr.TheVariants.{V4, V6}
+use Rattle.net_addr.proofs.AddrLemmas.{addr_same}
 use Rattle.api_types.specs.Consistent.Groups.{prefix_eq}
-use Rattle.plane_types.specs.Ascending.{ascending, put_in}
-use Rattle.plane_types.specs.TableRows.{once, prefix_before}
-use Rattle.plane_rows.proofs.SortLemmas.{Least, Rises, ascending_rises, least_more}
+use Rattle.api_types.specs.Ascending.{ascending, put_in, prefix_before}
+use Rattle.api_types.specs.Members.{once}
+use Rattle.api_types.proofs.SortLemmas.{Least, Rises, ascending_rises, least_more}
 use Rattle.api_secgroup.specs.Repeats.{begins_with, without_repeats}
 
 any-put_in : {X : Type 0} (before : X → X → Bool) (T : X → Bool) (x : X) (ys : List X) → list_any T (put_in before x ys) ≡ (T x || list_any T ys)
@@ -33,15 +38,23 @@ any-ascending before T (x ∷ xs) = any-put_in before T x (ascending before xs) 
 
 prefix_same : (a b : Prefix) → prefix_eq a b ≡ true → a ≡ b
 prefix_same a b h =
-    let p = and_parts (a.base == b.base) (a.len == b.len) h in
-    ap (λ x. record { base = x; len = a.len }) (eqb-true a.base b.base p.0) ∙ ap (λ x. record { base = b.base; len = x }) (eqb-true a.len b.len p.1)
+    let p = and_parts (addr_eq a.base b.base) (a.len == b.len) h in
+    ap (λ x. record { base = x; len = a.len }) (addr_same a.base b.base p.0) ∙ ap (λ x. record { base = b.base; len = x }) (eqb-true a.len b.len p.1)
 
 prefix_order : IsStrictWeakOrder prefix_before
 prefix_order = record { one_way = λ x y h. grind (arith, nat_tests); chain = λ x y z h k. grind (arith, nat_tests) }
 
+placed : (x y : Addr) → same_place x y ≡ addr_eq x y
+placed (V4 m) (V4 n) = refl
+placed (V4 m) (V6 n) = refl
+placed (V6 m) (V4 n) = refl
+placed (V6 m) (V6 n) = refl
+
 -- neither comes before the other
 prefix_meets : (a b : Prefix) → prefix_before a b ≡ false → prefix_before b a ≡ false → prefix_eq a b ≡ true
-prefix_meets a b h k = grind (arith, nat_tests)
+prefix_meets a b h k =
+    let there : same_place a.base b.base && (a.len == b.len) ≡ true = grind (arith, nat_tests) in
+    ap (λ c. c && (a.len == b.len)) (sym (placed a.base b.base)) ∙ there
 
 -- what comes before another isn't it
 apart : (x y : Prefix) → prefix_before x y ≡ true → prefix_eq x y ≡ false

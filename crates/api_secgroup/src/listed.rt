@@ -1,28 +1,18 @@
 ghost use Rattle.std.specs.Prelude.{◌≡◌, ◌++◌, IfOk, OnOk, flat_map, map};
+ghost use Rattle.net_addr.specs.Ordered.{whole_prefix};
 ghost use Rattle.api_types.specs.declared.port.Fixed.{Fixed as TheFixed};
 ghost use Rattle.api_types.specs.declared.port.Pair.{Pair as ThePair};
-ghost use Rattle.plane_types.specs.Ascending.{ascending as in_order};
-ghost use Rattle.plane_types.specs.TableRows.{members as members_of, once, prefix_before as comes_before, prefixes_of};
+ghost use Rattle.api_types.specs.Ascending.{ascending as in_order, prefix_before as comes_before};
+ghost use Rattle.api_types.specs.Members.{members as members_of, once, prefixes_of};
 ghost use Rattle.api_secgroup.specs.Repeats.{begins_with as first_is, without_repeats as apart};
 
-use api_types::{Fixed, Id, Pair, PortRow, Rows};
-use net_addr::{Addr4, OutOfMemory, Prefix4, Prefixes, Seq};
-use plane_rows::{ascending, names_group};
+use api_types::{Fixed, Id, Pair, PortRow, Rows, Shared, ascending, names_group};
+use net_addr::{OutOfMemory, Prefix, Prefixes, Seq};
 use std::alloc::Global;
 
-// The prefix with one address.
-fn of_one(address: Addr4) -> Prefix4
-    ensures { result ≡ record { base = address; len = 32 } }
-{
-    Prefix4 {
-        base: address,
-        len: 32,
-    }
-}
-
 // Whether the first of these is the prefix.
-fn begins_with(sorted: &[Prefix4], prefix: Prefix4) -> bool
-    ensures { result ≡ first_is prefix sorted.now }
+fn begins_with(sorted: &[Prefix], prefix: &Prefix) -> bool
+    ensures { result ≡ first_is prefix.now sorted.now }
 {
     match sorted.first() {
         Some(other) => prefix.base == other.base && prefix.len == other.len,
@@ -32,13 +22,13 @@ fn begins_with(sorted: &[Prefix4], prefix: Prefix4) -> bool
 
 // Of neighbours that are the same, the last.
 #[tactic(auto, unfolding(crate::specs::Repeats::without_repeats))]
-fn without_repeats(alloc: Global, sorted: &[Prefix4]) -> Result<Vec<Prefix4>, OutOfMemory>
+fn without_repeats(alloc: Global, sorted: &[Prefix]) -> Result<Vec<Prefix>, OutOfMemory>
     ensures { IfOk result (λ v. v.items ≡ apart sorted.now) }
 {
     let mut kept = Vec::new(alloc);
     let mut rest = sorted;
     while let Some((prefix, others)) = rest.split_first() {
-        if !begins_with(others, *prefix) {
+        if !begins_with(others, prefix) {
             kept.push(*prefix)?;
         }
         rest = others;
@@ -48,7 +38,7 @@ fn without_repeats(alloc: Global, sorted: &[Prefix4]) -> Result<Vec<Prefix4>, Ou
 
 // In ascending order, each once.
 #[tactic(auto, using(crate::proofs::MemberLemmas::each_once))]
-fn sorted_once(alloc: Global, prefixes: Vec<Prefix4>) -> Result<Vec<Prefix4>, OutOfMemory>
+fn sorted_once(alloc: Global, prefixes: Vec<Prefix>) -> Result<Vec<Prefix>, OutOfMemory>
     ensures { IfOk result (λ v. v.items ≡ in_order comes_before (once prefixes.items)) }
 {
     let sorted = ascending(prefixes)?;
@@ -56,17 +46,17 @@ fn sorted_once(alloc: Global, prefixes: Vec<Prefix4>) -> Result<Vec<Prefix4>, Ou
 }
 
 // Adds a prefix for each address of a port.
-fn add_addresses(prefixes: &mut Vec<Prefix4>, fixed: &[Fixed]) -> Result<(), OutOfMemory>
-    ensures { OnOk result (prefixes.new.items ≡ prefixes.old.items ++ map (λ (f : TheFixed). record { base = f.address; len = 32 }) fixed.now) }
+fn add_addresses(prefixes: &mut Vec<Prefix>, fixed: &[Fixed]) -> Result<(), OutOfMemory>
+    ensures { OnOk result (prefixes.new.items ≡ prefixes.old.items ++ map (λ (f : TheFixed). whole_prefix f.address) fixed.now) }
 {
     for held in fixed {
-        prefixes.push(of_one(held.address))?;
+        prefixes.push(held.address.whole_prefix())?;
     }
     Ok(())
 }
 
 // Adds the prefix of each pair of a port.
-fn add_pairs(prefixes: &mut Vec<Prefix4>, pairs: &[Pair]) -> Result<(), OutOfMemory>
+fn add_pairs(prefixes: &mut Vec<Prefix>, pairs: &[Pair]) -> Result<(), OutOfMemory>
     ensures { OnOk result (prefixes.new.items ≡ prefixes.old.items ++ map (λ (x : ThePair). x.prefix) pairs.now) }
 {
     for pair in pairs {
@@ -76,7 +66,7 @@ fn add_pairs(prefixes: &mut Vec<Prefix4>, pairs: &[Pair]) -> Result<(), OutOfMem
 }
 
 // Adds the prefixes of a port, where it names the group.
-fn add_prefixes(prefixes: &mut Vec<Prefix4>, port: &PortRow, group: Id) -> Result<(), OutOfMemory>
+fn add_prefixes(prefixes: &mut Vec<Prefix>, port: &PortRow, group: Id) -> Result<(), OutOfMemory>
     ensures { OnOk result (prefixes.new.items ≡ prefixes.old.items ++ prefixes_of group port.now) }
 {
     if !names_group(port, group) {
@@ -87,7 +77,11 @@ fn add_prefixes(prefixes: &mut Vec<Prefix4>, port: &PortRow, group: Id) -> Resul
 }
 
 // The prefixes of all ports that name the group.
-fn prefixes_of_all(alloc: Global, ports: &[PortRow], group: Id) -> Result<Vec<Prefix4>, OutOfMemory>
+fn prefixes_of_all(
+    alloc: Global,
+    ports: &[Shared<PortRow>],
+    group: Id,
+) -> Result<Vec<Prefix>, OutOfMemory>
     ensures { IfOk result (λ v. v.items ≡ flat_map (prefixes_of group) ports.now) }
 {
     let mut prefixes = Vec::new(alloc);
@@ -98,9 +92,9 @@ fn prefixes_of_all(alloc: Global, ports: &[PortRow], group: Id) -> Result<Vec<Pr
 }
 
 /// The members of a group, in ascending order and each once: the fixed addresses, as prefixes of
-/// length 32, and the prefixes of the allowed pairs of all ports that name it. Its cost grows with
+/// their whole length, and the prefixes of the allowed pairs of all ports that name it. Its cost grows with
 /// the ports, and with the members and the logarithm of their number.
-#[tactic(auto, unfolding(plane_types::specs::TableRows::members))]
+#[tactic(auto, unfolding(api_types::specs::Members::members))]
 pub fn members(alloc: Global, rows: &Rows, group: Id) -> Result<Prefixes, OutOfMemory>
     ensures { IfOk result (λ p. p ≡ members_of rows.now group) }
 {

@@ -1,19 +1,18 @@
 ghost use Rattle.std.specs.Prelude.{◌≡◌};
-ghost use Rattle.plane_types.specs.Filter.{gives_member as gives_member_to, in_pairs as in_pairs_of, is_member as is_member_of};
+ghost use Rattle.api_types.specs.Members.{gives_member as gives_member_to, in_pairs as in_pairs_of, is_member as is_member_of};
 
-use api_types::{Id, Pair, PortRow, Rows};
-use net_addr::Addr4;
-use plane_rows::{holds, names_group};
+use api_types::{Id, Pair, PortRow, Rows, holds, names_group};
+use net_addr::Addr;
 
-fn in_pairs(pairs: &[Pair], address: Addr4) -> bool
-    ensures { result ≡ in_pairs_of pairs.now address }
+fn in_pairs(pairs: &[Pair], address: &Addr) -> bool
+    ensures { result ≡ in_pairs_of pairs.now address.now }
 {
-    pairs.iter().any(|pair| pair.prefix.contains(address))
+    pairs.iter().any(|pair| pair.prefix.contains(*address))
 }
 
 // Whether a port makes the address a member's.
-fn gives_member(port: &PortRow, group: Id, address: Addr4) -> bool
-    ensures { result ≡ gives_member_to group address port.now }
+fn gives_member(port: &PortRow, group: Id, address: &Addr) -> bool
+    ensures { result ≡ gives_member_to group address.now port.now }
 {
     names_group(port, group) && (holds(port, address) || in_pairs(port.pairs.as_slice(), address))
 }
@@ -21,9 +20,9 @@ fn gives_member(port: &PortRow, group: Id, address: Addr4) -> bool
 /// Whether a port that names the group holds the address as a fixed one, or has an allowed pair
 /// whose prefix contains it. It takes no memory. Its cost grows with the ports and what they name,
 /// hold and are allowed.
-#[tactic(auto, unfolding(plane_types::specs::Filter::is_member))]
-pub fn is_member(rows: &Rows, group: Id, address: Addr4) -> bool
-    ensures { result ≡ is_member_of rows.now group address }
+#[tactic(auto, unfolding(api_types::specs::Members::is_member))]
+pub fn is_member(rows: &Rows, group: Id, address: &Addr) -> bool
+    ensures { result ≡ is_member_of rows.now group address.now }
 {
     rows.ports()
         .rows()

@@ -4,8 +4,8 @@ use Rattle.std.specs.Prelude.{⊤}
 use Rattle.std.proofs.lemmas.Bool.Decides.{nat_tests}
 use Rattle.std.proofs.lemmas.List.{append-nil, take_all}
 use Rattle.std.proofs.Math.Seq.{take-append_seam}
-use Rattle.row_laws.proofs.ListLemmas.{false_true}
-use Rattle.api_shown.specs.Listed.{cut, is_full}
+use Rattle.api_types.proofs.ListLemmas.{false_true}
+use Rattle.api_policy.specs.Listed.{cut, is_full}
 
 -- so many are no more than the limit
 abbrev pub Within : Option ℕ → ℕ → Type 0

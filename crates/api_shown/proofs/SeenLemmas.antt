@@ -1,7 +1,7 @@
 -- What a caller sees can be shown.
 use Rattle.std.proofs.Common.{◌≡◌, Bool, true, false, List, [], ◌∷◌, cond, refl}
 use Rattle.std.specs.Prelude.{ℕ, ◌&&◌, ◌||◌, Some, is_some, option_map}
-use Rattle.row_laws.proofs.ListLemmas.{false_true}
+use Rattle.api_types.proofs.ListLemmas.{false_true}
 use Rattle.api_types.specs.Ident.{Ident}
 use Rattle.api_types.specs.Lists.{stands_so}
 use Rattle.api_types.specs.RowLists.{RowLists}
@@ -10,7 +10,7 @@ use Rattle.api_types.specs.declared.call.Caller.{Caller}
 use Rattle.api_types.specs.declared.kind.Kind.{Kind}
 use Rattle.api_types.specs.declared.kind.Kind.TheVariants.{Floating, Group, Network, Policy, Port, Project, Router, Rule, Subnet}
 use Rattle.api_policy.specs.Visibility.{sees_row}
-use Rattle.api_shown.specs.Shown.{shown_at}
+use Rattle.api_policy.specs.Shown.{shown_at}
 
 -- a row that stands is found, whatever it has to pass beside
 found : {R X : Type 0} (id_of : R → Ident) (i : Ident) (test : R → Bool) (f : R → X) (rows : List R) → stands_so id_of i test rows ≡ true → is_some (option_map f (row_of id_of i rows)) ≡ true

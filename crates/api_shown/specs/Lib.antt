@@ -1,11 +1,1 @@
-pub mod Trees
-pub mod Networks
-pub mod Subnets
-pub mod Ports
-pub mod Groups
-pub mod Routers
-pub mod Floatings
-pub mod Policies
-pub mod Shown
-pub mod Filtered
-pub mod Listed
+pub mod ListRefusals

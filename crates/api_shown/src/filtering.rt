@@ -3,7 +3,7 @@ ghost use Rattle.std.specs.List.{list_any};
 ghost use Rattle.std.specs.Str.{bytes_eq};
 ghost use Rattle.api_types.specs.Printed.{member_of, tree_of, truth as truth_tree};
 ghost use Rattle.api_types.specs.declared.call.Filter.{Filter as TheFilter};
-ghost use Rattle.api_shown.specs.Filtered.{fits as fits_tree, has_value as has_value_in, meets as meets_all};
+ghost use Rattle.api_policy.specs.Filtered.{fits as fits_tree, has_value as has_value_in, meets as meets_all};
 
 use crate::showing::is_told;
 use api_types::{Filter, Members, Printed};

@@ -1,7 +1,7 @@
 ghost use Rattle.std.specs.Prelude.{◌≡◌, IfOk, map, option_map};
 ghost use Rattle.api_types.specs.Printed.{tree_of};
-ghost use Rattle.api_shown.specs.Groups.{direction_word as word_of_direction, ethertype_word as word_of_ethertype, named_protocol, protocol_word, rule_members, rule_object, rules_of as rules_of_group};
-ghost use Rattle.api_shown.specs.Trees.{null_or};
+ghost use Rattle.api_policy.specs.Groups.{direction_word as word_of_direction, ethertype_word as word_of_ethertype, named_protocol, protocol_word, rule_members, rule_object, rules_of as rules_of_group};
+ghost use Rattle.api_policy.specs.Trees.{null_or};
 
 use crate::members::Shows;
 use crate::printable::{object_of, push, push_value, push_word};
@@ -39,6 +39,7 @@ fn protocol_name(protocol: u8) -> Option<&'static str>
         47 => Some("gre"),
         50 => Some("esp"),
         51 => Some("ah"),
+        58 => Some("ipv6-icmp"),
         89 => Some("ospf"),
         112 => Some("vrrp"),
         132 => Some("sctp"),
@@ -46,7 +47,7 @@ fn protocol_name(protocol: u8) -> Option<&'static str>
     }
 }
 
-#[tactic(auto, unfolding(crate::specs::Groups::protocol_word))]
+#[tactic(auto, unfolding(api_policy::specs::Groups::protocol_word))]
 fn protocol_printed(alloc: Global, protocol: u8) -> Result<Printed, OutOfMemory>
     ensures { IfOk result (λ p. tree_of p ≡ protocol_word protocol) }
 {
@@ -125,7 +126,7 @@ fn rules_of(
 }
 
 impl Shows for GroupRow {
-    ghost use Rattle.api_shown.specs.Groups.{group_members};
+    ghost use Rattle.api_policy.specs.Groups.{group_members};
 
     ghost members_of = { λ rows _ g. group_members rows g };
 

@@ -3,15 +3,16 @@ ghost use Rattle.std.specs.Result.{IfErr};
 ghost use Rattle.api_types.specs.Lists.{is_some_so};
 ghost use Rattle.api_types.specs.Printed.{shown_row};
 ghost use Rattle.api_policy.specs.Visibility.{sees_row};
-ghost use Rattle.api_shown.specs.Filtered.{meets as meets_all};
-ghost use Rattle.api_shown.specs.Listed.{IsListRefusal, behind as rows_behind, behind_marker as rows_behind_marker, cut, has_marker, is_full as is_at_limit, listed as rows_listed, listed_in as rows_listed_in, listed_of as rows_listed_of};
-ghost use Rattle.api_shown.specs.Shown.{shown_as};
+ghost use Rattle.api_policy.specs.Filtered.{meets as meets_all};
+ghost use Rattle.api_policy.specs.Listed.{behind as rows_behind, behind_marker as rows_behind_marker, cut, has_marker, is_full as is_at_limit, listed as rows_listed, listed_in as rows_listed_in, listed_of as rows_listed_of};
+ghost use Rattle.api_shown.specs.ListRefusals.{IsListRefusal};
+ghost use Rattle.api_policy.specs.Shown.{shown_as};
 
 use crate::filtering::meets;
 use crate::members::Shows;
 use crate::showing::kept;
 use api_policy::{Visible, sees};
-use api_types::{Caller, Id, IdText, Kind, Query, Rows, Shown, ShownList, Table};
+use api_types::{Caller, Id, IdText, Kind, Query, Rows, Shared, Shown, ShownList, Table};
 use net_addr::{Copies, OutOfMemory, Seq, Text};
 use std::alloc::Global;
 
@@ -73,7 +74,7 @@ fn listed_of<R: Shows + Visible>(
     rows: &Rows,
     caller: &Caller,
     kind: Kind,
-    candidates: &[R],
+    candidates: &[Shared<R>],
     query: &Query,
 ) -> Result<ShownList, OutOfMemory>
     ensures { IfOk result (λ s. map shown_row s ≡ cut query.now.limit (rows_listed_of (R.seen rows.now caller.now) (R.members_of rows.now caller.now) kind caller.now.admin query.now candidates.now)) }
@@ -83,7 +84,7 @@ fn listed_of<R: Shows + Visible>(
         if is_full(query.limit, listed.len()) {
             break;
         }
-        if let Some(shown) = shown_if_met(alloc, rows, caller, kind, row, query)? {
+        if let Some(shown) = shown_if_met(alloc, rows, caller, kind, row.get(), query)? {
             listed.push(shown)?;
         }
     }
@@ -91,7 +92,7 @@ fn listed_of<R: Shows + Visible>(
 }
 
 // The rows behind the one with this id, and none where it isn't there.
-fn behind<R: Shows>(candidates: &[R], id: Id) -> &[R]
+fn behind<R: Shows>(candidates: &[Shared<R>], id: Id) -> &[Shared<R>]
     ensures { result.now ≡ rows_behind R.id_of id candidates.now }
 {
     for (place, row) in candidates.iter().enumerate() {
@@ -103,7 +104,10 @@ fn behind<R: Shows>(candidates: &[R], id: Id) -> &[R]
 }
 
 // The rows behind the marker's, and all where there is no marker.
-fn behind_marker<'a, R: Shows>(candidates: &'a [R], marker: &Option<IdText>) -> &'a [R]
+fn behind_marker<'a, R: Shows>(
+    candidates: &'a [Shared<R>],
+    marker: &Option<IdText>,
+) -> &'a [Shared<R>]
     ensures { result.now ≡ rows_behind_marker R.id_of marker.now candidates.now }
 {
     match marker {

@@ -1,11 +1,13 @@
 ghost use Rattle.std.specs.Prelude.{◌≡◌, IfOk, map};
 ghost use Rattle.api_types.specs.Printed.{tree_of};
-ghost use Rattle.api_shown.specs.Networks.{is_open as is_open_to_all, number_of, permits_all as permits_to_all, physical_of, subnets_of as subnets_of_network, type_word as word_of_type};
+ghost use Rattle.api_policy.specs.Networks.{is_open as is_open_to_all, number_of, permits_all as permits_to_all, physical_of, subnets_of as subnets_of_network, type_word as word_of_type};
 
 use crate::members::Shows;
 use crate::printable::{Printable, push, push_value, push_word};
 use api_policy::Visible;
-use api_types::{Action, Caller, Id, Members, NetworkRow, PolicyRow, Printed, Rows, Segment};
+use api_types::{
+    Action, Caller, Id, Members, NetworkRow, PolicyRow, Printed, Rows, Segment, Shared,
+};
 use net_addr::{OutOfMemory, Seq};
 use std::alloc::Global;
 
@@ -16,7 +18,7 @@ fn permits_all(policy: &PolicyRow, network: Id, action: Action) -> bool
     network == policy.object && action == policy.action && policy.target.as_str() == "*"
 }
 
-fn is_open(policies: &[PolicyRow], network: Id, action: Action) -> bool
+fn is_open(policies: &[Shared<PolicyRow>], network: Id, action: Action) -> bool
     ensures { result ≡ is_open_to_all policies.now network action }
 {
     policies
@@ -73,7 +75,7 @@ fn number(segment: &Segment) -> Printed
 }
 
 impl Shows for NetworkRow {
-    ghost use Rattle.api_shown.specs.Networks.{network_members};
+    ghost use Rattle.api_policy.specs.Networks.{network_members};
 
     ghost members_of = { network_members };
 

@@ -1,6 +1,6 @@
 ghost use Rattle.std.specs.Prelude.{◌≡◌, Bool};
-ghost use Rattle.plane_types.specs.Live.{is_live as is_live_in};
-ghost use Rattle.api_shown.specs.Ports.{status_word, vif_word as word_of_vif};
+ghost use Rattle.api_types.specs.Live.{is_live as is_live_in};
+ghost use Rattle.api_policy.specs.Ports.{status_word, vif_word as word_of_vif};
 
 use crate::members::Shows;
 use crate::printable::{push, push_word};
@@ -19,7 +19,7 @@ fn vif_word(vif: Vif) -> &'static str
 }
 
 // Whether a port is live: it and its network are up, and Open vSwitch carries it.
-#[tactic(auto, unfolding(plane_types::specs::Live::is_live))]
+#[tactic(auto, unfolding(api_types::specs::Live::is_live))]
 fn is_live(rows: &Rows, port: &PortRow) -> bool
     ensures { result ≡ is_live_in rows.now port.now }
 {
@@ -42,7 +42,7 @@ pub(crate) fn status(active: bool) -> &'static str
 }
 
 impl Shows for PortRow {
-    ghost use Rattle.api_shown.specs.Ports.{port_members};
+    ghost use Rattle.api_policy.specs.Ports.{port_members};
 
     ghost members_of = { λ rows _ p. port_members rows p };
 

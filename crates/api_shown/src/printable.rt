@@ -2,7 +2,7 @@ ghost use Rattle.std.specs.Prelude.{◌≡◌, ◌++◌, ◌∷◌, [], IfOk, On
 ghost use Rattle.api_types.specs.Printed.{branches_of, items, member_of, object, tree_of, trees_of, word};
 
 use api_types::{Fixed, Hop, Id, Members, Pair, Printed};
-use net_addr::{Addr4, Copies, Mac, OutOfMemory, Prefix4, Seq, Span4, Text};
+use net_addr::{Addr, Addr4, Copies, Mac, OutOfMemory, Prefix, Seq, Span, Text};
 use std::alloc::Global;
 
 /// A value that is printed.
@@ -44,7 +44,7 @@ impl Printable for Text {
 }
 
 impl Printable for Id {
-    ghost use Rattle.api_shown.specs.Trees.{id_word};
+    ghost use Rattle.api_policy.specs.Trees.{id_word};
 
     ghost tree = { id_word };
 
@@ -53,8 +53,8 @@ impl Printable for Id {
     }
 }
 
-impl Printable for Addr4 {
-    ghost use Rattle.api_shown.specs.Trees.{address_word};
+impl Printable for Addr {
+    ghost use Rattle.api_policy.specs.Trees.{address_word};
 
     ghost tree = { address_word };
 
@@ -63,8 +63,18 @@ impl Printable for Addr4 {
     }
 }
 
+impl Printable for Addr4 {
+    ghost use Rattle.api_policy.specs.Trees.{four_word};
+
+    ghost tree = { four_word };
+
+    fn printed(&self, alloc: Global) -> Result<Printed, OutOfMemory> {
+        Ok(Printed::Word(self.print(alloc)?))
+    }
+}
+
 impl Printable for Mac {
-    ghost use Rattle.api_shown.specs.Trees.{mac_word};
+    ghost use Rattle.api_policy.specs.Trees.{mac_word};
 
     ghost tree = { mac_word };
 
@@ -73,8 +83,8 @@ impl Printable for Mac {
     }
 }
 
-impl Printable for Prefix4 {
-    ghost use Rattle.api_shown.specs.Trees.{prefix_word};
+impl Printable for Prefix {
+    ghost use Rattle.api_policy.specs.Trees.{prefix_word};
 
     ghost tree = { prefix_word };
 
@@ -84,7 +94,7 @@ impl Printable for Prefix4 {
 }
 
 impl<T: Printable> Printable for Option<T> {
-    ghost use Rattle.api_shown.specs.Trees.{null_or};
+    ghost use Rattle.api_policy.specs.Trees.{null_or};
 
     ghost tree = { null_or T.tree };
 
@@ -97,7 +107,7 @@ impl<T: Printable> Printable for Option<T> {
 }
 
 impl<T: Printable> Printable for Seq<T> {
-    ghost use Rattle.api_shown.specs.Trees.{list_of};
+    ghost use Rattle.api_policy.specs.Trees.{list_of};
 
     ghost tree = { list_of T.tree };
 
@@ -140,7 +150,7 @@ fn printed_two<A: Printable, B: Printable>(
 }
 
 impl Printable for Fixed {
-    ghost use Rattle.api_shown.specs.Trees.{fixed_object};
+    ghost use Rattle.api_policy.specs.Trees.{fixed_object};
 
     ghost tree = { fixed_object };
 
@@ -156,7 +166,7 @@ impl Printable for Fixed {
 }
 
 impl Printable for Pair {
-    ghost use Rattle.api_shown.specs.Trees.{pair_object};
+    ghost use Rattle.api_policy.specs.Trees.{pair_object};
 
     ghost tree = { pair_object };
 
@@ -166,7 +176,7 @@ impl Printable for Pair {
 }
 
 impl Printable for Hop {
-    ghost use Rattle.api_shown.specs.Trees.{route_object};
+    ghost use Rattle.api_policy.specs.Trees.{route_object};
 
     ghost tree = { route_object };
 
@@ -181,8 +191,8 @@ impl Printable for Hop {
     }
 }
 
-impl Printable for Span4 {
-    ghost use Rattle.api_shown.specs.Trees.{span_object};
+impl Printable for Span {
+    ghost use Rattle.api_policy.specs.Trees.{span_object};
 
     ghost tree = { span_object };
 

@@ -1,10 +1,10 @@
 ghost use Rattle.std.specs.Prelude.{◌≡◌, IfOk};
 ghost use Rattle.api_types.specs.Printed.{tree_of};
-ghost use Rattle.api_shown.specs.Policies.{action_word as word_of_action};
+ghost use Rattle.api_policy.specs.Policies.{action_word as word_of_action};
 ghost use Rattle.api_types.specs.Table.{row_of};
 ghost use Rattle.api_types.specs.declared.port.PortRow.{PortRow};
-ghost use Rattle.api_shown.specs.Routers.{fixed_of, gateway_object};
-ghost use Rattle.api_shown.specs.Trees.{fixed_object, list_of, null_or};
+ghost use Rattle.api_policy.specs.Routers.{fixed_of, gateway_object};
+ghost use Rattle.api_policy.specs.Trees.{fixed_object, list_of, null_or};
 
 use crate::members::Shows;
 use crate::port::status;
@@ -48,7 +48,7 @@ fn gateway_of(alloc: Global, rows: &Rows, router: &RouterRow) -> Result<Printed,
 }
 
 impl Shows for RouterRow {
-    ghost use Rattle.api_shown.specs.Routers.{router_members};
+    ghost use Rattle.api_policy.specs.Routers.{router_members};
 
     ghost members_of = { λ rows _ r. router_members rows r };
 
@@ -74,7 +74,7 @@ impl Shows for RouterRow {
 }
 
 impl Shows for FloatingRow {
-    ghost use Rattle.api_shown.specs.Floatings.{floating_members};
+    ghost use Rattle.api_policy.specs.Floatings.{floating_members};
 
     ghost members_of = { λ _ _ f. floating_members f };
 
@@ -113,7 +113,7 @@ fn action_word(action: Action) -> &'static str
 }
 
 impl Shows for PolicyRow {
-    ghost use Rattle.api_shown.specs.Policies.{policy_members};
+    ghost use Rattle.api_policy.specs.Policies.{policy_members};
 
     ghost members_of = { λ _ _ p. policy_members p };
 

@@ -3,7 +3,7 @@ ghost use Rattle.std.specs.List.{list_any};
 ghost use Rattle.std.specs.Str.{bytes_eq};
 ghost use Rattle.api_types.specs.Table.{row_of};
 ghost use Rattle.api_types.specs.Printed.{member_of, shown_row};
-ghost use Rattle.api_shown.specs.Shown.{is_asked as is_asked_for, is_for_admins as is_for_administrators, is_told as is_told_to, shown_as, shown_at, shown_members};
+ghost use Rattle.api_policy.specs.Shown.{is_asked as is_asked_for, is_for_admins as is_for_administrators, is_told as is_told_to, shown_as, shown_at, shown_members};
 
 use crate::members::Shows;
 use api_types::{Caller, Id, Kind, Members, Rows, Shown, Table};

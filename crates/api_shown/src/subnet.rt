@@ -1,11 +1,41 @@
+ghost use Rattle.std.specs.Prelude.{◌≡◌};
+ghost use Rattle.api_policy.specs.Subnets.{mode_text as text_of_mode, version_number};
+
 use crate::members::Shows;
-use crate::printable::{push, push_value};
-use api_types::{Caller, Members, Printed, Rows, SubnetRow};
-use net_addr::{OutOfMemory, Seq};
+use crate::printable::{Printable, push, push_value};
+use api_types::{Caller, Ipv6Mode, Members, Printed, Rows, SubnetRow};
+use net_addr::{OutOfMemory, Prefix, Seq, Text};
 use std::alloc::Global;
 
+fn mode_text(mode: Ipv6Mode) -> &'static str
+    ensures { result.now ≡ text_of_mode mode }
+{
+    match mode {
+        Ipv6Mode::Slaac => "slaac",
+        Ipv6Mode::Stateful => "dhcpv6-stateful",
+        Ipv6Mode::Stateless => "dhcpv6-stateless",
+    }
+}
+
+// The version of a prefix, as it is written.
+fn version_of(prefix: &Prefix) -> u64
+    ensures { result ≡ version_number prefix.now.base }
+{
+    if prefix.base.is_v4() { 4 } else { 6 }
+}
+
+impl Printable for Ipv6Mode {
+    ghost use Rattle.api_policy.specs.Subnets.{mode_word};
+
+    ghost tree = { mode_word };
+
+    fn printed(&self, alloc: Global) -> Result<Printed, OutOfMemory> {
+        Ok(Printed::Word(Text::of(alloc, mode_text(*self))?))
+    }
+}
+
 impl Shows for SubnetRow {
-    ghost use Rattle.api_shown.specs.Subnets.{subnet_members};
+    ghost use Rattle.api_policy.specs.Subnets.{subnet_members};
 
     ghost members_of = { λ _ _ s. subnet_members s };
 
@@ -15,6 +45,7 @@ impl Shows for SubnetRow {
         _rows: &Rows,
         _caller: &Caller,
     ) -> Result<Members, OutOfMemory> {
+        let version = version_of(&self.prefix);
         let mut all = Seq::new(alloc);
         push(alloc, &mut all, "allocation_pools", &self.pools)?;
         push(alloc, &mut all, "cidr", &self.prefix)?;
@@ -24,7 +55,9 @@ impl Shows for SubnetRow {
         push(alloc, &mut all, "gateway_ip", &self.gateway)?;
         push(alloc, &mut all, "host_routes", &self.host_routes)?;
         push(alloc, &mut all, "id", &self.id)?;
-        push_value(alloc, &mut all, "ip_version", Printed::Number(4))?;
+        push_value(alloc, &mut all, "ip_version", Printed::Number(version))?;
+        push(alloc, &mut all, "ipv6_address_mode", &self.address_mode)?;
+        push(alloc, &mut all, "ipv6_ra_mode", &self.ra_mode)?;
         push(alloc, &mut all, "name", &self.name)?;
         push(alloc, &mut all, "network_id", &self.network)?;
         push(alloc, &mut all, "project_id", &self.project)?;

@@ -1,5 +1,5 @@
 -- What a project draws follows from what its footing tells of its counters, and ids that are drawn name no row.
-use Rattle.std.proofs.Common.{◌≡◌, ℕ, ◌+◌, ◌-◌, ◌<◌, ◌≤◌, ◌^◌, ◌++◌, zero, suc, List, [], ◌∷◌, Bool, true, false, cond, Option, Some, None, length, slice_get, refl, ap, sym, ◌∙◌, arith, map, subst}
+use Rattle.std.proofs.Common.{◌≡◌, ℕ, ◌+◌, ◌-◌, ◌<◌, ◌≤◌, ◌^◌, ◌++◌, zero, suc, List, [], ◌∷◌, Bool, true, false, cond, Option, Some, None, length, slice_get, refl, ap, sym, ◌∙◌, arith, map, not, subst}
 use Rattle.std.specs.Prelude.{◌&&◌, find, nat_lt, option_map, position, if◌then◌else◌}
 use Rattle.std.specs.List.{list_any, position_or_len}
 use Rattle.std.specs.Str.{bytes_eq}
@@ -9,6 +9,7 @@ use Rattle.std.proofs.lemmas.List.Folds.{find_at}
 use Rattle.std.proofs.lemmas.Option.{slice_get_past}
 use Rattle.api_types.specs.Consistent.{IsConsistent}
 use Rattle.api_types.specs.Registration.{Drawing, default_group, draw_at, draw_for, draw_of, drawn_id, is_named, with_count, with_project}
+use Rattle.api_types.specs.Lists.{is_empty}
 use Rattle.api_types.specs.RowLists.{RowLists}
 use Rattle.api_types.specs.Table.{ident_eq}
 use Rattle.api_types.specs.declared.call.Caller.{Caller}
@@ -21,12 +22,12 @@ use Rattle.net_settings.specs.Settings.{SettingsParts}
 use Rattle.row_laws.specs.Drawn.{IsDrawing}
 use Rattle.row_laws.specs.NewRows.{with_network}
 use Rattle.api_policy.specs.Visibility.{sees_subnet}
-use Rattle.api_shown.specs.Networks.{is_open, permits_all, subnets_of}
+use Rattle.api_policy.specs.Networks.{is_open, permits_all, subnets_of}
 use Rattle.api_steps.specs.Footing.{Drawer, Known, New, drawer_at, drawer_of, footing, owned}
 use Rattle.api_steps.specs.State.{State, drawing_at, is_last}
 use Rattle.row_laws.proofs.DrawnKept.{draws}
-use Rattle.row_laws.proofs.ListLemmas.{any-none, none-counted, none_some, some_equal}
-use Rattle.row_laws.proofs.NameLemmas.{bytes_itself, first_fails, unnamed}
+use Rattle.api_types.proofs.ListLemmas.{any-none, none-counted, none_some, some_equal}
+use Rattle.api_types.proofs.NameLemmas.{bytes_itself, first_fails, unnamed}
 use Rattle.api_steps.proofs.ListLemmas.{filter-none}
 use Rattle.api_steps.proofs.FootingLemmas.{network_id}
 
@@ -130,8 +131,13 @@ drawn_now state name many d = by (is_last state)
     by true h = none_some d _ h
     by false h = h
 
-pub drawn_one : (state : State) (name : List ℕ) (d : Drawing) → IsConsistent state.rows → drawing_at state name 1 ≡ Some d → IsDrawing state.rows name 1 d × (draw_of state.rows name 1 ≡ Some d)
-drawn_one state name d c at = let now = drawn_now state name 1 d at in (draws state.rows name 1 d c (omega arith) now, now)
+pub drawn_ids : (state : State) (name : List ℕ) (many : ℕ) (d : Drawing) → IsConsistent state.rows → not (is_empty name) ≡ true → 5 + many < 2 ^ 62
+    → drawing_at state name many ≡ Some d → IsDrawing state.rows name many d × (draw_of state.rows name many ≡ Some d)
+drawn_ids state name many d c named few at = let now = drawn_now state name many d at in (draws state.rows name many d c named few now, now)
+
+pub drawn_one : (state : State) (name : List ℕ) (d : Drawing) → IsConsistent state.rows → not (is_empty name) ≡ true → drawing_at state name 1 ≡ Some d
+    → IsDrawing state.rows name 1 d × (draw_of state.rows name 1 ≡ Some d)
+drawn_one state name d c named at = drawn_ids state name 1 d c named (omega arith) at
 
 -- no row names a network with a new id
 module _ (rows : RowLists) (name : List ℕ) (d : Drawing) (is : IsDrawing rows name 1 d) where

@@ -1,5 +1,5 @@
 -- What a footing leaves out: a network of another project that no policy opens is no part of it, but for the number that it takes.
-use Rattle.std.proofs.Common.{◌≡◌, ℕ, ◌+◌, ◌-◌, List, [], ◌∷◌, ◌++◌, Bool, true, false, cond, Some, None, length, refl, ap, sym, ◌∙◌, arith, map}
+use Rattle.std.proofs.Common.{◌≡◌, ℕ, ◌+◌, ◌-◌, List, [], ◌∷◌, ◌++◌, Bool, true, false, cond, Some, None, length, refl, ap, sym, ◌∙◌, arith, map, not}
 use Rattle.std.specs.Prelude.{◌&&◌, ◌||◌, filter, find, is_some, nat_le, option_map}
 use Rattle.std.specs.List.{list_any}
 use Rattle.std.specs.Str.{bytes_eq}
@@ -7,7 +7,7 @@ use Rattle.api_types.specs.Consistent.{IsConsistent}
 use Rattle.api_types.specs.Consistent.Numbered.{times_in}
 use Rattle.api_types.specs.Consistent.Segments.{most_networks}
 use Rattle.api_types.specs.Ident.{Ident}
-use Rattle.api_types.specs.Lists.{Each, stands}
+use Rattle.api_types.specs.Lists.{Each, is_empty, stands}
 use Rattle.api_types.specs.RowLists.{RowLists}
 use Rattle.api_types.specs.Sharing.{grants, is_granted}
 use Rattle.api_types.specs.Table.{ident_eq, row_of}
@@ -22,30 +22,30 @@ use Rattle.net_settings.specs.Settings.{SettingsParts}
 use Rattle.row_laws.specs.NewRows.{with_network}
 use Rattle.api_policy.specs.Visibility.{is_own, owns_network, seen_networks, seen_ports, seen_subnets, sees_network, sees_port, sees_subnet, uses_network}
 use Rattle.api_steps.specs.Footing.{blank, footing, guard, held_of, is_close, is_held_by, is_near, near_of, unnumbered}
-use Rattle.api_steps.specs.Numbers.{least_free}
+use Rattle.api_ml2.specs.Numbers.{least_free}
 use Rattle.api_steps.specs.Refusing.{told}
 use Rattle.api_steps.specs.State.{State}
 use Rattle.api_steps.specs.Step.{api_step}
-use Rattle.row_laws.proofs.ListLemmas.{any-filter_none, any-none, any-push, none-any, none-counted, or_false}
-use Rattle.row_laws.proofs.NameLemmas.{and_fails, by_test, first_fails, ident_same, unnamed}
+use Rattle.api_types.proofs.ListLemmas.{any-filter_none, any-none, any-push, none-any, none-counted, or_false}
+use Rattle.api_types.proofs.NameLemmas.{and_fails, by_test, first_fails, ident_same, unnamed}
 use Rattle.api_steps.proofs.FootingLemmas.{network_id}
 use Rattle.api_steps.proofs.ListLemmas.{filter-each}
 use Rattle.api_steps.proofs.StepApart.{step_apart}
 
 -- a row that passes no test, behind others
 
-filter-push : {A : Type 0} (test : A → Bool) (xs : List A) (x : A) → test x ≡ false → filter test (xs ++ x ∷ []) ≡ filter test xs
+pub filter-push : {A : Type 0} (test : A → Bool) (xs : List A) (x : A) → test x ≡ false → filter test (xs ++ x ∷ []) ≡ filter test xs
 filter-push test [] x fails = ap (λ b. cond b (x ∷ []) []) fails
 filter-push test (a ∷ xs) x fails = ap (λ zs. cond (test a) (a ∷ zs) zs) (filter-push test xs x fails)
 
-find-push : {A : Type 0} (test : A → Bool) (xs : List A) (x : A) → test x ≡ false → find test (xs ++ x ∷ []) ≡ find test xs
+pub find-push : {A : Type 0} (test : A → Bool) (xs : List A) (x : A) → test x ≡ false → find test (xs ++ x ∷ []) ≡ find test xs
 find-push test [] x fails = ap (λ b. cond b (Some x) None) fails
 find-push test (a ∷ xs) x fails = ap (cond (test a) (Some a)) (find-push test xs x fails)
 
 any-push_other : {A : Type 0} (test : A → Bool) (xs : List A) (x : A) → test x ≡ false → list_any test (xs ++ x ∷ []) ≡ list_any test xs
 any-push_other test xs x fails = any-push test xs x ∙ (ap (λ b. list_any test xs || b) fails ∙ or_false (list_any test xs))
 
-guard_either : {X : Type 0} (b : Bool) (x y : X) → (b ≡ true → x ≡ y) → guard b x ≡ guard b y
+pub guard_either : {X : Type 0} (b : Bool) (x y : X) → (b ≡ true → x ≡ y) → guard b x ≡ guard b y
 guard_either true x y same = ap Some (same refl)
 guard_either false x y same = refl
 
@@ -125,9 +125,9 @@ module _ (caller : Caller) (tenant : caller.admin ≡ false) (rows : RowLists) (
       }
 
   -- so a tenant can't tell whether it is there
-  pub hidden_untold : (settings : SettingsParts) (version : ℕ) → IsConsistent (with_network rows n)
+  pub hidden_untold : not (is_empty caller.project) ≡ true → (settings : SettingsParts) (version : ℕ) → IsConsistent (with_network rows n)
       → is_some (least_free (rows.networks ++ n ∷ []) settings.vxlan_first (settings.vxlan_last + 1 - settings.vxlan_first)) ≡ is_some (least_free rows.networks settings.vxlan_first (settings.vxlan_last + 1 - settings.vxlan_first))
       → nat_le most_networks (length (rows.networks ++ n ∷ [])) ≡ nat_le most_networks (length rows.networks)
       → (call : Call) → told (api_step settings (record { rows = with_network rows n; version = version }) caller call) ≡ told (api_step settings (record { rows = rows; version = version }) caller call)
-  hidden_untold settings version d number full =
-      step_apart settings caller (record { rows = with_network rows n; version = version }) (record { rows = rows; version = version }) tenant d c (hidden_network settings version number full)
+  hidden_untold named settings version d number full =
+      step_apart settings caller (record { rows = with_network rows n; version = version }) (record { rows = rows; version = version }) tenant named d c (hidden_network settings version number full)

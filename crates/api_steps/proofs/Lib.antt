@@ -13,3 +13,4 @@ pub mod PortsApart
 pub mod ListsApart
 pub mod StepApart
 pub mod HiddenNetwork
+pub mod HiddenRows

@@ -18,16 +18,16 @@ use Rattle.api_types.specs.declared.port.PortRow.{PortRow}
 use Rattle.api_types.specs.declared.refusal.Refusal.{Refusal}
 use Rattle.net_settings.specs.Settings.{SettingsParts}
 use Rattle.api_policy.specs.Visibility.{seen_networks, seen_ports, sees_network, sees_port}
-use Rattle.api_shown.specs.Filtered.{meets}
-use Rattle.api_shown.specs.Listed.{behind, behind_id, behind_marker, cut, has_marker, listed, listed_of}
-use Rattle.api_shown.specs.Networks.{network_members}
-use Rattle.api_shown.specs.Ports.{port_members}
-use Rattle.api_shown.specs.Shown.{shown_as}
+use Rattle.api_policy.specs.Filtered.{meets}
+use Rattle.api_policy.specs.Listed.{behind, behind_id, behind_marker, cut, has_marker, listed, listed_of}
+use Rattle.api_policy.specs.Networks.{network_members}
+use Rattle.api_policy.specs.Ports.{port_members}
+use Rattle.api_policy.specs.Shown.{shown_as}
 use Rattle.api_steps.specs.Footing.{Near, blank, footing, is_near}
 use Rattle.api_steps.specs.Reads.{marker_text, rows_listed}
 use Rattle.api_steps.specs.Refusing.{not_found, told, unless, when}
 use Rattle.api_steps.specs.State.{State}
-use Rattle.row_laws.proofs.ListLemmas.{and_both, any-at, none_some, one_row}
+use Rattle.api_types.proofs.ListLemmas.{and_both, any-at, none_some, one_row}
 use Rattle.api_steps.proofs.FootingLemmas.{near_same, network_id, port_id, port_near, seen_near, subnets_same, unless_alike}
 use Rattle.api_steps.proofs.ListLemmas.{any-map, any-then, at_map, filter-map, filter-then, map-each, map-twice}
 use Rattle.api_steps.proofs.ShownAlike.{network_printed, port_members_alike}
@@ -100,18 +100,18 @@ marker-each P id_of (Some m) xs e = by m.id
 -- the rows that are listed
 
 -- of seen rows
-abbrev cards : {R : Type 0} → (R → List NamedTree) → Kind → Bool → Query → List R → List ShownRow
+abbrev pub cards : {R : Type 0} → (R → List NamedTree) → Kind → Bool → Query → List R → List ShownRow
 cards members kind admin q xs = map (λ r. shown_as kind admin q.fields (members r)) (filter (λ r. meets admin q.filters (members r)) xs)
 
 -- of printed rows
-abbrev cards_of : Kind → Bool → Query → List (List NamedTree) → List ShownRow
+abbrev pub cards_of : Kind → Bool → Query → List (List NamedTree) → List ShownRow
 cards_of kind admin q printed = map (λ m. shown_as kind admin q.fields m) (filter (λ m. meets admin q.filters m) printed)
 
-cards_printed : {R : Type 0} (members : R → List NamedTree) (kind : Kind) (admin : Bool) (q : Query) (xs : List R) → cards members kind admin q xs ≡ cards_of kind admin q (map members xs)
+pub cards_printed : {R : Type 0} (members : R → List NamedTree) (kind : Kind) (admin : Bool) (q : Query) (xs : List R) → cards members kind admin q xs ≡ cards_of kind admin q (map members xs)
 cards_printed members kind admin q xs = sym (ap (map (λ m. shown_as kind admin q.fields m)) (filter-map (λ m. meets admin q.filters m) members xs)
     ∙ map-twice members (λ m. shown_as kind admin q.fields m) (filter (λ r. meets admin q.filters (members r)) xs))
 
-seen_cards : {R : Type 0} (seen : R → Bool) (members : R → List NamedTree) (kind : Kind) (admin : Bool) (q : Query) (xs : List R)
+pub seen_cards : {R : Type 0} (seen : R → Bool) (members : R → List NamedTree) (kind : Kind) (admin : Bool) (q : Query) (xs : List R)
     → listed_of seen members kind admin q xs ≡ cards members kind admin q (filter seen xs)
 seen_cards seen members kind admin q xs = ap (map (λ r. shown_as kind admin q.fields (members r))) (filter-then seen (λ r. meets admin q.filters (members r)) xs)
 

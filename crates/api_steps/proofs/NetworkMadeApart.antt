@@ -3,6 +3,7 @@ use Rattle.std.proofs.Common.{◌≡◌, ℕ, ◌+◌, ◌-◌, List, [], ◌∷
 use Rattle.std.specs.Prelude.{◌&&◌, codes, is_some, nat_le, if◌then◌else◌}
 use Rattle.api_types.specs.Consistent.{IsConsistent}
 use Rattle.api_types.specs.Consistent.Segments.{most_networks}
+use Rattle.api_types.specs.Lists.{is_empty}
 use Rattle.api_types.specs.Outcome.{Outcome, Told}
 use Rattle.api_types.specs.Printed.{NewRow, ShownRow}
 use Rattle.api_types.specs.Registration.{Drawing, drawn_id, ident}
@@ -16,7 +17,7 @@ use Rattle.row_laws.specs.NewRows.{with_network}
 use Rattle.api_steps.specs.Footing.{blank, footing}
 use Rattle.api_steps.specs.Given.{are_unlike, is_for_other, owner_of}
 use Rattle.api_steps.specs.Networks.{creation_refusal, network_added, network_created, new_network}
-use Rattle.api_steps.specs.Numbers.{free_number, least_free}
+use Rattle.api_ml2.specs.Numbers.{free_number, least_free}
 use Rattle.api_steps.specs.Refusing.{needing, told, when}
 use Rattle.api_steps.specs.State.{State, drawing_at}
 use Rattle.api_steps.proofs.DrawnAlike.{counts_of, counts_same, drawn_one, new_no_subnets, new_not_open}
@@ -33,7 +34,7 @@ added_for settings state caller form owner =
     needing CountersSpent (drawing_at state owner 1) (λ drawing.
     network_added caller drawing.rows (new_network owner form (drawn_id drawing 0) number)))
 
-module _ (settings : SettingsParts) (caller : Caller) (tenant : caller.admin ≡ false) (s t : State) (c : IsConsistent s.rows) (d : IsConsistent t.rows) (same : footing settings s caller ≡ footing settings t caller) where
+module _ (settings : SettingsParts) (caller : Caller) (tenant : caller.admin ≡ false) (named : not (is_empty caller.project) ≡ true) (s t : State) (c : IsConsistent s.rows) (d : IsConsistent t.rows) (same : footing settings s caller ≡ footing settings t caller) where
   numbers_same : is_some (free_number settings s.rows.networks) ≡ is_some (free_number settings t.rows.networks)
   numbers_same = some_unless (nat_le most_networks (length s.rows.networks)) (least_free s.rows.networks settings.vxlan_first (settings.vxlan_last + 1 - settings.vxlan_first))
       ∙ ((λ j. not (same j).is_full && (same j).has_number)
@@ -42,8 +43,8 @@ module _ (settings : SettingsParts) (caller : Caller) (tenant : caller.admin ≡
   made_same : (form : NetworkForm) (number other : ℕ) (x y : Drawing) → drawing_at s caller.project 1 ≡ Some x → drawing_at t caller.project 1 ≡ Some y → counts_of x ≡ counts_of y
       → told (network_added caller x.rows (new_network caller.project form (drawn_id x 0) number)) ≡ told (network_added caller y.rows (new_network caller.project form (drawn_id y 0) other))
   made_same form number other x y at_x at_y counts =
-      let dx = drawn_one s caller.project x c at_x in
-      let dy = drawn_one t caller.project y d at_y in
+      let dx = drawn_one s caller.project x c named at_x in
+      let dy = drawn_one t caller.project y d named at_y in
       ap (λ (row : ShownRow). Told (NewRow row))
       (network_shown_alike (with_network x.rows (new_network caller.project form (drawn_id x 0) number)) (with_network y.rows (new_network caller.project form (drawn_id y 0) other)) caller
       (new_network caller.project form (drawn_id x 0) number) (new_network caller.project form (drawn_id y 0) other) [] tenant

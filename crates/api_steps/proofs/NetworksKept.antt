@@ -5,7 +5,7 @@ use Rattle.std.proofs.lemmas.Bool.Decides.{nat_tests}
 use Rattle.std.specs.Option.{option_map}
 use Rattle.api_types.specs.Consistent.{IsConsistent}
 use Rattle.api_types.specs.Consistent.Segments.{most_networks}
-use Rattle.api_types.specs.Lists.{Each}
+use Rattle.api_types.specs.Lists.{Each, is_empty}
 use Rattle.api_types.specs.Outcome.{Moved}
 use Rattle.api_types.specs.Owners.{is_dhcp}
 use Rattle.api_types.specs.Printed.{Reply, NoRow}
@@ -14,6 +14,8 @@ use Rattle.api_types.specs.RowLists.{RowLists}
 use Rattle.api_types.specs.Table.{ident_eq}
 use Rattle.api_types.specs.declared.call.Caller.{Caller}
 use Rattle.api_types.specs.declared.call.IdText.{IdText}
+use Rattle.api_types.specs.declared.form.Given.{Given}
+use Rattle.api_types.specs.declared.form.Given.TheVariants.{Absent, Null, Is}
 use Rattle.api_types.specs.declared.form.NetworkForm.{NetworkForm}
 use Rattle.api_types.specs.declared.network.NetworkRow.{NetworkRow}
 use Rattle.api_types.specs.declared.network.Segment.TheVariants.{Vxlan}
@@ -24,14 +26,16 @@ use Rattle.api_types.specs.declared.refusal.Refusal.TheVariants.{CountersSpent, 
 use Rattle.net_settings.specs.Rules.{MeetsRules}
 use Rattle.net_settings.specs.Settings.{SettingsParts}
 use Rattle.row_laws.specs.Gone.{IsUnused, without_network}
-use Rattle.row_laws.proofs.NameLemmas.{by_test, ident_itself, not_false, not_true}
+use Rattle.api_types.proofs.ListLemmas.{and_both}
+use Rattle.api_types.proofs.NameLemmas.{by_test, ident_itself, not_false, not_true}
 use Rattle.row_laws.proofs.NetworkCreated.{network_created as made_kept, vxlan_alone}
 use Rattle.row_laws.proofs.NetworkGone.{network_gone}
 use Rattle.row_laws.proofs.NetworkReplaced.{network_replaced as replaced_kept}
 use Rattle.api_policy.specs.Visibility.{is_own, sees_network}
 use Rattle.api_steps.specs.Given.{owner_of}
+use Rattle.api_steps.specs.InForm.{has_name, have_names}
 use Rattle.api_steps.specs.Networks.{changed_network, creation_refusal, deletion_refusal, network_created, network_deleted, network_in_use, network_named, network_updated, network_user, new_network, update_refusal, with_changed}
-use Rattle.api_steps.specs.Numbers.{free_number, is_taken, least_free, numbers}
+use Rattle.api_ml2.specs.Numbers.{free_number, is_taken, least_free, numbers}
 use Rattle.api_steps.specs.Refusing.{not_found, unless, when}
 use Rattle.api_steps.specs.State.{State, drawing_at, is_last}
 use Rattle.api_steps.proofs.OutcomeLemmas.{if_some, moved_rows, named_is, needing_moved, none_first, put_once, unfound, unless_moved}
@@ -68,9 +72,19 @@ drawn_is state project many d h = if_some (is_last state) (draw_of state.rows pr
 in_range : (n last : ℕ) → 1 ≤ n → n ≤ last → last ≤ 16777215 → (nat_le 1 n && nat_le n 16777215) ≡ true
 in_range n last low high top = let below : n ≤ 16777215 = omega (arith, high, top) in grind (arith, nat_tests, low, below)
 
+-- the owner of a new row has a name
+pub owner_named : (caller : Caller) (project tenant : Given (List ℕ)) → not (is_empty caller.project) ≡ true → have_names project tenant ≡ true → not (is_empty (owner_of caller project tenant)) ≡ true
+owner_named caller Absent Absent named given = named
+owner_named caller Absent Null named given = named
+owner_named caller Absent (Is b) named given = given
+owner_named caller Null Absent named given = named
+owner_named caller Null Null named given = named
+owner_named caller Null (Is b) named given = given
+owner_named caller (Is a) tenant named given = (and_both (not (is_empty a)) (has_name tenant) given).0
+
 pub created_kept : (settings : SettingsParts) (state : State) (caller : Caller) (form : NetworkForm) (rows : RowLists) (reply : Reply) → MeetsRules settings → IsConsistent state.rows
-    → network_created settings state caller form ≡ Moved rows reply → IsConsistent rows
-created_kept settings state caller form rows reply rules c h =
+    → not (is_empty caller.project) ≡ true → have_names form.project_id form.tenant_id ≡ true → network_created settings state caller form ≡ Moved rows reply → IsConsistent rows
+created_kept settings state caller form rows reply rules c named given h =
     let owner = owner_of caller form.project_id form.tenant_id in
     let passed = unless_moved (creation_refusal caller form) _ rows reply h in
     let numbered = needing_moved NoNetwork (free_number settings state.rows.networks) _ rows reply passed.1 in
@@ -81,7 +95,7 @@ created_kept settings state caller form rows reply rules c h =
     let n : NetworkRow = new_network owner form (record { ordinal = d.ordinal; count = d.first + 0 }) number in
     let first_low : 1 ≤ number = omega (arith, rules.first_positive, free.low) in
     subst IsConsistent (moved_rows _ rows _ reply drawn.2)
-    (made_kept state.rows owner 1 d n c (lit≤ tt) (lit< tt) (drawn_is state owner 1 d drawn.1).1 (record {
+    (made_kept state.rows owner 1 d n c (owner_named caller form.project_id form.tenant_id named given) (lit≤ tt) (lit< tt) (drawn_is state owner 1 d drawn.1).1 (record {
       id = refl;
       project = refl;
       segment = in_range number settings.vxlan_last first_low free.high rules.last_small;

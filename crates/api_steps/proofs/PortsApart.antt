@@ -29,30 +29,30 @@ use Rattle.net_settings.specs.Settings.{SettingsParts}
 use Rattle.row_laws.specs.Drawn.{IsDrawing}
 use Rattle.row_laws.specs.NewRows.{with_port}
 use Rattle.api_policy.specs.Visibility.{is_own, seen_networks, seen_ports}
-use Rattle.api_shown.specs.Ports.{port_members}
-use Rattle.api_shown.specs.Shown.{shown_as}
-use Rattle.api_steps.specs.Binding.{bound}
+use Rattle.api_policy.specs.Ports.{port_members}
+use Rattle.api_policy.specs.Shown.{shown_as}
+use Rattle.api_ml2.specs.Binding.{bound}
 use Rattle.api_steps.specs.Footing.{Near, blank, footing, is_near, near_of, unnumbered}
 use Rattle.api_steps.specs.Given.{are_unlike, is_for_other, is_given, owner_of, value_of, value_or}
 use Rattle.api_steps.specs.Ports.{creation_refusal, groups_at_first, has_subnet, ids_of, is_for_admin, is_for_owner, is_held, may_use, new_port, port_created, port_made, port_shown, text_of}
 use Rattle.api_steps.specs.Reads.{row_told}
 use Rattle.api_steps.specs.Refusing.{at_name, first_refusal, needing, not_found, told, unless, when}
 use Rattle.api_steps.specs.State.{State, drawing_at}
-use Rattle.row_laws.proofs.ListLemmas.{and_both, or_none}
+use Rattle.api_types.proofs.ListLemmas.{and_both, or_none}
 use Rattle.api_steps.proofs.DrawnAlike.{counts_of, counts_same, drawn_one, groups_of, groups_same}
 use Rattle.api_steps.proofs.FootingLemmas.{first_none, named_alike, named_near, near_alike, near_same, needing_by, network_id, not_admin, owner_own, port_id, port_near, unless_alike}
 use Rattle.api_steps.proofs.ListLemmas.{any-some, find-filter, name_here}
 use Rattle.api_steps.proofs.ShownAlike.{port_members_alike, up_at}
 
 -- a host can carry a segment whatever its number is
-bound_blank : (settings : SettingsParts) (segment : Segment) (host : List ℕ) → bound settings segment host ≡ bound settings (unnumbered segment) host
+pub bound_blank : (settings : SettingsParts) (segment : Segment) (host : List ℕ) → bound settings segment host ≡ bound settings (unnumbered segment) host
 bound_blank settings Local host = refl
 bound_blank settings (Flat physical) host = refl
 bound_blank settings (Vlan physical tag) host = refl
 bound_blank settings (Vxlan number) host = refl
 
 -- a default group is found among the project's own groups
-default_own : (name : List ℕ) (groups : List GroupRow) → find (is_default_of name) (groups_of name groups) ≡ find (is_default_of name) groups
+pub default_own : (name : List ℕ) (groups : List GroupRow) → find (is_default_of name) (groups_of name groups) ≡ find (is_default_of name) groups
 default_own name groups = find-filter (λ (r : GroupRow). bytes_eq r.project name) (is_default_of name) groups (λ k r at is. (and_both r.is_default (bytes_eq r.project name) is).1)
 
 at_first_own : (name : List ℕ) (secured : Bool) (groups : List GroupRow) → groups_at_first (groups_of name groups) name secured ≡ groups_at_first groups name secured
@@ -120,18 +120,18 @@ module _ (settings : SettingsParts) (caller : Caller) (tenant : caller.admin ≡
       held None = refl
       held (Some mac) = ap (λ (x : Near). x.macs mac) told_near
 
-  made_same : IsConsistent s.rows → IsConsistent t.rows → (form : PortForm) (n m : NetworkRow) → is_near s.rows caller n.id ≡ true → blank n ≡ blank m
+  made_same : not (is_empty caller.project) ≡ true → IsConsistent s.rows → IsConsistent t.rows → (form : PortForm) (n m : NetworkRow) → is_near s.rows caller n.id ≡ true → blank n ≡ blank m
       → (x y : Drawing) → drawing_at s caller.project 1 ≡ Some x → drawing_at t caller.project 1 ≡ Some y → counts_of x ≡ counts_of y
       → told (port_made settings caller form n caller.project x) ≡ told (port_made settings caller form m caller.project y)
-  made_same c d form n m near alike x y at_x at_y counts =
+  made_same named c d form n m near alike x y at_x at_y counts =
       ap (λ members. Told (NewRow (shown_as PortKind caller.admin [] members))) (port_members_alike (with_port x.rows p) (with_port y.rows q) p q
       (λ j. port_by form (alike j) caller.project (ident (counts j).0 ((counts j).1 + 0)) (groups j) (vifs j) (by_admin j)) up)
     where
       dx : IsDrawing s.rows caller.project 1 x × (draw_of s.rows caller.project 1 ≡ Some x)
-      dx = drawn_one s caller.project x c at_x
+      dx = drawn_one s caller.project x c named at_x
 
       dy : IsDrawing t.rows caller.project 1 y × (draw_of t.rows caller.project 1 ≡ Some y)
-      dy = drawn_one t caller.project y d at_y
+      dy = drawn_one t caller.project y d named at_y
 
       secured : Bool
       secured = value_or true form.port_security_enabled
@@ -160,8 +160,8 @@ module _ (settings : SettingsParts) (caller : Caller) (tenant : caller.admin ≡
           ∙ (up_same n.id near ∙ (ap (λ k. up_at k.id t.rows.networks) alike
           ∙ sym (ap (λ rows. up_at m.id rows) dy.0.networks)))
 
-  pub port_created_apart : IsConsistent s.rows → IsConsistent t.rows → (form : PortForm) → told (port_created settings s caller form) ≡ told (port_created settings t caller form)
-  port_created_apart c d form = unless_alike (when (are_unlike form.project_id form.tenant_id) (Invalid (codes "tenant_id")))
+  pub port_created_apart : not (is_empty caller.project) ≡ true → IsConsistent s.rows → IsConsistent t.rows → (form : PortForm) → told (port_created settings s caller form) ≡ told (port_created settings t caller form)
+  port_created_apart named c d form = unless_alike (when (are_unlike form.project_id form.tenant_id) (Invalid (codes "tenant_id")))
       (needing refusal (at_name network_id (value_of form.network_id) (seen_networks s.rows caller)) (λ n. unless (creation_refusal s.rows caller form n) (port_for settings s caller form n owner)))
       (needing refusal (at_name network_id (value_of form.network_id) (seen_networks t.rows caller)) (λ n. unless (creation_refusal t.rows caller form n) (port_for settings t caller form n owner)))
       (λ likely. named_alike settings caller s t same refusal (value_of form.network_id)
@@ -172,7 +172,7 @@ module _ (settings : SettingsParts) (caller : Caller) (tenant : caller.admin ≡
       ∙ unless_alike (creation_refusal t.rows caller form m) (port_for settings s caller form n owner) (port_for settings t caller form m owner)
       (λ passes. subst (λ name. told (port_for settings s caller form n name) ≡ told (port_for settings t caller form m name)) (sym (own m passes))
       (needing_by CountersSpent (drawing_at s caller.project 1) (drawing_at t caller.project 1) (port_made settings caller form n caller.project) (port_made settings caller form m caller.project)
-      counts_of (counts_same settings caller s t same 1) (made_same c d form n m near alike)))))
+      counts_of (counts_same settings caller s t same 1) (made_same named c d form n m near alike)))))
     where
       owner : List ℕ
       owner = owner_of caller form.project_id form.tenant_id

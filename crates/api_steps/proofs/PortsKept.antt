@@ -36,8 +36,8 @@ use Rattle.net_settings.specs.Settings.{SettingsParts}
 use Rattle.row_laws.specs.Drawn.{IsDrawing}
 use Rattle.row_laws.specs.NewRows.{IsNewPort, with_port}
 use Rattle.row_laws.proofs.DrawnKept.{draws}
-use Rattle.row_laws.proofs.ListLemmas.{and_both, at-any, count-none, false_true, none-any, or_true}
-use Rattle.row_laws.proofs.NameLemmas.{bytes_itself, bytes_same, by_test, ident_itself}
+use Rattle.api_types.proofs.ListLemmas.{and_both, at-any, count-none, false_true, none-any, or_true}
+use Rattle.api_types.proofs.NameLemmas.{bytes_itself, bytes_same, by_test, ident_itself}
 use Rattle.row_laws.proofs.PortPushed.{port_pushed}
 use Rattle.api_policy.specs.Visibility.{is_own, sees_network, seen_networks}
 use Rattle.api_steps.specs.Given.{are_unlike, is_for_other, is_given, is_other, owner_of, value_of, value_or}
@@ -45,7 +45,7 @@ use Rattle.api_steps.specs.InForm.{IsPortForm}
 use Rattle.api_steps.specs.Ports.{creation_refusal, groups_at_first, has_subnet, ids_of, is_for_admin, is_for_owner, is_held, may_use, new_port, port_added, port_created, port_made, text_of}
 use Rattle.api_steps.specs.Refusing.{at_name, needing, not_found, unless, when}
 use Rattle.api_steps.specs.State.{State, drawing_at}
-use Rattle.api_steps.proofs.NetworksKept.{drawn_is}
+use Rattle.api_steps.proofs.NetworksKept.{drawn_is, owner_named}
 use Rattle.api_steps.proofs.OutcomeLemmas.{IsNamed, found_at, moved_rows, named_is, needing_moved, none_first, not_when, unless_moved}
 
 -- what holds where nothing forbids the port
@@ -153,7 +153,7 @@ there rows owner n admin k at tenant = by admin refl (bytes_eq n.project owner) 
     by true e false f false g = refl
     by false e false f false g = false_true _ ((λ j. sym f j || sym g j) ∙ tenant e)
 
-module _ (settings : SettingsParts) (state : State) (caller : Caller) (form : PortForm) (c : IsConsistent state.rows) (given : IsPortForm form) where
+module _ (settings : SettingsParts) (state : State) (caller : Caller) (form : PortForm) (c : IsConsistent state.rows) (named : not (is_empty caller.project) ≡ true) (given : IsPortForm form) where
   abbrev project : List ℕ
   project = owner_of caller form.project_id form.tenant_id
 
@@ -221,6 +221,6 @@ module _ (settings : SettingsParts) (state : State) (caller : Caller) (form : Po
       let passed = unless_moved (creation_refusal state.rows caller form n) (draw n) rows reply found.2 in
       let drawing = needing_moved CountersSpent (drawing_at state project 1) (make n) rows reply passed.1 in
       let d : Drawing = drawing.0 in
-      let drawn = draws state.rows project 1 d c (lit< tt) (drawn_is state project 1 d drawing.1).1 in
+      let drawn = draws state.rows project 1 d c (owner_named caller form.project_id form.tenant_id named given.projects) (lit< tt) (drawn_is state project 1 d drawing.1).1 in
       subst IsConsistent (moved_rows (with_port d.rows (port n d)) rows _ reply drawing.2)
       (port_pushed d.rows (port n d) (is_new_port n d mac here drawn (allowed_is state.rows caller form n passed.0) mac_is) drawn.consistent)

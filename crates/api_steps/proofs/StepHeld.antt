@@ -32,21 +32,20 @@ use Rattle.api_types.specs.declared.refusal.Refusal.TheVariants.{CountersSpent, 
 use Rattle.net_settings.specs.Settings.{SettingsParts}
 use Rattle.row_laws.specs.NewRows.{with_port}
 use Rattle.row_laws.specs.Gone.{without_network}
-use Rattle.row_laws.proofs.DrawnKept.{drawing_carried, draws}
-use Rattle.row_laws.proofs.ListLemmas.{and_both, at-any, both_and, none_some, some_equal}
-use Rattle.row_laws.proofs.NameLemmas.{ident_itself}
+use Rattle.api_types.proofs.ListLemmas.{and_both, at-any, both_and, none_some, some_equal}
+use Rattle.api_types.proofs.NameLemmas.{ident_itself}
 use Rattle.row_laws.proofs.NetworkGone.{gone_carried}
 use Rattle.row_laws.proofs.NetworkPushed as pushed
 use Rattle.row_laws.proofs.NetworkReplaced as replaced
 use Rattle.row_laws.proofs.PortPushed as port_pushed
-use Rattle.api_check.specs.Carrying.{carries}
+use Rattle.api_ml2.specs.Carrying.{carries}
 use Rattle.api_policy.specs.Visibility.{seen_networks, sees_network}
-use Rattle.api_steps.specs.Binding.{binds, bound}
+use Rattle.api_ml2.specs.Binding.{binds, bound}
 use Rattle.api_steps.specs.Given.{are_unlike, owner_of, value_of, value_or}
 use Rattle.api_steps.specs.Networks.{changed_network, creation_refusal, deletion_refusal, network_created, network_deleted, network_named, network_updated, new_network, update_refusal}
 use Rattle.api_steps.specs.Holdable.{AreHoldable}
 use Rattle.api_steps.specs.NotBuilt.{is_network_ahead, is_port_ahead}
-use Rattle.api_steps.specs.Numbers.{free_number}
+use Rattle.api_ml2.specs.Numbers.{free_number}
 use Rattle.api_steps.specs.Ports as ports
 use Rattle.api_steps.specs.Refusing.{at_name, needing, not_found, unless, when}
 use Rattle.api_steps.specs.State.{State, drawing_at}
@@ -61,36 +60,30 @@ taken : {X : Type 0} (b : Bool) (x y : X) → (if b then Some x else None) ≡ S
 taken true x y h = (refl, some_equal x y h)
 taken false x y h = none_some y _ h
 
-drawn_few : (rows : RowLists) (name : List ℕ) (many : ℕ) (d : Drawing) → length rows.projects < 2 ^ 32 → draw_of rows name many ≡ Some d → length d.rows.projects < 2 ^ 32
-drawn_few rows name many d few h = by (position (is_named name) rows.projects) h
+-- a drawing leaves networks and ports as they were
+drawn_same : (rows : RowLists) (name : List ℕ) (many : ℕ) (d : Drawing) → draw_of rows name many ≡ Some d → (d.rows.networks ≡ rows.networks) × (d.rows.ports ≡ rows.ports)
+drawn_same rows name many d h = by (position (is_named name) rows.projects) h
   where
-    known : (place : ℕ) (o : Option ProjectRow) → draw_for rows place many o ≡ Some d → length d.rows.projects < 2 ^ 32
+    known : (place : ℕ) (o : Option ProjectRow) → draw_for rows place many o ≡ Some d → (d.rows.networks ≡ rows.networks) × (d.rows.ports ≡ rows.ports)
     known place None h = none_some d _ h
     known place (Some p) h =
         let t = taken (nat_lt (p.count + many) (2 ^ 62)) (record { rows = with_count rows place p (p.count + many); ordinal = p.ordinal; first = p.count + 1 }) d h in
-        let grown : length (slice_set rows.projects place (record p { count = p.count + many })) ≡ length d.rows.projects = ap (λ (x : Drawing). length x.rows.projects) t.1 in
-        omega (arith, few, grown, length-set rows.projects place (record p { count = p.count + many }))
+        (λ j. (sym t.1 j).rows.networks, λ j. (sym t.1 j).rows.ports)
 
-    by : (o : Option ℕ) → draw_at rows name many o ≡ Some d → length d.rows.projects < 2 ^ 32
+    by : (o : Option ℕ) → draw_at rows name many o ≡ Some d → (d.rows.networks ≡ rows.networks) × (d.rows.ports ≡ rows.ports)
     by None h =
         let t = taken (nat_lt (length rows.projects) (2 ^ 32 - 1)) (record { rows = with_project rows name (length rows.projects + 1) (5 + many); ordinal = length rows.projects + 1; first = 6 }) d h in
-        let less : length rows.projects < 2 ^ 32 - 1 = grind (arith, nat_tests, t.0) in
-        let new : ProjectRow = record { name = name; ordinal = length rows.projects + 1; count = 5 + many } in
-        let grown : length (rows.projects ++ new ∷ []) ≡ length d.rows.projects = ap (λ (x : Drawing). length x.rows.projects) t.1 in
-        omega (arith, less, grown, length-append rows.projects (new ∷ []))
+        (λ j. (sym t.1 j).rows.networks, λ j. (sym t.1 j).rows.ports)
     by (Some place) h = known place (slice_get rows.projects place) h
 
 module _ (settings : SettingsParts) where
   abbrev pub can : List ℕ → Segment → Bool
   can = carries settings.hosts
 
-  drawn_held : (state : State) (project : List ℕ) (d : Drawing) → IsConsistent state.rows → AreHoldable can state.rows → drawing_at state project 1 ≡ Some d → AreHoldable can d.rows
-  drawn_held state project d c held h =
-      let drawn = (drawn_is state project 1 d h).1 in
-      record {
-        few = drawn_few state.rows project 1 d held.few drawn;
-        carried = drawing_carried can state.rows project 1 d (draws state.rows project 1 d c (lit< tt) drawn) held.carried;
-      }
+  drawn_held : (state : State) (project : List ℕ) (d : Drawing) → AreHoldable can state.rows → drawing_at state project 1 ≡ Some d → AreHoldable can d.rows
+  drawn_held state project d held h =
+      let same = drawn_same state.rows project 1 d (drawn_is state project 1 d h).1 in
+      subst (λ ports. AreCarried can d.rows.networks ports) (sym same.1) (subst (λ networks. AreCarried can networks state.rows.ports) (sym same.0) held)
 
   -- ---- networks
 
@@ -102,9 +95,9 @@ module _ (settings : SettingsParts) where
       let numbered = needing_moved NoNetwork (free_number settings state.rows.networks) _ rows reply passed.1 in
       let drawn = needing_moved CountersSpent (drawing_at state owner 1) _ rows reply numbered.2 in
       let d : Drawing = drawn.0 in
-      let before = drawn_held state owner d c held drawn.1 in
+      let before = drawn_held state owner d held drawn.1 in
       let n : NetworkRow = new_network owner form (drawn_id d 0) numbered.0 in
-      subst (AreHoldable can) (moved_rows _ rows _ reply drawn.2) (record { few = before.few; carried = pushed.are_carried d.rows.networks n can before.carried })
+      subst (AreHoldable can) (moved_rows _ rows _ reply drawn.2) (pushed.are_carried d.rows.networks n can before)
 
   network_updated_held : (state : State) (caller : Caller) (name : IdText) (form : NetworkForm) (rows : RowLists) (reply : Reply) → IsConsistent state.rows → AreHoldable can state.rows
       → network_updated state caller name form ≡ Moved rows reply → AreHoldable can rows
@@ -116,11 +109,9 @@ module _ (settings : SettingsParts) where
       let new : NetworkRow = changed_network form n in
       let once = c.numbered.ids n.id in
       let put = put_once (λ m. ident_eq n.id m.id) state.rows.networks here.place n new here.at (ident_itself n.id) (omega (arith, once)) in
-      subst (AreHoldable can) (moved_rows _ rows _ reply passed.1) (record {
-        few = held.few;
-        carried = subst (λ networks. AreCarried can networks state.rows.ports) (sym put)
-            (replaced.are_carried state.rows.networks here.place n new here.at (record { id = refl; project = refl; segment = refl }) can held.carried);
-      })
+      subst (AreHoldable can) (moved_rows _ rows _ reply passed.1)
+      (subst (λ networks. AreCarried can networks state.rows.ports) (sym put)
+      (replaced.are_carried state.rows.networks here.place n new here.at (record { id = refl; project = refl; segment = refl }) can held))
 
   network_deleted_held : (state : State) (caller : Caller) (name : IdText) (rows : RowLists) (reply : Reply) → IsConsistent state.rows → AreHoldable can state.rows
       → network_deleted state caller name ≡ Moved rows reply → AreHoldable can rows
@@ -128,10 +119,8 @@ module _ (settings : SettingsParts) where
       let found = needing_moved (not_found Network name.text) (network_named state.rows caller name) (λ n. unless (deletion_refusal state caller n) (Moved (without_network state.rows n.id) NoRow)) rows reply h in
       let n : NetworkRow = found.0 in
       let passed = unless_moved (deletion_refusal state caller n) (Moved (without_network state.rows n.id) NoRow) rows reply found.2 in
-      subst (AreHoldable can) (moved_rows (without_network state.rows n.id) rows NoRow reply passed.1) (record {
-        few = held.few;
-        carried = gone_carried state.rows n.id c (unused state.rows.ports state.rows n refl (not_used state caller n passed.0)) can held.carried;
-      })
+      subst (AreHoldable can) (moved_rows (without_network state.rows n.id) rows NoRow reply passed.1)
+      (gone_carried state.rows n.id c (unused state.rows.ports state.rows n refl (not_used state caller n passed.0)) can held)
 
   -- ---- ports
 
@@ -151,10 +140,8 @@ module _ (settings : SettingsParts) where
   -- a port that is bound as the settings have it
   port_pushed_held : (rows : RowLists) (p : PortRow) (n : NetworkRow) (place : ℕ) → AreHoldable can rows → slice_get rows.networks place ≡ Some n → p.network ≡ n.id
       → p.vif ≡ bound settings n.segment p.host → AreHoldable can (with_port rows p)
-  port_pushed_held rows p n place held at on vif = record {
-    few = held.few;
-    carried = port_pushed.are_carried rows.ports p can (where_bound (is_bound p.vif) (stands_so (λ (m : NetworkRow). m.id) p.network (λ m. can p.host m.segment) rows.networks) stands) held.carried;
-  }
+  port_pushed_held rows p n place held at on vif =
+      port_pushed.are_carried rows.ports p can (where_bound (is_bound p.vif) (stands_so (λ (m : NetworkRow). m.id) p.network (λ m. can p.host m.segment) rows.networks) stands) held
     where
       stands : is_bound p.vif ≡ true → stands_so (λ (m : NetworkRow). m.id) p.network (λ m. can p.host m.segment) rows.networks ≡ true
       stands b = at-any (λ (m : NetworkRow). ident_eq p.network m.id && can p.host m.segment) rows.networks place n at
@@ -176,9 +163,9 @@ module _ (settings : SettingsParts) where
       let passed = unless_moved (ports.creation_refusal state.rows caller form n) (draw n) rows reply found.2 in
       let drawing = needing_moved CountersSpent (drawing_at state project 1) (make n) rows reply passed.1 in
       let d : Drawing = drawing.0 in
-      let before = drawn_held state project d c held drawing.1 in
-      let drawn = draws state.rows project 1 d c (lit< tt) (drawn_is state project 1 d drawing.1).1 in
-      let at : slice_get d.rows.networks here.place ≡ Some n = ap (λ networks. slice_get networks here.place) drawn.networks ∙ here.at in
+      let before = drawn_held state project d held drawing.1 in
+      let same = drawn_same state.rows project 1 d (drawn_is state project 1 d drawing.1).1 in
+      let at : slice_get d.rows.networks here.place ≡ Some n = ap (λ networks. slice_get networks here.place) same.0 ∙ here.at in
       let p : PortRow = ports.new_port settings d.rows caller form n project (drawn_id d 0) (ports.groups_at_first d.rows.groups project (value_or true form.port_security_enabled)) in
       subst (AreHoldable can) (moved_rows (with_port d.rows p) rows _ reply drawing.2) (port_pushed_held d.rows p n here.place before at refl refl)
 

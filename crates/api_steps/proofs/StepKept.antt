@@ -27,10 +27,10 @@ use Rattle.api_types.specs.declared.refusal.Refusal.TheVariants.{NotBuilt}
 use Rattle.net_settings.specs.Rules.{MeetsRules}
 use Rattle.net_settings.specs.Settings.{SettingsParts}
 use Rattle.api_policy.specs.Visibility.{seen_networks, seen_ports}
-use Rattle.api_shown.specs.Listed.{has_marker, listed as rows_of}
-use Rattle.api_shown.specs.Networks.{network_members}
-use Rattle.api_shown.specs.Ports.{port_members}
-use Rattle.api_shown.specs.Shown.{shown_as}
+use Rattle.api_policy.specs.Listed.{has_marker, listed as rows_of}
+use Rattle.api_policy.specs.Networks.{network_members}
+use Rattle.api_policy.specs.Ports.{port_members}
+use Rattle.api_policy.specs.Shown.{shown_as}
 use Rattle.api_steps.specs.Given.{is_given, value_of}
 use Rattle.api_steps.specs.InForm.{IsForm, IsInForm, IsPortForm}
 use Rattle.api_steps.specs.Networks.{network_created, network_updated}
@@ -58,21 +58,21 @@ given_mac : (a b c d e : Bool) → not a || b || c || d || e ≡ false → a ≡
 given_mac true b c d e h = refl
 given_mac false b c d e h = cc
 
-created : (settings : SettingsParts) (state : State) (caller : Caller) (form : Form) (rows : RowLists) (reply : Reply) → MeetsRules settings → IsConsistent state.rows → IsForm form
+created : (settings : SettingsParts) (state : State) (caller : Caller) (form : Form) (rows : RowLists) (reply : Reply) → MeetsRules settings → IsConsistent state.rows → not (is_empty caller.project) ≡ true → IsForm form
     → row_created settings state caller form ≡ Moved rows reply → IsConsistent rows
-created settings state caller (NetworkOf form) rows reply rules c given h =
-    networks.created_kept settings state caller form rows reply rules c (built_moved (is_network_ahead form) (network_created settings state caller form) rows reply h).1
-created settings state caller (PortOf form) rows reply rules c given h =
+created settings state caller (NetworkOf form) rows reply rules c named given h =
+    networks.created_kept settings state caller form rows reply rules c named given (built_moved (is_network_ahead form) (network_created settings state caller form) rows reply h).1
+created settings state caller (PortOf form) rows reply rules c named given h =
     let built = built_moved (is_port_ahead form) (port_created settings state caller form) rows reply h in
     let stands = given_mac (is_given form.mac_address) (is_given form.fixed_ips) (is_given form.allowed_address_pairs) (is_given form.security_groups) (not (is_empty (host_of form) || bytes_eq (host_of form) (codes "c1"))) built.0 in
     let mac = mac_given form.mac_address given.mac stands in
-    ports.created_kept settings state caller form c given rows reply mac.0 mac.1 built.1
-created settings state caller (SubnetOf form) rows reply rules c given h = cc
-created settings state caller (GroupOf form) rows reply rules c given h = cc
-created settings state caller (RuleOf form) rows reply rules c given h = cc
-created settings state caller (RouterOf form) rows reply rules c given h = cc
-created settings state caller (FloatingOf form) rows reply rules c given h = cc
-created settings state caller (PolicyOf form) rows reply rules c given h = cc
+    ports.created_kept settings state caller form c named given rows reply mac.0 mac.1 built.1
+created settings state caller (SubnetOf form) rows reply rules c named given h = cc
+created settings state caller (GroupOf form) rows reply rules c named given h = cc
+created settings state caller (RuleOf form) rows reply rules c named given h = cc
+created settings state caller (RouterOf form) rows reply rules c named given h = cc
+created settings state caller (FloatingOf form) rows reply rules c named given h = cc
+created settings state caller (PolicyOf form) rows reply rules c named given h = cc
 
 -- what is told of a row moves nothing
 row_stays : {R : Type 0} (kind : Kind) (id_of : R → Ident) (members : R → List NamedTree) (caller : Caller) (name : IdText) (fields : List (List ℕ)) (seen : List R) (rows : RowLists) (reply : Reply) (P : Type 0)
@@ -124,11 +124,11 @@ deleted state caller Router name rows reply c h = cc
 deleted state caller Floating name rows reply c h = cc
 deleted state caller Policy name rows reply c h = cc
 
-pub step_kept : (settings : SettingsParts) (state : State) (caller : Caller) (call : Call) (rows : RowLists) (reply : Reply) → MeetsRules settings → IsConsistent state.rows → IsInForm call
+pub step_kept : (settings : SettingsParts) (state : State) (caller : Caller) (call : Call) (rows : RowLists) (reply : Reply) → MeetsRules settings → IsConsistent state.rows → IsInForm caller call
     → api_step settings state caller call ≡ Moved rows reply → IsConsistent rows
 step_kept settings state caller (ListCall kind query) rows reply rules c given h = list_stays state caller kind query rows reply (IsConsistent rows) h
 step_kept settings state caller (Show kind name fields) rows reply rules c given h = shown state caller kind name fields rows reply (IsConsistent rows) h
-step_kept settings state caller (Create form) rows reply rules c given h = created settings state caller form rows reply rules c given h
+step_kept settings state caller (Create form) rows reply rules c given h = created settings state caller form rows reply rules c given.named given.body h
 step_kept settings state caller (Update name form) rows reply rules c given h = updated state caller name form rows reply c h
 step_kept settings state caller (Delete kind name) rows reply rules c given h = deleted state caller kind name rows reply c h
 step_kept settings state caller (AddInterface router by) rows reply rules c given h = cc

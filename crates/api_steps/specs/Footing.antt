@@ -3,6 +3,8 @@ use Rattle.std.specs.Prelude.{ℕ, ◌+◌, ◌-◌, ◌&&◌, ◌||◌, ◌==�
 use Rattle.std.specs.List.{list_any}
 use Rattle.std.specs.Option.{option_or}
 use Rattle.std.specs.Str.{bytes_eq}
+use Rattle.net_addr.specs.Addresses.{addr_eq}
+use Rattle.net_addr.specs.declared.address.Addr.{Addr}
 use Rattle.api_types.specs.Consistent.HeldOnce.{has_mac}
 use Rattle.api_types.specs.Consistent.Segments.{most_networks}
 use Rattle.api_types.specs.Ident.{Ident}
@@ -28,8 +30,8 @@ use Rattle.api_types.specs.declared.router.RouterRow.{RouterRow}
 use Rattle.api_types.specs.declared.subnet.SubnetRow.{SubnetRow}
 use Rattle.net_settings.specs.Settings.{SettingsParts}
 use Rattle.api_policy.specs.Visibility.{seen_networks, seen_ports, seen_subnets}
-use Rattle.api_shown.specs.Networks.{is_open}
-use Rattle.api_steps.specs.Numbers.{least_free}
+use Rattle.api_policy.specs.Networks.{is_open}
+use Rattle.api_ml2.specs.Numbers.{least_free}
 use Rattle.api_steps.specs.State.{State, is_last}
 
 -- a network without its vxlan number, which tenants never learn
@@ -63,7 +65,7 @@ pub record Near : Type 0 where
   pub up : Option Bool
   pub segment : Option Segment
   pub subnets : List SubnetRow
-  pub addresses : ℕ → Bool
+  pub addresses : Addr → Bool
   pub macs : ℕ → Bool
   pub shared : Bool
   pub external : Bool
@@ -75,7 +77,7 @@ near_of rows project i = record {
   up = option_map (λ (n : NetworkRow). n.up) (row_of (λ n. n.id) i rows.networks);
   segment = option_map (λ (n : NetworkRow). unnumbered n.segment) (row_of (λ n. n.id) i rows.networks);
   subnets = filter (λ s. ident_eq i s.network) rows.subnets;
-  addresses = λ x. list_any (λ p. ident_eq i p.network && list_any (λ (f : Fixed). f.address == x) p.fixed) rows.ports;
+  addresses = λ x. list_any (λ p. ident_eq i p.network && list_any (λ (f : Fixed). addr_eq f.address x) p.fixed) rows.ports;
   macs = λ m. list_any (has_mac i m) rows.ports;
   shared = is_shared_with rows.policies i project;
   external = is_external_to rows.policies i project;

@@ -1,8 +1,6 @@
 pub mod State
 pub mod Refusing
 pub mod Given
-pub mod Numbers
-pub mod Binding
 pub mod Reads
 pub mod Networks
 pub mod Ports

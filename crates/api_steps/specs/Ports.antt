@@ -26,9 +26,9 @@ use Rattle.api_types.specs.declared.subnet.SubnetRow.{SubnetRow}
 use Rattle.net_settings.specs.Settings.{SettingsParts}
 use Rattle.row_laws.specs.NewRows.{with_port}
 use Rattle.api_policy.specs.Visibility.{is_own, seen_networks}
-use Rattle.api_shown.specs.Ports.{port_members}
-use Rattle.api_shown.specs.Shown.{shown_as}
-use Rattle.api_steps.specs.Binding.{bound}
+use Rattle.api_policy.specs.Ports.{port_members}
+use Rattle.api_policy.specs.Shown.{shown_as}
+use Rattle.api_ml2.specs.Binding.{bound}
 use Rattle.api_steps.specs.Given.{are_unlike, is_for_other, is_given, owner_of, value_of, value_or}
 use Rattle.api_steps.specs.Refusing.{at_name, first_refusal, needing, not_found, unless, when}
 use Rattle.api_steps.specs.State.{State, drawing_at}

@@ -8,8 +8,8 @@ use Rattle.api_types.specs.declared.call.Caller.{Caller}
 use Rattle.api_types.specs.declared.call.IdText.{IdText}
 use Rattle.api_types.specs.declared.call.Query.{Query}
 use Rattle.api_types.specs.declared.kind.Kind.{Kind}
-use Rattle.api_shown.specs.Listed.{has_marker, listed}
-use Rattle.api_shown.specs.Shown.{shown_as}
+use Rattle.api_policy.specs.Listed.{has_marker, listed}
+use Rattle.api_policy.specs.Shown.{shown_as}
 use Rattle.api_steps.specs.Refusing.{at_name, needing, not_found, unless, when}
 
 -- of the rows that the caller sees, the one that a text names, with these members

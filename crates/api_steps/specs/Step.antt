@@ -16,8 +16,8 @@ use Rattle.api_types.specs.declared.kind.Kind.TheVariants.{Project, Network, Sub
 use Rattle.api_types.specs.declared.refusal.Refusal.TheVariants.{NotBuilt}
 use Rattle.net_settings.specs.Settings.{SettingsParts}
 use Rattle.api_policy.specs.Visibility.{seen_networks, seen_ports}
-use Rattle.api_shown.specs.Networks.{network_members}
-use Rattle.api_shown.specs.Ports.{port_members}
+use Rattle.api_policy.specs.Networks.{network_members}
+use Rattle.api_policy.specs.Ports.{port_members}
 use Rattle.api_steps.specs.Networks.{network_created, network_deleted, network_updated}
 use Rattle.api_steps.specs.NotBuilt.{is_kind_ahead, is_network_ahead, is_port_ahead}
 use Rattle.api_steps.specs.Ports.{port_created}

@@ -3,3 +3,8 @@ pub mod TableLemmas
 pub mod PlaceLemmas
 pub mod EditLemmas
 pub mod ChangeLemmas
+pub mod ListLemmas
+pub mod NameLemmas
+pub mod IdTexts
+pub mod IdLemmas
+pub mod SortLemmas

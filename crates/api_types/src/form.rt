@@ -1,8 +1,8 @@
 use crate::group::{Direction, Ethertype};
 use crate::id::Id;
 use crate::policy::Action;
-use crate::subnet::Routes;
-use net_addr::{Addr4, Mac, Prefix4, Seq, Spans, Text};
+use crate::subnet::{Ipv6Mode, Routes};
+use net_addr::{Addr, Addr4, Mac, Prefix, Seq, Spans, Text};
 
 /// What a body says of an attribute.
 #[derive(Drop)]
@@ -28,6 +28,7 @@ pub enum NetworkType {
 #[derive(Clone, Copy, Debug, PartialEq, Eq)]
 pub enum IpVersion {
     V4,
+    V6,
 }
 
 /// The type of a virtual card (`binding:vnic_type`).
@@ -46,7 +47,7 @@ pub enum ObjectType {
 /// least one of the two is there.
 #[derive(Clone, Copy, Debug, PartialEq, Eq)]
 pub struct FixedAsked {
-    pub address: Option<Addr4>,
+    pub address: Option<Addr>,
     pub subnet: Option<Id>,
 }
 
@@ -54,7 +55,7 @@ pub struct FixedAsked {
 #[derive(Clone, Copy, Debug, PartialEq, Eq)]
 pub struct PairAsked {
     pub mac: Option<Mac>,
-    pub prefix: Prefix4,
+    pub prefix: Prefix,
 }
 
 /// A gateway as it is asked for (`external_gateway_info`).
@@ -86,11 +87,13 @@ pub struct SubnetForm {
     pub description: Given<Text>,
     pub network_id: Given<Id>,
     pub ip_version: Given<IpVersion>,
-    pub cidr: Given<Prefix4>,
-    pub gateway_ip: Given<Addr4>,
+    pub ipv6_address_mode: Given<Ipv6Mode>,
+    pub ipv6_ra_mode: Given<Ipv6Mode>,
+    pub cidr: Given<Prefix>,
+    pub gateway_ip: Given<Addr>,
     pub allocation_pools: Given<Spans>,
     pub enable_dhcp: Given<bool>,
-    pub dns_nameservers: Given<Seq<Addr4>>,
+    pub dns_nameservers: Given<Seq<Addr>>,
     pub host_routes: Given<Routes>,
 }
 
@@ -133,7 +136,7 @@ pub struct RuleForm {
     pub protocol: Given<u8>,
     pub port_range_min: Given<u16>,
     pub port_range_max: Given<u16>,
-    pub remote_ip_prefix: Given<Prefix4>,
+    pub remote_ip_prefix: Given<Prefix>,
     pub remote_group_id: Given<Id>,
 }
 

@@ -1,8 +1,10 @@
 ghost use Rattle.std.specs.Prelude.{◌≡◌};
+ghost use Rattle.api_types.specs.Consistent.InForm.{is_group_of as group_of_in};
 
 use crate::id::Id;
+use crate::shared::Shared;
 use crate::table::Keyed;
-use net_addr::{Copies, OutOfMemory, Prefix4, Same, Text};
+use net_addr::{Copies, OutOfMemory, Prefix, Same, Text};
 use std::alloc::Global;
 
 /// Which way a packet goes, seen from the port.
@@ -81,7 +83,7 @@ pub struct RuleRow {
     /// The greatest port, or the code for ICMP.
     pub high: Option<u16>,
     /// Where the far address may be.
-    pub remote_prefix: Option<Prefix4>,
+    pub remote_prefix: Option<Prefix>,
     /// The group of which the far address may be a member's.
     pub remote_group: Option<Id>,
 }
@@ -126,4 +128,14 @@ impl Keyed for RuleRow {
     fn id(&self) -> Id {
         self.id
     }
+}
+
+/// Whether a security group with this id is there and is the project's. Its cost grows with the
+/// groups.
+pub fn is_group_of(groups: &[Shared<GroupRow>], project: &Text, id: Id) -> bool
+    ensures { result ≡ group_of_in groups.now project.now id }
+{
+    groups
+        .iter()
+        .any(|group| id == group.id && group.project == *project)
 }

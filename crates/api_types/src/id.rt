@@ -51,7 +51,7 @@ impl Id {
         self.count
     }
 
-    fn uuid(self) -> Uuid
+    pub(crate) fn uuid(self) -> Uuid
         ensures { result ≡ uuid_bytes self }
     {
         let high = self.ordinal as u64 * 0x1_0000_0000 + 0x8000;

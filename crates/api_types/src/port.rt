@@ -2,7 +2,7 @@ ghost use Rattle.std.specs.Prelude.{◌≡◌};
 
 use crate::id::Id;
 use crate::table::Keyed;
-use net_addr::{Addr4, Copies, Mac, OutOfMemory, Prefix4, Same, Seq, Text};
+use net_addr::{Addr, Copies, Mac, OutOfMemory, Prefix, Same, Seq, Text};
 use std::alloc::Global;
 
 /// How a port is bound to a host (`binding:vif_type`).
@@ -20,7 +20,7 @@ pub enum Vif {
 #[derive(Clone, Copy, Debug, PartialEq, Eq)]
 pub struct Fixed {
     pub subnet: Id,
-    pub address: Addr4,
+    pub address: Addr,
 }
 
 /// The addresses that a port holds.
@@ -30,7 +30,7 @@ pub type FixedList = Seq<Fixed>;
 #[derive(Clone, Copy, Debug, PartialEq, Eq)]
 pub struct Pair {
     pub mac: Mac,
-    pub prefix: Prefix4,
+    pub prefix: Prefix,
 }
 
 impl Copies for Fixed {

@@ -4,7 +4,7 @@ ghost use Rattle.api_types.specs.declared.refusal.Refusal.TheVariants.{OutOfMemo
 use crate::id::Id;
 use crate::kind::Kind;
 use crate::network::Segment;
-use net_addr::{Addr4, Mac, OutOfMemory, Text};
+use net_addr::{Addr, Mac, OutOfMemory, Text};
 
 /// The rules of policy, which administrators meet.
 #[derive(Clone, Copy, Debug, PartialEq, Eq)]
@@ -37,7 +37,7 @@ pub enum UseRule {
 /// A value that is held once in a network.
 #[derive(Clone, Copy, Debug, PartialEq, Eq)]
 pub enum Value {
-    Address(Addr4),
+    Address(Addr),
     Mac(Mac),
 }
 

@@ -1,8 +1,9 @@
-ghost use Rattle.std.specs.Prelude.{◌≡◌, [], OnOk, OnErr, IfOk};
+ghost use Rattle.std.specs.Prelude.{◌≡◌, [], ◌∷◌, ◌++◌, if◌then◌else◌, OnOk, OnErr, IfOk};
+ghost use Rattle.api_types.specs.Table.{is_new};
 ghost use Rattle.api_types.specs.RowLists.{RowLists};
 
 use crate::change::{Change, Item};
-use crate::edit::{edit, unedit};
+use crate::edit::{add_shared, edit_shared, unedit_shared};
 use crate::floating::FloatingRow;
 use crate::group::{GroupRow, RuleRow};
 use crate::kind::Kind;
@@ -11,6 +12,7 @@ use crate::policy::PolicyRow;
 use crate::port::PortRow;
 use crate::project::ProjectRow;
 use crate::router::RouterRow;
+use crate::shared::Shared;
 use crate::subnet::SubnetRow;
 use crate::table::{Keyed, Table};
 use net_addr::{Copies, OutOfMemory};
@@ -19,15 +21,15 @@ use std::marker::Model;
 
 /// The rows of all kinds. Contracts see them as a record of nine lists in order of creation.
 pub struct Rows {
-    projects: Table<ProjectRow>,
-    networks: Table<NetworkRow>,
-    subnets: Table<SubnetRow>,
-    ports: Table<PortRow>,
-    groups: Table<GroupRow>,
-    rules: Table<RuleRow>,
-    routers: Table<RouterRow>,
-    floatings: Table<FloatingRow>,
-    policies: Table<PolicyRow>,
+    projects: Shared<Table<ProjectRow>>,
+    networks: Shared<Table<NetworkRow>>,
+    subnets: Shared<Table<SubnetRow>>,
+    ports: Shared<Table<PortRow>>,
+    groups: Shared<Table<GroupRow>>,
+    rules: Shared<Table<RuleRow>>,
+    routers: Shared<Table<RouterRow>>,
+    floatings: Shared<Table<FloatingRow>>,
+    policies: Shared<Table<PolicyRow>>,
 }
 
 impl Model for Rows {
@@ -56,48 +58,49 @@ impl Drop for Rows {
     }
 }
 
-fn copy_into<R: Keyed>(alloc: Global, from: &Table<R>, to: &mut Table<R>) -> Result<(), OutOfMemory>
-    ensures { OnOk result (to.new ≡ from.now) }
+fn no_table<R: Keyed>(alloc: Global) -> Result<Shared<Table<R>>, OutOfMemory>
+    ensures { IfOk result (λ t. t ≡ []) }
 {
-    *to = from.copy(alloc)?;
-    Ok(())
+    Shared::new(alloc, Table::new(alloc))
 }
 
 impl Copies for Rows {
     fn copy(&self, alloc: Global) -> Result<Rows, OutOfMemory> {
-        let mut rows = Rows::none(alloc);
-        self.fill(alloc, &mut rows)?;
-        Ok(rows)
+        Ok(Rows {
+            projects: self.projects.copy(alloc)?,
+            networks: self.networks.copy(alloc)?,
+            subnets: self.subnets.copy(alloc)?,
+            ports: self.ports.copy(alloc)?,
+            groups: self.groups.copy(alloc)?,
+            rules: self.rules.copy(alloc)?,
+            routers: self.routers.copy(alloc)?,
+            floatings: self.floatings.copy(alloc)?,
+            policies: self.policies.copy(alloc)?,
+        })
     }
 }
 
 impl Rows {
-    ghost use Rattle.api_types.specs.Rows.{FitsItem, after_item, before_item, Fits, after, before, no_rows, CameByItem, CameBy};
-
-    fn none(alloc: Global) -> Rows
-        ensures { result ≡ no_rows }
-    {
-        Rows {
-            projects: Table::new(alloc),
-            networks: Table::new(alloc),
-            subnets: Table::new(alloc),
-            ports: Table::new(alloc),
-            groups: Table::new(alloc),
-            rules: Table::new(alloc),
-            routers: Table::new(alloc),
-            floatings: Table::new(alloc),
-            policies: Table::new(alloc),
-        }
-    }
+    ghost use Rattle.api_types.specs.Rows.{FitsItem, after_item, before_item, Fits, after, before, no_rows, CameByItem, CameBy, project_id};
 
     /// No rows.
     pub fn empty(alloc: Global) -> Result<Rows, OutOfMemory>
         ensures { IfOk result (λ r. r ≡ no_rows) }
     {
-        Ok(Rows::none(alloc))
+        Ok(Rows {
+            projects: no_table(alloc)?,
+            networks: no_table(alloc)?,
+            subnets: no_table(alloc)?,
+            ports: no_table(alloc)?,
+            groups: no_table(alloc)?,
+            rules: no_table(alloc)?,
+            routers: no_table(alloc)?,
+            floatings: no_table(alloc)?,
+            policies: no_table(alloc)?,
+        })
     }
 
-    /// Equal rows. Its cost grows with the rows.
+    /// Equal rows, which share what they hold. Its cost is the same however many rows there are.
     pub fn copy(&self, alloc: Global) -> Result<Rows, OutOfMemory>
         ensures { IfOk result (λ r. r ≡ self.now) }
     {
@@ -108,77 +111,135 @@ impl Rows {
     pub fn projects(&self) -> &Table<ProjectRow>
         ensures { result.now ≡ self.now.projects }
     {
-        &self.projects
+        self.projects.get()
     }
 
     /// The networks.
     pub fn networks(&self) -> &Table<NetworkRow>
         ensures { result.now ≡ self.now.networks }
     {
-        &self.networks
+        self.networks.get()
     }
 
     /// The subnets.
     pub fn subnets(&self) -> &Table<SubnetRow>
         ensures { result.now ≡ self.now.subnets }
     {
-        &self.subnets
+        self.subnets.get()
     }
 
     /// The ports.
     pub fn ports(&self) -> &Table<PortRow>
         ensures { result.now ≡ self.now.ports }
     {
-        &self.ports
+        self.ports.get()
     }
 
     /// The security groups.
     pub fn groups(&self) -> &Table<GroupRow>
         ensures { result.now ≡ self.now.groups }
     {
-        &self.groups
+        self.groups.get()
     }
 
     /// The rules of security groups.
     pub fn rules(&self) -> &Table<RuleRow>
         ensures { result.now ≡ self.now.rules }
     {
-        &self.rules
+        self.rules.get()
     }
 
     /// The routers.
     pub fn routers(&self) -> &Table<RouterRow>
         ensures { result.now ≡ self.now.routers }
     {
-        &self.routers
+        self.routers.get()
     }
 
     /// The floating addresses.
     pub fn floatings(&self) -> &Table<FloatingRow>
         ensures { result.now ≡ self.now.floatings }
     {
-        &self.floatings
+        self.floatings.get()
     }
 
     /// The RBAC policies.
     pub fn policies(&self) -> &Table<PolicyRow>
         ensures { result.now ≡ self.now.policies }
     {
-        &self.policies
+        self.policies.get()
     }
 
-    fn fill(&self, alloc: Global, to: &mut Rows) -> Result<(), OutOfMemory>
-        ensures { OnOk result (to.new ≡ self.now) }
+    /// Adds a project last, where none has its id, and answers whether it did. Else all stays.
+    pub fn add_project(&mut self, alloc: Global, row: ProjectRow) -> Result<bool, OutOfMemory>
+        ensures added { IfOk result (λ added. (added ≡ is_new project_id row self.old.projects) × (self.new ≡ (if added then record self.old { projects = self.old.projects ++ row ∷ [] } else self.old))) }
+        ensures err { OnErr result (self.new ≡ self.old) }
     {
-        copy_into(alloc, &self.projects, &mut to.projects)?;
-        copy_into(alloc, &self.networks, &mut to.networks)?;
-        copy_into(alloc, &self.subnets, &mut to.subnets)?;
-        copy_into(alloc, &self.ports, &mut to.ports)?;
-        copy_into(alloc, &self.groups, &mut to.groups)?;
-        copy_into(alloc, &self.rules, &mut to.rules)?;
-        copy_into(alloc, &self.routers, &mut to.routers)?;
-        copy_into(alloc, &self.floatings, &mut to.floatings)?;
-        copy_into(alloc, &self.policies, &mut to.policies)
+        add_shared(alloc, &mut self.projects, row)
+    }
+
+    /// Adds a network last, where none has its id, and answers whether it did. Else all stays.
+    pub fn add_network(&mut self, alloc: Global, row: NetworkRow) -> Result<bool, OutOfMemory>
+        ensures added { IfOk result (λ added. (added ≡ is_new (λ r. r.id) row self.old.networks) × (self.new ≡ (if added then record self.old { networks = self.old.networks ++ row ∷ [] } else self.old))) }
+        ensures err { OnErr result (self.new ≡ self.old) }
+    {
+        add_shared(alloc, &mut self.networks, row)
+    }
+
+    /// Adds a subnet last, where none has its id, and answers whether it did. Else all stays.
+    pub fn add_subnet(&mut self, alloc: Global, row: SubnetRow) -> Result<bool, OutOfMemory>
+        ensures added { IfOk result (λ added. (added ≡ is_new (λ r. r.id) row self.old.subnets) × (self.new ≡ (if added then record self.old { subnets = self.old.subnets ++ row ∷ [] } else self.old))) }
+        ensures err { OnErr result (self.new ≡ self.old) }
+    {
+        add_shared(alloc, &mut self.subnets, row)
+    }
+
+    /// Adds a port last, where none has its id, and answers whether it did. Else all stays.
+    pub fn add_port(&mut self, alloc: Global, row: PortRow) -> Result<bool, OutOfMemory>
+        ensures added { IfOk result (λ added. (added ≡ is_new (λ r. r.id) row self.old.ports) × (self.new ≡ (if added then record self.old { ports = self.old.ports ++ row ∷ [] } else self.old))) }
+        ensures err { OnErr result (self.new ≡ self.old) }
+    {
+        add_shared(alloc, &mut self.ports, row)
+    }
+
+    /// Adds a security group last, where none has its id, and answers whether it did. Else all stays.
+    pub fn add_group(&mut self, alloc: Global, row: GroupRow) -> Result<bool, OutOfMemory>
+        ensures added { IfOk result (λ added. (added ≡ is_new (λ r. r.id) row self.old.groups) × (self.new ≡ (if added then record self.old { groups = self.old.groups ++ row ∷ [] } else self.old))) }
+        ensures err { OnErr result (self.new ≡ self.old) }
+    {
+        add_shared(alloc, &mut self.groups, row)
+    }
+
+    /// Adds a rule last, where none has its id, and answers whether it did. Else all stays.
+    pub fn add_rule(&mut self, alloc: Global, row: RuleRow) -> Result<bool, OutOfMemory>
+        ensures added { IfOk result (λ added. (added ≡ is_new (λ r. r.id) row self.old.rules) × (self.new ≡ (if added then record self.old { rules = self.old.rules ++ row ∷ [] } else self.old))) }
+        ensures err { OnErr result (self.new ≡ self.old) }
+    {
+        add_shared(alloc, &mut self.rules, row)
+    }
+
+    /// Adds a router last, where none has its id, and answers whether it did. Else all stays.
+    pub fn add_router(&mut self, alloc: Global, row: RouterRow) -> Result<bool, OutOfMemory>
+        ensures added { IfOk result (λ added. (added ≡ is_new (λ r. r.id) row self.old.routers) × (self.new ≡ (if added then record self.old { routers = self.old.routers ++ row ∷ [] } else self.old))) }
+        ensures err { OnErr result (self.new ≡ self.old) }
+    {
+        add_shared(alloc, &mut self.routers, row)
+    }
+
+    /// Adds a floating address last, where none has its id, and answers whether it did. Else all stays.
+    pub fn add_floating(&mut self, alloc: Global, row: FloatingRow) -> Result<bool, OutOfMemory>
+        ensures added { IfOk result (λ added. (added ≡ is_new (λ r. r.id) row self.old.floatings) × (self.new ≡ (if added then record self.old { floatings = self.old.floatings ++ row ∷ [] } else self.old))) }
+        ensures err { OnErr result (self.new ≡ self.old) }
+    {
+        add_shared(alloc, &mut self.floatings, row)
+    }
+
+    /// Adds a policy last, where none has its id, and answers whether it did. Else all stays.
+    pub fn add_policy(&mut self, alloc: Global, row: PolicyRow) -> Result<bool, OutOfMemory>
+        ensures added { IfOk result (λ added. (added ≡ is_new (λ r. r.id) row self.old.policies) × (self.new ≡ (if added then record self.old { policies = self.old.policies ++ row ∷ [] } else self.old))) }
+        ensures err { OnErr result (self.new ≡ self.old) }
+    {
+        add_shared(alloc, &mut self.policies, row)
     }
 
     fn apply_item(&mut self, alloc: Global, item: &Item) -> Result<(), OutOfMemory>
@@ -186,15 +247,15 @@ impl Rows {
         ensures { OnOk result (self.new ≡ after_item self.old item.now) }
     {
         match item.kind {
-            Kind::Project => edit(alloc, &mut self.projects, item),
-            Kind::Network => edit(alloc, &mut self.networks, item),
-            Kind::Subnet => edit(alloc, &mut self.subnets, item),
-            Kind::Port => edit(alloc, &mut self.ports, item),
-            Kind::Group => edit(alloc, &mut self.groups, item),
-            Kind::Rule => edit(alloc, &mut self.rules, item),
-            Kind::Router => edit(alloc, &mut self.routers, item),
-            Kind::Floating => edit(alloc, &mut self.floatings, item),
-            Kind::Policy => edit(alloc, &mut self.policies, item),
+            Kind::Project => edit_shared(alloc, &mut self.projects, item),
+            Kind::Network => edit_shared(alloc, &mut self.networks, item),
+            Kind::Subnet => edit_shared(alloc, &mut self.subnets, item),
+            Kind::Port => edit_shared(alloc, &mut self.ports, item),
+            Kind::Group => edit_shared(alloc, &mut self.groups, item),
+            Kind::Rule => edit_shared(alloc, &mut self.rules, item),
+            Kind::Router => edit_shared(alloc, &mut self.routers, item),
+            Kind::Floating => edit_shared(alloc, &mut self.floatings, item),
+            Kind::Policy => edit_shared(alloc, &mut self.policies, item),
         }
     }
 
@@ -203,15 +264,15 @@ impl Rows {
         ensures { OnOk result (self.new ≡ before_item self.old item.now) }
     {
         match item.kind {
-            Kind::Project => unedit(alloc, &mut self.projects, item),
-            Kind::Network => unedit(alloc, &mut self.networks, item),
-            Kind::Subnet => unedit(alloc, &mut self.subnets, item),
-            Kind::Port => unedit(alloc, &mut self.ports, item),
-            Kind::Group => unedit(alloc, &mut self.groups, item),
-            Kind::Rule => unedit(alloc, &mut self.rules, item),
-            Kind::Router => unedit(alloc, &mut self.routers, item),
-            Kind::Floating => unedit(alloc, &mut self.floatings, item),
-            Kind::Policy => unedit(alloc, &mut self.policies, item),
+            Kind::Project => unedit_shared(alloc, &mut self.projects, item),
+            Kind::Network => unedit_shared(alloc, &mut self.networks, item),
+            Kind::Subnet => unedit_shared(alloc, &mut self.subnets, item),
+            Kind::Port => unedit_shared(alloc, &mut self.ports, item),
+            Kind::Group => unedit_shared(alloc, &mut self.groups, item),
+            Kind::Rule => unedit_shared(alloc, &mut self.rules, item),
+            Kind::Router => unedit_shared(alloc, &mut self.routers, item),
+            Kind::Floating => unedit_shared(alloc, &mut self.floatings, item),
+            Kind::Policy => unedit_shared(alloc, &mut self.policies, item),
         }
     }
 
@@ -235,8 +296,8 @@ impl Rows {
         Ok(())
     }
 
-    /// Puts a change that fits the rows into them, or leaves them as they are. It works on a copy,
-    /// so its cost grows with all rows.
+    /// Puts a change that fits the rows into them, or leaves them as they are. Its cost
+    /// grows with the rows of the kinds that it touches.
     pub fn apply_change(&mut self, alloc: Global, change: &Change) -> Result<(), OutOfMemory>
         requires { Fits self.old change.now }
         ensures ok { OnOk result (self.new ≡ after self.old change.now) }
@@ -249,7 +310,7 @@ impl Rows {
     }
 
     /// Takes a change back out of the rows that it led to, or leaves them as they are. The old rows
-    /// stand in their old order. It works on a copy, so its cost grows with all rows.
+    /// stand in their old order. Its cost grows with the rows of the kinds that it touches.
     pub fn undo_change(&mut self, alloc: Global, change: &Change) -> Result<(), OutOfMemory>
         requires { CameBy self.old change.now }
         ensures ok { OnOk result (self.new ≡ before self.old change.now) }

@@ -2,14 +2,14 @@ ghost use Rattle.std.specs.Prelude.{◌≡◌};
 
 use crate::id::Id;
 use crate::table::Keyed;
-use net_addr::{Addr4, Copies, OutOfMemory, Prefix4, Same, Seq, Spans, Text};
+use net_addr::{Addr, Copies, OutOfMemory, Prefix, Same, Seq, Spans, Text};
 use std::alloc::Global;
 
 /// A static route: what is sent to the destination goes by the next hop.
 #[derive(Clone, Copy, Debug, PartialEq, Eq)]
 pub struct Hop {
-    pub destination: Prefix4,
-    pub next: Addr4,
+    pub destination: Prefix,
+    pub next: Addr,
 }
 
 /// Static routes in a row.
@@ -27,6 +27,14 @@ impl Same for Hop {
     }
 }
 
+/// How the ports of a subnet of version 6 come by their addresses (RFC 4862; RFC 8415).
+#[derive(Clone, Copy, Debug, PartialEq, Eq)]
+pub enum Ipv6Mode {
+    Slaac,
+    Stateful,
+    Stateless,
+}
+
 /// A subnet of a network.
 #[derive(Drop)]
 pub struct SubnetRow {
@@ -38,16 +46,20 @@ pub struct SubnetRow {
     pub name: Text,
     /// At most 255 characters.
     pub description: Text,
-    /// Of length 1 to 30.
-    pub prefix: Prefix4,
+    /// Of length 1 to 30 in version 4, and to 126 in version 6.
+    pub prefix: Prefix,
     /// The default gateway that its ports are told.
-    pub gateway: Option<Addr4>,
+    pub gateway: Option<Addr>,
     /// The addresses that are given without being asked for, at most 20 spans.
     pub pools: Spans,
     /// Whether its addresses are leased by DHCP.
     pub dhcp: bool,
+    /// How its ports come by their addresses, in version 6.
+    pub address_mode: Option<Ipv6Mode>,
+    /// What its router tells of that, in version 6.
+    pub ra_mode: Option<Ipv6Mode>,
     /// At most 5 name servers.
-    pub dns: Seq<Addr4>,
+    pub dns: Seq<Addr>,
     /// At most 20 routes that its ports are told.
     pub host_routes: Routes,
 }
@@ -64,6 +76,8 @@ impl Copies for SubnetRow {
             gateway: self.gateway,
             pools: self.pools.copy(alloc)?,
             dhcp: self.dhcp,
+            address_mode: self.address_mode,
+            ra_mode: self.ra_mode,
             dns: self.dns.copy(alloc)?,
             host_routes: self.host_routes.copy(alloc)?,
         })
@@ -81,6 +95,8 @@ impl Same for SubnetRow {
             && self.gateway.is_same(&other.gateway)
             && self.pools.is_same(&other.pools)
             && self.dhcp == other.dhcp
+            && self.address_mode == other.address_mode
+            && self.ra_mode == other.ra_mode
             && self.dns.is_same(&other.dns)
             && self.host_routes.is_same(&other.host_routes)
     }

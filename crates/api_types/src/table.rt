@@ -3,6 +3,7 @@ ghost use Rattle.api_types.specs.Ident.{Ident};
 ghost use Rattle.api_types.specs.Table.{row_of, HaveOwnIds};
 
 use crate::id::Id;
+use crate::shared::Shared;
 use indexmap::IndexMap;
 use net_addr::{Copies, OutOfMemory};
 use std::alloc::Global;
@@ -20,7 +21,7 @@ pub trait Keyed: Copies {
 /// The rows of one kind. Contracts see them as a list in order of creation.
 #[derive(Drop)]
 pub struct Table<R: Keyed> {
-    by_id: IndexMap<Id, R>,
+    by_id: IndexMap<Id, Shared<R>>,
 }
 
 impl<R: Keyed> Model for Table<R> {
@@ -46,22 +47,31 @@ impl<R: Keyed> Table<R> {
     }
 
     /// The rows, in order of creation.
-    pub fn rows(&self) -> &[R]
+    pub fn rows(&self) -> &[Shared<R>]
         ensures rows { result.now ≡ self.now }
         ensures own_ids { HaveOwnIds R.id_of self.now }
     {
         self.by_id.as_slice().values().as_slice()
     }
 
-    /// The row with this id. Its cost is the same however many rows there are.
-    pub fn get(&self, id: Id) -> Option<&R>
+    fn found(&self, id: Id) -> Option<&Shared<R>>
         ensures { option_copied result ≡ row_of R.id_of id self.now }
     {
         self.by_id.get(&id)
     }
 
+    /// The row with this id. Its cost is the same however many rows there are.
+    pub fn get(&self, id: Id) -> Option<&R>
+        ensures { option_copied result ≡ row_of R.id_of id self.now }
+    {
+        match self.found(id) {
+            Some(row) => Some(row.get()),
+            None => None,
+        }
+    }
+
     /// Adds a row with a new id, last, or leaves all as it is.
-    pub(crate) fn push(&mut self, row: R) -> Result<(), OutOfMemory>
+    pub(crate) fn push(&mut self, row: Shared<R>) -> Result<(), OutOfMemory>
         requires { row_of R.id_of (R.id_of row) self.old ≡ None }
         ensures ok { OnOk result (self.new ≡ self.old ++ row ∷ []) }
         ensures err { OnErr result (self.new ≡ self.old) }
@@ -72,7 +82,7 @@ impl<R: Keyed> Table<R> {
 
     /// Adds a row with a new id at a place, or leaves all as it is. Its cost grows with the rows
     /// behind it.
-    pub(crate) fn insert(&mut self, place: usize, row: R) -> Result<(), OutOfMemory>
+    pub(crate) fn insert(&mut self, place: usize, row: Shared<R>) -> Result<(), OutOfMemory>
         requires within { place ≤ length self.old }
         requires new_id { row_of R.id_of (R.id_of row) self.old ≡ None }
         ensures ok { OnOk result (self.new ≡ insert self.old place row) }
@@ -83,7 +93,7 @@ impl<R: Keyed> Table<R> {
     }
 
     /// Puts a row in the place of one with the same id.
-    pub(crate) fn set(&mut self, place: usize, row: R)
+    pub(crate) fn set(&mut self, place: usize, row: Shared<R>)
         requires within { place < length self.old }
         requires same_id { (r : R) → slice_get self.old place ≡ Some r → R.id_of row ≡ R.id_of r }
         ensures { self.new ≡ slice_set self.old place row }
@@ -103,11 +113,9 @@ impl<R: Keyed> Table<R> {
 }
 
 impl<R: Keyed> Copies for Table<R> {
-    fn copy(&self, alloc: Global) -> Result<Table<R>, OutOfMemory> {
-        let mut copied = Table::new(alloc);
-        for row in self.rows() {
-            copied.push(row.copy(alloc)?)?;
-        }
-        Ok(copied)
+    fn copy(&self, _alloc: Global) -> Result<Table<R>, OutOfMemory> {
+        Ok(Table {
+            by_id: self.by_id.clone()?,
+        })
     }
 }

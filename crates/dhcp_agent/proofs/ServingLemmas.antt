@@ -7,8 +7,8 @@ use Rattle.api_types.specs.Owners.{is_dhcp}
 use Rattle.api_types.specs.RowLists.{RowLists}
 use Rattle.api_types.specs.Table.{ident_eq}
 use Rattle.api_types.specs.declared.port.PortRow.{PortRow}
-use Rattle.plane_types.specs.Holders.{dhcp_port, is_live_dhcp_of}
-use Rattle.plane_types.specs.Live.{is_live}
+use Rattle.api_types.specs.Holders.{dhcp_port, is_live_dhcp_of}
+use Rattle.api_types.specs.Live.{is_live}
 use Rattle.dhcp_agent.specs.Serving.{AreServing, is_serving, serving_in}
 
 among : (rows : RowLists) (n : Ident) (ports : List PortRow) → serving_in n (filter (is_serving rows) ports) ≡ find (is_live_dhcp_of rows n) ports

@@ -6,7 +6,7 @@ use Rattle.api_types.specs.Owners.{is_dhcp}
 use Rattle.api_types.specs.RowLists.{RowLists}
 use Rattle.api_types.specs.Table.{ident_eq}
 use Rattle.api_types.specs.declared.port.PortRow.{PortRow}
-use Rattle.plane_types.specs.Live.{is_live}
+use Rattle.api_types.specs.Live.{is_live}
 
 -- a live DHCP port, of any network
 abbrev pub is_serving : RowLists → PortRow → Bool

@@ -5,8 +5,8 @@ ghost use Rattle.dhcp_agent.specs.Serving.{AreServing};
 use crate::served::{serving_in, serving_ports};
 use api_types::{PortRow, Rows};
 use net_addr::{OutOfMemory, Seq, Text};
-use plane_rows::{is_at, is_live, lease_for, tag_of};
-use plane_types::{LeaseRow, Leases, TagRow, Tags};
+use plane_rows::{is_at, is_live, lease_for};
+use plane_types::{LeaseRow, Leases, TagRow, Tags, tag_of};
 use std::alloc::Global;
 
 // The row by which a DHCP port serves a port, where it is bound to this host.

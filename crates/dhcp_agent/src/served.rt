@@ -1,9 +1,9 @@
 ghost use Rattle.std.specs.Prelude.{◌≡◌, IfOk, map, option_copied};
 ghost use Rattle.dhcp_agent.specs.Serving.{AreServing, is_serving as serves, serving_in as first_in};
 
-use api_types::{Id, PortRow, Rows};
+use api_types::{Id, PortRow, Rows, is_dhcp};
 use net_addr::OutOfMemory;
-use plane_rows::{is_dhcp, is_live};
+use plane_rows::is_live;
 use std::alloc::Global;
 
 // Whether a port is a live DHCP port.
@@ -20,7 +20,7 @@ pub(crate) fn serving_ports(alloc: Global, rows: &Rows) -> Result<Vec<&PortRow>,
     let mut serving = Vec::new(alloc);
     for port in rows.ports().rows() {
         if is_serving(rows, port) {
-            serving.push(port)?;
+            serving.push(port.get())?;
         }
     }
     Ok(serving)

@@ -3,7 +3,7 @@ use Rattle.std.proofs.Common.{◌≡◌, ◌∙◌, ◌⊎◌, inl, inr, ℕ, ze
 use Rattle.std.specs.Prelude.{MatchOption, find, if◌then◌else◌, option_copied, option_map, slice_get}
 use Rattle.std.specs.List.{HoldsAt}
 use Rattle.std.proofs.lemmas.Option.{get_or_from_slice_get, none-some, same_Some, slice_get_cases, slice_get_past}
-use Rattle.row_laws.proofs.NameLemmas.{bytes_itself}
+use Rattle.api_types.proofs.NameLemmas.{bytes_itself}
 use Rattle.plane_laws.proofs.Facts.{AtMostOne}
 use Rattle.plane_types.specs.Hosts.{Host, is_named}
 use Rattle.plane_types.specs.Told.{place_among}

@@ -9,7 +9,7 @@ use Rattle.plane_types.specs.Hosts.{Host, is_named}
 use Rattle.plane_types.specs.Places.{End, Next, Place, Step, ToTunnel, ToWire, TunnelIn, WireIn}
 use Rattle.plane_types.specs.TableStep.{Stepped, table_step}
 use Rattle.plane_types.specs.declared.frame.Frame.{Frame}
-use Rattle.plane_types.specs.declared.table.Wire.{Wire}
+use Rattle.api_types.specs.declared.wire.Wire.{Wire}
 use Rattle.plane_types.specs.declared.verdict.DropCause.TheVariants.{Unknown}
 use Rattle.plane_types.specs.declared.verdict.Outcome.TheVariants.{Dropped}
 use Rattle.plane_types.specs.declared.verdict.Toward.{Toward}

@@ -20,8 +20,7 @@ use crate::turn::Turn;
 use api_types::Id;
 use host_plane::{Ended, Ending, Step, inward_wire, tap_at};
 use net_addr::{Copies, OutOfMemory, Text};
-use packet_rules::is_unsupported;
-use plane_types::{AskAnswer, DropCause, Event, Frame, Outcome, Place, Verdict};
+use plane_types::{AskAnswer, DropCause, Event, Frame, Outcome, Place, Verdict, is_unsupported};
 use std::alloc::Global;
 
 // How many look-ups an event may have: three for each router that its packet may pass, and three to

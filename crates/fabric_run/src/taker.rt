@@ -7,7 +7,7 @@ ghost use Rattle.fabric_run.specs.Seen.{IsFirst, host_seen, is_other_than, is_so
 use crate::fleet::{Fleet, HostAt, host_at};
 use api_types::Id;
 use host_plane::{bridge_at, inward_wire, neighbour_at, tap_at};
-use net_addr::Text;
+use net_addr::{Addr, Text};
 use plane_types::{BridgeKey, BridgeRow, BridgeTo, Frame};
 
 /// What is sought among hosts.
@@ -50,7 +50,7 @@ fn takes(host: &HostAt<'_>, physical: &Text, tag: Option<u16>, frame: &Frame) ->
     };
     match *frame {
         Frame::Ip4 { dst, .. } => is_here(bridge_at(host.tables, row.tag, BridgeKey::Mac(dst))),
-        Frame::ArpAsk { to, .. } => neighbour_at(host.tables, row.tag, to).is_some(),
+        Frame::ArpAsk { to, .. } => neighbour_at(host.tables, row.tag, &Addr::V4(to)).is_some(),
         Frame::Dhcp { .. } => is_here(bridge_at(host.tables, row.tag, BridgeKey::Dhcp)),
         Frame::Other { .. } => false,
     }

@@ -1,6 +1,6 @@
 -- Rows in ascending order of two numbers, and the one that has two given ones.
-use Rattle.std.proofs.Common.{◌≡◌, ◌∙◌, inl, inr, ℕ, zero, suc, ◌+◌, ◌-◌, ◌<◌, ◌≤◌, List, [], ◌∷◌, length, get_or, Bool, true, false, refl, ap, sym, arith}
-use Rattle.std.specs.Prelude.{◌&&◌, ◌==◌, Some, None, find, slice_get}
+use Rattle.std.proofs.Common.{◌≡◌, ◌∙◌, inl, inr, ℕ, zero, suc, ◌+◌, ◌*◌, ◌-◌, ◌<◌, ◌≤◌, List, [], ◌∷◌, length, get_or, Bool, true, false, refl, ap, sym, arith}
+use Rattle.std.specs.Prelude.{◌&&◌, ◌||◌, ◌==◌, nat_lt, Some, None, find, slice_get}
 use Rattle.std.specs.List.{position_or_len}
 use Rattle.std.specs.List.Sorted.{IsPartitionedBy, IsPartitionPoint, IsSortedBy}
 use Rattle.std.proofs.lemmas.Bool.{cases_lt}
@@ -8,7 +8,12 @@ use Rattle.std.proofs.lemmas.Bool.Decides.{nat_tests}
 use Rattle.std.proofs.lemmas.List.Folds.{find_at}
 use Rattle.std.proofs.lemmas.List.Sums.{position_or_len_is}
 use Rattle.std.proofs.lemmas.Option.{get_or_from_slice_get, slice_get_past}
-use Rattle.plane_types.specs.Hosts.{pair_before}
+use Rattle.net_addr.specs.Addresses.{addr_eq, number, width}
+use Rattle.net_addr.specs.Ordered.{addr_before}
+use Rattle.net_addr.specs.declared.address.Addr.{Addr}
+use Rattle.net_addr.specs.declared.address.Addr.TheVariants.{V4, V6}
+use Rattle.plane_types.specs.Hosts.{neighbour_before, pair_before}
+use Rattle.plane_types.specs.declared.table.NeighbourRow.{NeighbourRow}
 
 -- no pair is before itself
 pair_alone : (a b : ℕ) → pair_before a b a b ≡ false
@@ -92,3 +97,28 @@ module _ {X : Type 0} (f g : X → ℕ) where
 pub all_before : {X : Type 0} (f g : X → ℕ) (a b : ℕ) (xs : List X) → IsSortedBy (comes_before f g) xs → (i : ℕ) → IsPartitionPoint (λ x. pair_before (f x) (g x) a b ≡ true) (λ x. pair_before (f x) (g x) a b ≡ false) xs i → length xs ≤ i → None ≡ find (is_at f g a b) xs
 all_before f g a b [] up i point over = refl
 all_before f g a b (x ∷ xs) up i point over = beyond f g a b (x ∷ xs) up i point over x
+
+-- two numbers that order neighbours as tag and address do
+before_alike : (t s : ℕ) (a b : Addr) → pair_before (t * 256 + width a) (number a) (s * 256 + width b) (number b) ≡ (nat_lt t s || ((t == s) && addr_before a b))
+before_alike t s (V4 m) (V4 n) = grind (arith, nat_tests)
+before_alike t s (V4 m) (V6 n) = grind (arith, nat_tests)
+before_alike t s (V6 m) (V4 n) = grind (arith, nat_tests)
+before_alike t s (V6 m) (V6 n) = grind (arith, nat_tests)
+
+at_alike : (t s : ℕ) (a b : Addr) → ((t * 256 + width a == s * 256 + width b) && (number a == number b)) ≡ ((t == s) && addr_eq a b)
+at_alike t s (V4 m) (V4 n) = grind (arith, nat_tests)
+at_alike t s (V4 m) (V6 n) = grind (arith, nat_tests)
+at_alike t s (V6 m) (V4 n) = grind (arith, nat_tests)
+at_alike t s (V6 m) (V6 n) = grind (arith, nat_tests)
+
+abbrev pub first_of : NeighbourRow → ℕ
+first_of r = r.tag * 256 + width r.address
+
+abbrev pub second_of : NeighbourRow → ℕ
+second_of r = number r.address
+
+pub order_alike : comes_before first_of second_of ≡ neighbour_before
+order_alike = λ j r s. before_alike r.tag s.tag r.address s.address j
+
+pub key_alike : (tag : ℕ) (x : Addr) → is_at first_of second_of (tag * 256 + width x) (number x) ≡ (λ (r : NeighbourRow). (r.tag == tag) && addr_eq r.address x)
+key_alike tag x = λ j r. at_alike r.tag tag r.address x j

@@ -4,13 +4,15 @@ use Rattle.std.specs.Prelude.{◌&&◌, Option, if◌then◌else◌}
 use Rattle.std.specs.List.{cons_option}
 use Rattle.std.proofs.Math.Seq.{drop-length}
 use Rattle.net_addr.specs.Prefixes.{contains}
+use Rattle.net_addr.specs.declared.address.Addr.{Addr}
 use Rattle.api_types.specs.Ident.{Ident}
 use Rattle.api_types.specs.Table.{ident_eq}
-use Rattle.plane_types.specs.Routing.{Way, best_way, better}
+use Rattle.plane_types.specs.Routing.{best_way, better}
+use Rattle.api_types.specs.RouterViews.{Way}
 use Rattle.plane_types.specs.TableStep.{way_at, ways_at}
 use Rattle.plane_types.specs.declared.table.RouteRow.{RouteRow}
 
-module _ (router : Ident) (x : ℕ) where
+module _ (router : Ident) (x : Addr) where
   -- the best of a row and of those behind it
   abbrev pub best_with : RouteRow → Option Way → Option Way
   best_with row best = if ident_eq router row.router && contains row.prefix x then Some (better (way_at row) best) else best

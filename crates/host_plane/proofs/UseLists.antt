@@ -5,8 +5,8 @@ use Rattle.std.specs.List.{filter_map}
 use Rattle.std.specs.Option.{option_or}
 use Rattle.std.proofs.lemmas.List.Folds.{find-append, list_any-append}
 use Rattle.api_types.specs.Ident.{Ident}
-use Rattle.packet_rules.specs.Parts.{use_if}
-use Rattle.packet_rules.proofs.UseLemmas.{uses_of_both}
+use Rattle.plane_types.specs.Parts.{use_if}
+use Rattle.plane_types.proofs.UseLemmas.{uses_of_both}
 use Rattle.plane_types.specs.Routing.{Use, is_taken, uses_at}
 use Rattle.plane_types.specs.declared.entry.Entry.{Entry}
 use Rattle.plane_types.specs.declared.frame.Key.{Key}

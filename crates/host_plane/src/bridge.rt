@@ -1,4 +1,5 @@
 ghost use Rattle.std.specs.Prelude.{◌≡◌, option_copied};
+ghost use Rattle.net_addr.specs.declared.address.Addr.TheVariants.{V4};
 ghost use Rattle.plane_types.specs.Packets.{address_ask};
 ghost use Rattle.plane_types.specs.TableStep.{arp_by, bridge_at as bridge_by_key, bridge_in as bridged_in, bridge_step as bridged_at_tag, bridged_by as bridged_by_row, inward_step as bridged_inward, lease_answer as leased_by, lease_at as lease_by_mac, led as led_by, neighbour_at as neighbour_by_address, routed_in as routed_to, source_of as sender_of, tapped as tapped_at, wire_or as wire_or_dropped};
 ghost use Rattle.host_plane.specs.Ordered.{AreOrdered};
@@ -8,7 +9,7 @@ use crate::ending::{Ended, Ending, Step, drops};
 use crate::look::{lease_at, tag_row};
 use crate::map::{bridge_at, neighbour_at};
 use api_types::Id;
-use net_addr::{Addr4, Mac};
+use net_addr::{Addr, Addr4, Mac};
 use plane_types::{
     BridgeKey, BridgeTo, DropCause, Frame, HostTables, InwardRow, Place, TagRow, Toward,
 };
@@ -114,9 +115,9 @@ fn asked<'t>(
     from: Addr4,
     to: Addr4,
 ) -> Step<'t>
-    ensures { AreOrdered tables.now → step_seen result ≡ arp_by inner row.now (address_ask src from to) (neighbour_by_address tables.now row.now.tag to) }
+    ensures { AreOrdered tables.now → step_seen result ≡ arp_by inner row.now (address_ask src from to) (neighbour_by_address tables.now row.now.tag (V4 to)) }
 {
-    match neighbour_at(tables, row.tag, to) {
+    match neighbour_at(tables, row.tag, &Addr::V4(to)) {
         Some(held) => Step::End(Ending {
             ended: Ended::Address {
                 address: held.address,
@@ -127,7 +128,7 @@ fn asked<'t>(
         None => wire_or(
             inner,
             row,
-            Toward::Address(to),
+            Toward::Address(Addr::V4(to)),
             Frame::ArpAsk { src, from, to },
             DropCause::NoHolder,
         ),

@@ -2,9 +2,9 @@ ghost use Rattle.std.specs.Prelude.{◌≡◌};
 ghost use Rattle.plane_types.specs.TableStep.{drops as drop_step, plain as plain_step};
 ghost use Rattle.host_plane.specs.Seen.{step_seen, stepped_seen};
 
-use api_types::Id;
-use net_addr::{Addr4, Mac, Text};
-use plane_types::{DropCause, Entry, Frame, Lease, Place, Toward};
+use api_types::{Id, Lease};
+use net_addr::{Addr, Mac, Text};
+use plane_types::{DropCause, Entry, Frame, Place, Toward};
 
 /// How a frame ends, as an `Outcome` says it, but that a lease is borrowed from the tables.
 #[derive(Clone, Copy)]
@@ -16,7 +16,7 @@ pub enum Ended<'t> {
     },
     /// An ask for an address is answered.
     Address {
-        address: Addr4,
+        address: Addr,
         mac: Mac,
     },
     /// An ask for a lease is answered.

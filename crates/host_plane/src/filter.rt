@@ -3,44 +3,45 @@ ghost use Rattle.plane_types.specs.Entries.{has_flow as flow_is_there, opposite 
 ghost use Rattle.plane_types.specs.Filter.{far_fits as fits_far};
 ghost use Rattle.plane_types.specs.Keys.{reversed};
 ghost use Rattle.plane_types.specs.TableStep.{in_set as is_in_set, row_fits as fits_row, tables_allow as allowed_by_tables, tap_passage as passage_at_tap};
-ghost use Rattle.packet_rules.specs.Parts.{packet_of, passage_of};
+ghost use Rattle.plane_types.specs.Parts.{packet_of, passage_of};
 
 use api_types::{Direction, Id};
-use net_addr::Addr4;
-use packet_rules::{
-    Packet, Passage, far_of, in_range, is_protocol, is_tracked, new_flow, opposite,
+use net_addr::Addr;
+use plane_types::{
+    Entry, FilterRow, HostTables, Key, Packet, Passage, TapRow, far_of, in_range, is_protocol,
+    is_tracked, new_flow, opposite,
 };
-use plane_types::{Entry, FilterRow, HostTables, Key, TapRow};
 
-fn in_set(tables: &HostTables, group: Id, far: Addr4) -> bool
-    ensures { result ≡ is_in_set tables.now group far }
+fn in_set(tables: &HostTables, group: Id, far: &Addr) -> bool
+    ensures { result ≡ is_in_set tables.now group far.now }
 {
     tables
         .sets
         .as_slice()
         .iter()
-        .any(|row| group == row.group && row.prefix.contains(far))
+        .any(|row| group == row.group && row.prefix.contains(*far))
 }
 
 // Whether the far address is in the row's prefix, or in the set of its group, or both are null.
-fn far_fits(tables: &HostTables, row: &FilterRow, far: Addr4) -> bool
-    ensures { result ≡ fits_far (is_in_set tables.now) row.now.remote_prefix row.now.remote_group far }
+fn far_fits(tables: &HostTables, row: &FilterRow, far: &Addr) -> bool
+    ensures { result ≡ fits_far (is_in_set tables.now) row.now.remote_prefix row.now.remote_group far.now }
 {
     match (row.remote_prefix, row.remote_group) {
         (None, None) => true,
-        (Some(prefix), None) => prefix.contains(far),
+        (Some(prefix), None) => prefix.contains(*far),
         (None, Some(group)) => in_set(tables, group, far),
-        (Some(prefix), Some(group)) => prefix.contains(far) || in_set(tables, group, far),
+        (Some(prefix), Some(group)) => prefix.contains(*far) || in_set(tables, group, far),
     }
 }
 
 fn row_fits(tables: &HostTables, direction: Direction, key: &Key, row: &FilterRow) -> bool
     ensures { result ≡ fits_row tables.now direction key.now row.now }
 {
+    let far = far_of(direction, key);
     row.direction == direction
         && is_protocol(row.protocol, key.kind)
         && in_range(row.low, row.high, key.kind, key.dport)
-        && far_fits(tables, row, far_of(direction, key))
+        && far_fits(tables, row, &far)
 }
 
 // Whether some row of a port lets a key pass in a direction. A row of another port costs one look

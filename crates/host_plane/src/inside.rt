@@ -1,6 +1,6 @@
 ghost use Rattle.std.specs.Prelude.{◌≡◌, ◌++◌};
 ghost use Rattle.plane_types.specs.TableStep.{router_by_leg as by_port, router_in as routed_in, tagged_leg as leg_by_port};
-ghost use Rattle.packet_rules.specs.Parts.{packet_of};
+ghost use Rattle.plane_types.specs.Parts.{packet_of};
 ghost use Rattle.host_plane.specs.Ordered.{AreOrdered};
 ghost use Rattle.host_plane.specs.Seen.{stepped_seen};
 
@@ -8,8 +8,7 @@ use crate::ending::{Stepped, dropped};
 use crate::look::{port_of, router_at};
 use crate::router::route;
 use api_types::Id;
-use packet_rules::Packet;
-use plane_types::{DropCause, Entry, Frame, HostTables, RouterTable};
+use plane_types::{DropCause, Entry, Frame, HostTables, Packet, RouterTable};
 
 // A packet comes to a router by this port of it.
 fn routed<'t>(

@@ -1,5 +1,5 @@
 ghost use Rattle.std.specs.Prelude.{◌≡◌, find, option_copied};
-ghost use Rattle.plane_types.specs.Live.{tag_eq};
+ghost use Rattle.api_types.specs.Wires.{tag_eq};
 ghost use Rattle.plane_types.specs.TableStep.{carrier_eq, inward_at as inward_by, lease_at as lease_by_mac, router_at as router_by_id, tag_row as row_of_tag, tagged_leg as leg_by_port, tap_at as tap_by_port};
 ghost use Rattle.plane_types.specs.declared.table.Carrier.TheVariants.{Tunnel as ByTunnel, Wire as ByWire};
 

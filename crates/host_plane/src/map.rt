@@ -1,54 +1,76 @@
-ghost use Rattle.std.specs.Prelude.{◌≡◌, ◌&&◌, ◌==◌, ◌↔◌, IsTrue, find, option_copied};
+ghost use Rattle.std.specs.Prelude.{◌≡◌, ◌+◌, ◌*◌, ◌&&◌, ◌==◌, ◌↔◌, IsTrue, find, option_copied};
 ghost use Rattle.std.specs.List.Sorted.{IsSortedBy};
-ghost use Rattle.plane_types.specs.Hosts.{key_place as place_of_key, pair_before};
+ghost use Rattle.net_addr.specs.Addresses.{addr_eq, number, width};
+ghost use Rattle.plane_types.specs.Hosts.{key_place as place_of_key, neighbour_before, pair_before};
 ghost use Rattle.plane_types.specs.TableStep.{bridge_at as bridge_by_key, neighbour_at as neighbour_by_address};
 ghost use Rattle.host_plane.specs.Ordered.{AreOrdered};
 
-use net_addr::Addr4;
+use net_addr::Addr;
 use plane_types::{BridgeKey, BridgeRow, HostTables, NeighbourRow};
 
-/// A row of a map, whose key is a local tag and a number.
+/// A row of a map, whose key is two numbers: of the bridge the tag and the place of the key, of the
+/// neighbours the tag with the width of the address, and the address's number.
 trait Mapped {
     ghost use Rattle.std.specs.Prelude.{ℕ};
 
-    ghost tag_of: { Self → ℕ };
+    ghost first_of: { Self → ℕ };
 
-    ghost number_of: { Self → ℕ };
+    ghost second_of: { Self → ℕ };
 
-    fn tag(&self) -> u16
-        ensures { result ≡ tag_of self.now };
+    fn first(&self) -> u32
+        ensures { result ≡ first_of self.now };
 
-    fn number(&self) -> u64
-        ensures { result ≡ number_of self.now };
+    fn second(&self) -> u128
+        ensures { result ≡ second_of self.now };
 }
 
 impl Mapped for BridgeRow {
     ghost use Rattle.plane_types.specs.Hosts.{key_place};
 
-    ghost tag_of = { λ r. r.tag };
+    ghost first_of = { λ r. r.tag };
 
-    ghost number_of = { λ r. key_place r.key };
+    ghost second_of = { λ r. key_place r.key };
 
-    fn tag(&self) -> u16 {
-        self.tag
+    fn first(&self) -> u32 {
+        u32::from(self.tag)
     }
 
-    fn number(&self) -> u64 {
-        key_place(self.key)
+    fn second(&self) -> u128 {
+        u128::from(key_place(self.key))
     }
 }
 
 impl Mapped for NeighbourRow {
-    ghost tag_of = { λ r. r.tag };
+    ghost use Rattle.std.specs.Prelude.{◌+◌, ◌*◌};
+    ghost use Rattle.net_addr.specs.Addresses.{number, width};
 
-    ghost number_of = { λ r. r.address };
+    ghost first_of = { λ r. r.tag * 256 + width r.address };
 
-    fn tag(&self) -> u16 {
-        self.tag
+    ghost second_of = { λ r. number r.address };
+
+    fn first(&self) -> u32 {
+        tag_and_width(self.tag, &self.address)
     }
 
-    fn number(&self) -> u64 {
-        u64::from(self.address.0)
+    fn second(&self) -> u128 {
+        number_of(&self.address)
+    }
+}
+
+// A tag with the width of an address.
+fn tag_and_width(tag: u16, address: &Addr) -> u32
+    ensures { result ≡ tag * 256 + width address.now }
+{
+    u32::from(tag) * 256 + u32::from(address.width())
+}
+
+// The number of the bits of an address.
+fn number_of(address: &Addr) -> u128
+    ensures { result ≡ number address.now }
+{
+    match address {
+        Addr::V4(x) => u128::from(x.0),
+        Addr::V6(x) => x.0,
     }
 }
 
@@ -62,28 +84,28 @@ fn key_place(key: BridgeKey) -> u64
     }
 }
 
-fn is_before<R: Mapped>(row: &R, tag: u16, number: u64) -> bool
-    ensures { result ≡ pair_before (R.tag_of row.now) (R.number_of row.now) tag number }
+fn is_before<R: Mapped>(row: &R, first: u32, second: u128) -> bool
+    ensures { result ≡ pair_before (R.first_of row.now) (R.second_of row.now) first second }
 {
-    row.tag() < tag || (row.tag() == tag && row.number() < number)
+    row.first() < first || (row.first() == first && row.second() < second)
 }
 
-fn is_at<R: Mapped>(row: &R, tag: u16, number: u64) -> bool
-    ensures { result ≡ ((R.tag_of row.now == tag) && (R.number_of row.now == number)) }
+fn is_at<R: Mapped>(row: &R, first: u32, second: u128) -> bool
+    ensures { result ≡ ((R.first_of row.now == first) && (R.second_of row.now == second)) }
 {
-    row.tag() == tag && row.number() == number
+    row.first() == first && row.second() == second
 }
 
 // The row with a key, of rows that ascend by key. Its cost grows with the logarithm of their number.
-fn row_at<R: Mapped>(rows: &[R], tag: u16, number: u64) -> Option<&R>
-    ensures { IsSortedBy (λ r s. pair_before (R.tag_of r) (R.number_of r) (R.tag_of s) (R.number_of s)) rows.now → option_copied result ≡ find (λ r. (R.tag_of r == tag) && (R.number_of r == number)) rows.now }
+fn row_at<R: Mapped>(rows: &[R], first: u32, second: u128) -> Option<&R>
+    ensures { IsSortedBy (λ r s. pair_before (R.first_of r) (R.second_of r) (R.first_of s) (R.second_of s)) rows.now → option_copied result ≡ find (λ r. (R.first_of r == first) && (R.second_of r == second)) rows.now }
 {
-    let place = rows.partition_point(|row| is_before(row, tag, number));
+    let place = rows.partition_point(|row| is_before(row, first, second));
     if place == rows.len() {
         return None;
     }
     let row = &rows[place];
-    if is_at(row, tag, number) {
+    if is_at(row, first, second) {
         Some(row)
     } else {
         None
@@ -91,34 +113,60 @@ fn row_at<R: Mapped>(rows: &[R], tag: u16, number: u64) -> Option<&R>
 }
 
 fn ascends<R: Mapped>(rows: &[R]) -> bool
-    ensures { IsTrue result ↔ IsSortedBy (λ r s. pair_before (R.tag_of r) (R.number_of r) (R.tag_of s) (R.number_of s)) rows.now }
+    ensures { IsTrue result ↔ IsSortedBy (λ r s. pair_before (R.first_of r) (R.second_of r) (R.first_of s) (R.second_of s)) rows.now }
 {
     for at in 1..rows.len() {
         let last = &rows[at - 1];
-        if is_before(&rows[at], last.tag(), last.number()) {
+        if is_before(&rows[at], last.first(), last.second()) {
             return false;
         }
     }
     true
 }
 
+fn neighbours_ascend(rows: &[NeighbourRow]) -> bool
+    ensures { IsTrue result ↔ IsSortedBy neighbour_before rows.now }
+{
+    ascends(rows)
+}
+
 /// Whether bridge and neighbours ascend. Its cost grows with their rows.
 pub fn is_ordered(tables: &HostTables) -> bool
     ensures { IsTrue result ↔ AreOrdered tables.now }
 {
-    ascends(tables.bridge.as_slice()) && ascends(tables.neighbours.as_slice())
+    ascends(tables.bridge.as_slice()) && neighbours_ascend(tables.neighbours.as_slice())
 }
 
 /// The entry of the bridge with this tag and key.
 pub fn bridge_at(tables: &HostTables, tag: u16, key: BridgeKey) -> Option<&BridgeRow>
     ensures { AreOrdered tables.now → option_copied result ≡ bridge_by_key tables.now tag key }
 {
-    row_at(tables.bridge.as_slice(), tag, key_place(key))
+    row_at(
+        tables.bridge.as_slice(),
+        u32::from(tag),
+        u128::from(key_place(key)),
+    )
+}
+
+fn neighbour_among<'t>(
+    rows: &'t [NeighbourRow],
+    tag: u16,
+    address: &Addr,
+) -> Option<&'t NeighbourRow>
+    ensures { IsSortedBy neighbour_before rows.now → option_copied result ≡ find (λ r. (r.tag == tag) && addr_eq r.address address.now) rows.now }
+{
+    let first = tag_and_width(tag, address);
+    let second = number_of(address);
+    row_at(rows, first, second)
 }
 
 /// The entry of the neighbours with this tag and address.
-pub fn neighbour_at(tables: &HostTables, tag: u16, address: Addr4) -> Option<&NeighbourRow>
-    ensures { AreOrdered tables.now → option_copied result ≡ neighbour_by_address tables.now tag address }
+pub fn neighbour_at<'t>(
+    tables: &'t HostTables,
+    tag: u16,
+    address: &Addr,
+) -> Option<&'t NeighbourRow>
+    ensures { AreOrdered tables.now → option_copied result ≡ neighbour_by_address tables.now tag address.now }
 {
-    row_at(tables.neighbours.as_slice(), tag, u64::from(address.0))
+    neighbour_among(tables.neighbours.as_slice(), tag, address)
 }

@@ -1,7 +1,7 @@
 ghost use Rattle.std.specs.Prelude.{◌≡◌};
 ghost use Rattle.plane_types.specs.Packets.{ip_frame};
 ghost use Rattle.plane_types.specs.TableStep.{neighbour_at as neighbour_by_address, sent_at as sent_at_port, sent_by as sent_by_neighbour, tag_row as row_of_tag, tagged_leg as leg_by_port, unheld as unheld_by};
-ghost use Rattle.packet_rules.specs.Parts.{packet_of};
+ghost use Rattle.plane_types.specs.Parts.{packet_of};
 ghost use Rattle.host_plane.specs.Ordered.{AreOrdered};
 ghost use Rattle.host_plane.specs.Seen.{step_seen};
 
@@ -9,9 +9,8 @@ use crate::ending::{Ended, Ending, Step, drops};
 use crate::look::{port_of, tag_row};
 use crate::map::neighbour_at;
 use api_types::Id;
-use net_addr::{Addr4, Mac};
-use packet_rules::Packet;
-use plane_types::{DropCause, Frame, HostTables, Place, RouterTable, Toward};
+use net_addr::{Addr, Mac};
+use plane_types::{DropCause, Frame, HostTables, Packet, Place, RouterTable, Toward};
 
 // The packet's frame to a MAC.
 fn to_mac(packet: &Packet, dst: Mac) -> Frame
@@ -21,8 +20,8 @@ fn to_mac(packet: &Packet, dst: Mac) -> Frame
 }
 
 // Nobody has the next hop: out by the physical network of the way out, where it has one.
-fn unheld<'t>(tables: &'t HostTables, tag: u16, hop: Addr4, packet: &Packet) -> Step<'t>
-    ensures { step_seen result ≡ unheld_by hop (packet_of packet.now) (row_of_tag tables.now tag) }
+fn unheld<'t>(tables: &'t HostTables, tag: u16, hop: &Addr, packet: &Packet) -> Step<'t>
+    ensures { step_seen result ≡ unheld_by hop.now (packet_of packet.now) (row_of_tag tables.now tag) }
 {
     let Some(row) = tag_row(tables, tag) else {
         return drops(DropCause::Unknown);
@@ -32,7 +31,7 @@ fn unheld<'t>(tables: &'t HostTables, tag: u16, hop: Addr4, packet: &Packet) -> 
         Some(_) => Step::End(Ending {
             ended: Ended::Out {
                 network: row.network,
-                toward: Toward::Address(hop),
+                toward: Toward::Address(*hop),
                 frame: to_mac(packet, Mac(0)),
             },
             way,
@@ -45,8 +44,8 @@ fn unheld<'t>(tables: &'t HostTables, tag: u16, hop: Addr4, packet: &Packet) -> 
 }
 
 // The neighbour at the next hop gets it, by the bridge.
-fn sent_by<'t>(tables: &'t HostTables, tag: u16, hop: Addr4, packet: &Packet) -> Step<'t>
-    ensures { AreOrdered tables.now → step_seen result ≡ sent_by_neighbour tables.now tag hop (packet_of packet.now) (neighbour_by_address tables.now tag hop) }
+fn sent_by<'t>(tables: &'t HostTables, tag: u16, hop: &Addr, packet: &Packet) -> Step<'t>
+    ensures { AreOrdered tables.now → step_seen result ≡ sent_by_neighbour tables.now tag hop.now (packet_of packet.now) (neighbour_by_address tables.now tag hop.now) }
 {
     let Some(held) = neighbour_at(tables, tag, hop) else {
         return unheld(tables, tag, hop, packet);
@@ -62,10 +61,10 @@ pub(crate) fn sent_at<'t>(
     tables: &'t HostTables,
     router: &RouterTable,
     out: Id,
-    hop: Addr4,
+    hop: &Addr,
     packet: &Packet,
 ) -> Step<'t>
-    ensures { AreOrdered tables.now → step_seen result ≡ sent_at_port tables.now hop (packet_of packet.now) (leg_by_port router.now out) }
+    ensures { AreOrdered tables.now → step_seen result ≡ sent_at_port tables.now hop.now (packet_of packet.now) (leg_by_port router.now out) }
 {
     match port_of(router, out) {
         Some(port) => sent_by(tables, port.tag, hop, packet),

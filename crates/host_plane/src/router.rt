@@ -1,10 +1,12 @@
-ghost use Rattle.std.specs.Prelude.{◌≡◌, ◌++◌, ◌==◌, Some, option_map};
+ghost use Rattle.std.specs.Prelude.{◌≡◌, ◌++◌, Some, option_map};
 ghost use Rattle.std.specs.List.{list_any};
 ghost use Rattle.std.specs.Option.{unwrap_or};
+ghost use Rattle.net_addr.specs.Addresses.{addr_eq};
+ghost use Rattle.net_addr.specs.declared.address.Addr.TheVariants.{V4};
 ghost use Rattle.plane_types.specs.Routing.{best_way as best_of_ways, destined as destined_by, is_own as is_own_by, routed as routed_by_view, routed_to as to_by_view, routed_way as way_by_view, sent as sent_by, uses_by};
 ghost use Rattle.plane_types.specs.TableStep.{leg_at, plain, stops, table_routed as led_by, table_view, way_at, ways_at};
 ghost use Rattle.plane_types.specs.declared.verdict.Outcome.TheVariants.{Absorbed};
-ghost use Rattle.packet_rules.specs.Parts.{changed_of, destined_of, packet_of, sourced_of};
+ghost use Rattle.plane_types.specs.Parts.{changed_of, destined_of, packet_of, sourced_of};
 ghost use Rattle.host_plane.specs.Ordered.{AreOrdered};
 ghost use Rattle.host_plane.specs.Seen.{stepped_seen};
 
@@ -15,9 +17,11 @@ use crate::source::{find_source, fixed_behind};
 use crate::translation::answer;
 use crate::ways::best_way;
 use api_types::Id;
-use net_addr::Addr4;
-use packet_rules::{Changed, Destined, Packet, Sourced, answered_to, lower, with_destination};
-use plane_types::{DropCause, Entry, HostTables, RouteRow, RouterPort, RouterTable};
+use net_addr::Addr;
+use plane_types::{
+    Changed, Destined, DropCause, Entry, HostTables, Packet, RouteRow, RouterPort, RouterTable,
+    Sourced, answered_to, lower, with_destination,
+};
 
 // A floating address of this router becomes the fixed address; else an entry that the packet
 // answers gives it back the source that it keeps.
@@ -48,18 +52,18 @@ fn find_destination(
     }
 }
 
-fn holds(port: &RouterPort, address: Addr4) -> bool
-    ensures { result ≡ list_any (λ a. a == address) port.now.addresses }
+fn holds(port: &RouterPort, address: &Addr) -> bool
+    ensures { result ≡ list_any (λ a. addr_eq a address.now) port.now.addresses }
 {
     port.addresses
         .as_slice()
         .iter()
-        .any(|held| *held == address)
+        .any(|held| *held == *address)
 }
 
 // Whether a live port of the router holds the address.
-fn is_own(tables: &HostTables, router: &RouterTable, address: Addr4) -> bool
-    ensures { result ≡ is_own_by (table_view tables.now router.now) address }
+fn is_own(tables: &HostTables, router: &RouterTable, address: &Addr) -> bool
+    ensures { result ≡ is_own_by (table_view tables.now router.now) address.now }
 {
     for port in router.ports.as_slice() {
         if holds(port, address) {
@@ -74,10 +78,10 @@ fn send_on<'t>(
     tables: &'t HostTables,
     router: &RouterTable,
     out: &RouterPort,
-    hop: Addr4,
+    hop: &Addr,
     sourced: Option<Sourced>,
 ) -> Stepped<'t>
-    ensures { AreOrdered tables.now → stepped_seen result ≡ led_by tables.now router.now (sent_by (leg_at out.now) hop (option_map sourced_of sourced)) }
+    ensures { AreOrdered tables.now → stepped_seen result ≡ led_by tables.now router.now (sent_by (leg_at out.now) hop.now (option_map sourced_of sourced)) }
 {
     let Some(sourced) = sourced else {
         return dropped(DropCause::TranslationFull);
@@ -93,12 +97,12 @@ fn send_on<'t>(
 }
 
 // The route's next hop, or the destination where it has none.
-fn next_hop(row: &RouteRow, packet: &Packet) -> Addr4
-    ensures { result ≡ unwrap_or row.now.next packet.now.to }
+fn next_hop(row: &RouteRow, packet: &Packet) -> Addr
+    ensures { result ≡ unwrap_or row.now.next (V4 packet.now.to) }
 {
     match row.next {
         Some(next) => next,
-        None => packet.to,
+        None => Addr::V4(packet.to),
     }
 }
 
@@ -117,7 +121,8 @@ fn routed_by<'t>(
     match port_of(router, row.port) {
         Some(out) => {
             let source = find_source(tables, entries, fresh, router, port, out, destined);
-            send_on(tables, router, out, next_hop(row, &destined.packet), source)
+            let hop = next_hop(row, &destined.packet);
+            send_on(tables, router, out, &hop, source)
         }
         None => dropped(DropCause::Unknown),
     }
@@ -132,9 +137,10 @@ fn routed_on<'t>(
     port: &RouterPort,
     destined: &Destined,
 ) -> Stepped<'t>
-    ensures { AreOrdered tables.now → stepped_seen result ≡ led_by tables.now router.now (way_by_view (table_view tables.now router.now) (uses_by router.now.snat router.now.gateway router.now.router (entries.now ++ fresh.now)) (leg_at port.now) (changed_of destined.now.by) (packet_of destined.now.packet) (best_of_ways destined.now.packet.to (ways_at router.now.router tables.now.routes))) }
+    ensures { AreOrdered tables.now → stepped_seen result ≡ led_by tables.now router.now (way_by_view (table_view tables.now router.now) (uses_by router.now.snat router.now.gateway router.now.router (entries.now ++ fresh.now)) (leg_at port.now) (changed_of destined.now.by) (packet_of destined.now.packet) (best_of_ways (V4 destined.now.packet.to) (ways_at router.now.router tables.now.routes))) }
 {
-    match best_way(tables, router.router, destined.packet.to) {
+    let to = Addr::V4(destined.packet.to);
+    match best_way(tables, router.router, &to) {
         Some(row) => routed_by(tables, entries, fresh, router, port, destined, row),
         None => dropped(DropCause::NoRoute),
     }
@@ -163,7 +169,7 @@ fn routed_to<'t>(
 ) -> Stepped<'t>
     ensures { AreOrdered tables.now → stepped_seen result ≡ led_by tables.now router.now (to_by_view (table_view tables.now router.now) (uses_by router.now.snat router.now.gateway router.now.router (entries.now ++ fresh.now)) (leg_at port.now) (destined_of destined.now)) }
 {
-    if is_own(tables, router, destined.packet.to) {
+    if is_own(tables, router, &Addr::V4(destined.packet.to)) {
         return absorbed(router.router);
     }
     if destined.packet.ttl <= 1 {

@@ -1,16 +1,19 @@
 ghost use Rattle.std.specs.Prelude.{◌≡◌, ◌++◌, ◌==◌, ◌&&◌, ◌||◌, find, not, option_map, true};
 ghost use Rattle.std.specs.List.{list_any};
 ghost use Rattle.plane_types.specs.Packets.{key_of};
-ghost use Rattle.plane_types.specs.Routing.{Float, by_float as changed_by_float, is_gateway_live, new_port as new_port_of, sourced as sourced_by, sourced_float as sourced_by_float, sourced_gateway as sourced_by_gateway, sourced_new as sourced_anew, uses_at, uses_by};
+ghost use Rattle.plane_types.specs.Routing.{by_float as changed_by_float, is_gateway_live, new_port as new_port_of, sourced as sourced_by, sourced_float as sourced_by_float, sourced_gateway as sourced_by_gateway, sourced_new as sourced_anew, uses_at, uses_by};
+ghost use Rattle.api_types.specs.RouterViews.{Float};
 ghost use Rattle.plane_types.specs.TableStep.{floats_at_router, leg_at, table_view};
 ghost use Rattle.plane_types.specs.declared.table.RouterPort.{RouterPort as ThePort};
-ghost use Rattle.packet_rules.specs.Parts.{changed_of, packet_of, sourced_of};
+ghost use Rattle.plane_types.specs.Parts.{changed_of, packet_of, sourced_of};
 
 use crate::translation::{new_port, with_key};
 use api_types::Id;
 use net_addr::Addr4;
-use packet_rules::{Changed, Destined, Packet, Sourced, by_any, by_float, kept_source, sourced_at};
-use plane_types::{Entry, HostTables, RouterPort, RouterTable};
+use plane_types::{
+    Changed, Destined, Entry, HostTables, Packet, RouterPort, RouterTable, Sourced, by_any,
+    by_float, kept_source, sourced_at,
+};
 
 /// The fixed address for which a floating address of the router stands. Its cost grows with the
 /// floating addresses.

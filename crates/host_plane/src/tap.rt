@@ -1,7 +1,7 @@
 ghost use Rattle.std.specs.Prelude.{◌≡◌, ◌++◌};
 ghost use Rattle.plane_types.specs.Places.{Bridge, Next};
 ghost use Rattle.plane_types.specs.TableStep.{stops as stop_step, tap_at as tap_by_port, tap_delivers as delivered_to, tap_filtered as filtered_by, tap_guards as guarded, tap_in as taken_in, tap_out as taken_out, tap_out_by as taken_out_by, tap_sends as sent_by};
-ghost use Rattle.packet_rules.specs.Parts.{passage_of};
+ghost use Rattle.plane_types.specs.Parts.{passage_of};
 ghost use Rattle.plane_types.specs.declared.verdict.Outcome.TheVariants.{Delivered};
 ghost use Rattle.host_plane.specs.Seen.{step_seen, stepped_seen};
 
@@ -9,8 +9,11 @@ use crate::ending::{Ended, Ending, Step, Stepped, dropped};
 use crate::filter::passage_at;
 use crate::look::tap_at;
 use api_types::{Direction, Id};
-use packet_rules::{Packet, Passage, has_pair_mac, is_allowed, is_unsupported};
-use plane_types::{DropCause, Entry, Frame, HostTables, Place, TapRow};
+use net_addr::Addr;
+use plane_types::{
+    DropCause, Entry, Frame, HostTables, Packet, Passage, Place, TapRow, has_pair_mac, is_allowed,
+    is_unsupported,
+};
 
 // Whether the tap may send the frame, as what it says it is. Without an address a client asks for a
 // lease with the tap's MAC or an allowed one.
@@ -19,13 +22,13 @@ fn guards(tap: &TapRow, frame: &Frame) -> bool
 {
     let allowed = tap.allowed.as_slice();
     match *frame {
-        Frame::Ip4 { src, from, .. } => is_allowed(allowed, src, from),
-        Frame::ArpAsk { src, from, .. } => is_allowed(allowed, src, from),
+        Frame::Ip4 { src, from, .. } => is_allowed(allowed, src, Addr::V4(from)),
+        Frame::ArpAsk { src, from, .. } => is_allowed(allowed, src, Addr::V4(from)),
         Frame::Dhcp { src, from } => {
             if from.0 == 0 {
                 tap.mac == src || has_pair_mac(allowed, src)
             } else {
-                is_allowed(allowed, src, from)
+                is_allowed(allowed, src, Addr::V4(from))
             }
         }
         Frame::Other { .. } => true,

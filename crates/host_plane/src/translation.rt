@@ -2,12 +2,13 @@ ghost use Rattle.std.specs.Prelude.{◌≡◌, ◌++◌, Some, find, if◌then�
 ghost use Rattle.std.specs.List.{filter_map};
 ghost use Rattle.plane_types.specs.Keys.{key_eq};
 ghost use Rattle.plane_types.specs.Routing.{Use as TheUse, answers as answers_to, is_taken as taken, least_untaken as first_untaken, new_port as new_port_of, uses_at, uses_by};
-ghost use Rattle.packet_rules.specs.Parts.{packet_of, use_if, use_of};
+ghost use Rattle.plane_types.specs.Parts.{packet_of, use_if, use_of};
 
 use api_types::Id;
 use net_addr::Addr4;
-use packet_rules::{Packet, Use, answers, has_choice, is_key, takes, use_of_entry};
-use plane_types::{Entry, Key, RouterTable};
+use plane_types::{
+    Entry, Key, Packet, RouterTable, Use, answers, has_choice, is_key, takes, use_of_entry,
+};
 
 // The first of these entries, of the router and with the outer address, that answers to a packet.
 fn answer_among(entries: &[Entry], router: Id, outer: Addr4, packet: &Packet) -> Option<Use>

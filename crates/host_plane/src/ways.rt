@@ -5,9 +5,8 @@ ghost use Rattle.plane_types.specs.Routing.{beats as way_beats, best_way as best
 ghost use Rattle.plane_types.specs.TableStep.{way_at, ways_at};
 
 use api_types::Id;
-use net_addr::Addr4;
-use packet_rules::rank_place;
-use plane_types::{HostTables, RouteRow};
+use net_addr::Addr;
+use plane_types::{HostTables, RouteRow, rank_place};
 
 // Whether the first goes before the second: by length, then by rank, then as the first.
 fn beats(a: &RouteRow, b: &RouteRow) -> bool
@@ -30,13 +29,13 @@ fn better<'t>(row: &'t RouteRow, other: Option<&'t RouteRow>) -> &'t RouteRow
 // other.
 fn better_for<'t>(
     router: Id,
-    destination: Addr4,
+    destination: &Addr,
     row: &'t RouteRow,
     other: Option<&'t RouteRow>,
 ) -> Option<&'t RouteRow>
-    ensures { option_map way_at (option_copied result) ≡ (if ident_eq router row.now.router && contains row.now.prefix destination then Some (better_of (way_at row.now) (option_map way_at (option_copied other.entry))) else option_map way_at (option_copied other.entry)) }
+    ensures { option_map way_at (option_copied result) ≡ (if ident_eq router row.now.router && contains row.now.prefix destination.now then Some (better_of (way_at row.now) (option_map way_at (option_copied other.entry))) else option_map way_at (option_copied other.entry)) }
 {
-    if router == row.router && row.prefix.contains(destination) {
+    if router == row.router && row.prefix.contains(*destination) {
         Some(better(row, other))
     } else {
         other
@@ -49,9 +48,9 @@ fn better_for<'t>(
 pub(crate) fn best_way<'t>(
     tables: &'t HostTables,
     router: Id,
-    destination: Addr4,
+    destination: &Addr,
 ) -> Option<&'t RouteRow>
-    ensures { option_map way_at (option_copied result) ≡ best_of_ways destination (ways_at router tables.now.routes) }
+    ensures { option_map way_at (option_copied result) ≡ best_of_ways destination.now (ways_at router tables.now.routes) }
 {
     let rows = tables.routes.as_slice();
     let mut best = None;

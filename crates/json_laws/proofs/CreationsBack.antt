@@ -6,33 +6,34 @@ use Rattle.serde_json.specs.Find.{as_bool, get}
 use Rattle.api_types.specs.Printed.{Tree, number, truth, word}
 use Rattle.api_types.specs.RowLists.{RowLists}
 use Rattle.api_types.specs.declared.form.Given.TheVariants.{Is}
-use Rattle.api_types.specs.declared.form.IpVersion.TheVariants.{V4}
+use Rattle.net_addr.specs.declared.address.Addr.{Addr}
+use Rattle.net_addr.specs.declared.address.Addr.TheVariants.{V4, V6}
 use Rattle.api_types.specs.declared.form.ObjectType.TheVariants as ObjectType
 use Rattle.api_types.specs.declared.form.VnicType.TheVariants.{Normal}
 use Rattle.api_types.specs.declared.floating.Target.{Target}
 use Rattle.api_types.specs.declared.network.Segment.{Segment}
 use Rattle.api_types.specs.declared.network.Segment.TheVariants.{Flat, Local, Vlan, Vxlan}
 use Rattle.api_types.specs.declared.policy.Action.TheVariants.{Shared, External}
-use Rattle.api_shown.specs.Trees as shown
-use Rattle.api_shown.specs.Trees.{address_word, id_word, mac_word, prefix_word, route_object, span_object}
+use Rattle.api_policy.specs.Trees as shown
+use Rattle.api_policy.specs.Trees.{address_word, four_word, id_word, mac_word, prefix_word, route_object, span_object}
 use Rattle.api_types.specs.declared.call.Caller.{Caller}
-use Rattle.api_shown.specs.Networks.{is_open, network_members, number_of, physical_of, type_word}
-use Rattle.api_shown.specs.Subnets.{subnet_members}
-use Rattle.api_shown.specs.Ports.{port_members}
-use Rattle.api_shown.specs.Groups.{direction_word, ethertype_word, group_members, protocol_word, rule_members}
-use Rattle.api_shown.specs.Routers.{router_members}
-use Rattle.api_shown.specs.Floatings.{floating_members}
-use Rattle.api_shown.specs.Policies.{action_word, policy_members}
+use Rattle.api_policy.specs.Networks.{is_open, network_members, number_of, physical_of, type_word}
+use Rattle.api_policy.specs.Subnets.{mode_word, subnet_members, version_number}
+use Rattle.api_policy.specs.Ports.{port_members}
+use Rattle.api_policy.specs.Groups.{direction_word, ethertype_word, group_members, protocol_word, rule_members}
+use Rattle.api_policy.specs.Routers.{router_members}
+use Rattle.api_policy.specs.Floatings.{floating_members}
+use Rattle.api_policy.specs.Policies.{action_word, policy_members}
 use Rattle.json_replies.specs.Printed.{fields, tree_data}
-use Rattle.json_values.specs.Items.{address_of, card_of, id_of, prefix_said}
+use Rattle.json_values.specs.Items.{address_of, card_of, four_of, id_of, prefix_said}
 use Rattle.json_laws.proofs.PrefixBack.{remotes}
 use Rattle.json_laws.proofs.ProtocolBack.{protocols}
-use Rattle.json_values.specs.Grammars.{protocol_of, action_of, device_owner, direction_of, ethertype_of, group_ids, group_name, host_routes, ip_version, name_servers, network_type_of, object_type_of, pools, port_number, project_name, router_routes, segment_number, short_text, subnet_prefix, target_name, vnic_type_of}
+use Rattle.json_values.specs.Grammars.{protocol_of, action_of, device_owner, direction_of, ethertype_of, group_ids, group_name, host_routes, ip_version, mode_of, name_servers, network_type_of, object_type_of, pools, port_number, project_name, router_routes, segment_number, short_text, subnet_prefix, target_name, vnic_type_of}
 use Rattle.neutron_json.specs.Forms.{given, given_by, is_or_null, network_form, subnet_form, port_form, group_form, rule_form, router_form, floating_form, policy_form}
 use Rattle.json_laws.specs.ReadBack.{IsReadBack, type_name}
-use Rattle.json_laws.specs.Creations.{Again, AgainOrNull, Has, Holds, segment_id, segment_physical, segment_type, IsNetworkOf, NetworkAgain, IsSubnetOf, SubnetAgain, IsPortOf, PortAgain, IsGroupOf, GroupAgain, IsRuleOf, RuleAgain, IsRouterOf, RouterAgain, IsFloatingOf, FloatingAgain, IsPolicyOf, PolicyAgain}
-use Rattle.json_laws.proofs.TextsBack.{texts, group_names, owners, projects, targets, segments, ports, addresses, macs, prefixes, ids}
-use Rattle.json_laws.proofs.WordsBack.{flags, types, directions, ethertypes, actions, versions, cards, objects}
+use Rattle.json_laws.specs.Creations.{Again, AgainOrNull, Has, Holds, segment_id, segment_physical, segment_type, IsNetworkOf, NetworkAgain, version_of, IsSubnetOf, SubnetAgain, IsPortOf, PortAgain, IsGroupOf, GroupAgain, IsRuleOf, RuleAgain, IsRouterOf, RouterAgain, IsFloatingOf, FloatingAgain, IsPolicyOf, PolicyAgain}
+use Rattle.json_laws.proofs.TextsBack.{texts, group_names, owners, projects, targets, segments, ports, addresses, fours, macs, prefixes, ids}
+use Rattle.json_laws.proofs.WordsBack.{flags, types, directions, ethertypes, actions, modes, version_digit, versions, cards, objects}
 use Rattle.json_laws.proofs.ListsBack.{pools_back, servers_back, hosts_back, routes_back, groups_back}
 use Rattle.api_types.specs.declared.network.NetworkRow.{NetworkRow}
 use Rattle.api_types.specs.declared.subnet.SubnetRow.{SubnetRow}
@@ -85,11 +86,15 @@ number_printed (Flat physical) = refl
 number_printed (Vlan physical tag) = refl
 number_printed (Vxlan n) = refl
 
+version_printed : (x : Addr) → Some (tree_data (number (version_number x))) ≡ Some (tree_data (number (version_digit (version_of x))))
+version_printed (V4 n) = refl
+version_printed (V6 n) = refl
+
 port_printed : (o : Option Target) → Some (tree_data (shown.null_or (λ (t : Target). id_word t.port) o)) ≡ Some (tree_data (shown.null_or id_word (option_map (λ (t : Target). t.port) o)))
 port_printed None = refl
 port_printed (Some t) = refl
 
-fixed_printed : (o : Option Target) → Some (tree_data (shown.null_or (λ (t : Target). address_word t.fixed) o)) ≡ Some (tree_data (shown.null_or address_word (option_map (λ (t : Target). t.fixed) o)))
+fixed_printed : (o : Option Target) → Some (tree_data (shown.null_or (λ (t : Target). four_word t.fixed) o)) ≡ Some (tree_data (shown.null_or four_word (option_map (λ (t : Target). t.fixed) o)))
 fixed_printed None = refl
 fixed_printed (Some t) = refl
 
@@ -112,7 +117,9 @@ subnet_again d r h = record {
   name = again short_text word texts d (tree_data (fields (subnet_members r))) (codes "name") r.name refl h.name;
   description = again short_text word texts d (tree_data (fields (subnet_members r))) (codes "description") r.description refl h.description;
   network_id = again id_of id_word ids d (tree_data (fields (subnet_members r))) (codes "network_id") r.network refl h.network_id;
-  ip_version = again ip_version (λ v. number 4) versions d (tree_data (fields (subnet_members r))) (codes "ip_version") V4 refl h.ip_version;
+  ip_version = again ip_version (λ v. number (version_digit v)) versions d (tree_data (fields (subnet_members r))) (codes "ip_version") (version_of r.prefix.base) (version_printed r.prefix.base) h.ip_version;
+  ipv6_address_mode = again_or mode_of mode_word modes refl d (tree_data (fields (subnet_members r))) (codes "ipv6_address_mode") r.address_mode refl h.ipv6_address_mode;
+  ipv6_ra_mode = again_or mode_of mode_word modes refl d (tree_data (fields (subnet_members r))) (codes "ipv6_ra_mode") r.ra_mode refl h.ipv6_ra_mode;
   cidr = again subnet_prefix prefix_word prefixes d (tree_data (fields (subnet_members r))) (codes "cidr") r.prefix refl h.cidr;
   gateway_ip = again_or address_of address_word addresses refl d (tree_data (fields (subnet_members r))) (codes "gateway_ip") r.gateway refl h.gateway_ip;
   allocation_pools = again pools (shown.list_of span_object) pools_back d (tree_data (fields (subnet_members r))) (codes "allocation_pools") r.pools refl h.allocation_pools;
@@ -173,9 +180,9 @@ pub floating_again : (d : Data) (r : FloatingRow) → IsFloatingOf (floating_for
 floating_again d r h = record {
   description = again short_text word texts d (tree_data (fields (floating_members r))) (codes "description") r.description refl h.description;
   floating_network_id = again id_of id_word ids d (tree_data (fields (floating_members r))) (codes "floating_network_id") r.network refl h.floating_network_id;
-  floating_ip_address = again address_of address_word addresses d (tree_data (fields (floating_members r))) (codes "floating_ip_address") r.address refl h.floating_ip_address;
+  floating_ip_address = again four_of four_word fours d (tree_data (fields (floating_members r))) (codes "floating_ip_address") r.address refl h.floating_ip_address;
   port_id = again_or id_of id_word ids refl d (tree_data (fields (floating_members r))) (codes "port_id") (option_map (λ (t : Target). t.port) r.target) (port_printed r.target) h.port_id;
-  fixed_ip_address = again_or address_of address_word addresses refl d (tree_data (fields (floating_members r))) (codes "fixed_ip_address") (option_map (λ (t : Target). t.fixed) r.target) (fixed_printed r.target) h.fixed_ip_address;
+  fixed_ip_address = again_or four_of four_word fours refl d (tree_data (fields (floating_members r))) (codes "fixed_ip_address") (option_map (λ (t : Target). t.fixed) r.target) (fixed_printed r.target) h.fixed_ip_address;
   project_id = again project_name word projects d (tree_data (fields (floating_members r))) (codes "project_id") r.project refl h.project_id;
   tenant_id = again project_name word projects d (tree_data (fields (floating_members r))) (codes "tenant_id") r.project refl h.tenant_id;
 }

@@ -5,13 +5,14 @@ use Rattle.std.specs.Option.{option_and_then}
 use Rattle.serde_json.specs.Data.{Data}
 use Rattle.serde_json.specs.Find.{as_array, get}
 use Rattle.net_addr.specs.Prefixes.{Prefix, Span}
+use Rattle.net_addr.specs.declared.address.Addr.{Addr}
 use Rattle.api_types.specs.Printed.{Tree, trees_of}
 use Rattle.api_types.specs.declared.subnet.Hop.{Hop}
-use Rattle.api_shown.specs.Trees as shown
-use Rattle.api_shown.specs.Trees.{address_word, id_word, route_object, span_object}
+use Rattle.api_policy.specs.Trees as shown
+use Rattle.api_policy.specs.Trees.{address_word, id_word, route_object, span_object}
 use Rattle.json_replies.specs.Printed.{tree_data, trees_data}
 use Rattle.json_values.specs.Values.{all_said, applied, kept, list_of, member_of, more, pairwise, values_of}
-use Rattle.json_values.specs.Items.{address_of, exact_of, hop, hop_of, id_of, is_span, other_hop, other_id, span, span_of}
+use Rattle.json_values.specs.Items.{address_of, exact_of, hop, hop_of, id_of, is_hop, is_span, other_hop, other_id, span, span_of}
 use Rattle.json_values.specs.Grammars.{are_pools, group_ids, host_routes, name_servers, pools, router_routes}
 use Rattle.json_laws.specs.ReadBack.{IsReadBack}
 use Rattle.json_laws.proofs.TextsBack.{addresses, exact_again, ids, kept_is, kept_some, mapped_is, said_is}
@@ -60,7 +61,7 @@ both_is f o p z e =
     let m = mapped_is f o s.0 s.2 in
     (m.0, s.1, m.1, s.3, ap (λ g. g s.1) m.2 ∙ s.4)
 
-span_back : (first last : ℕ) → address_of (tree_data (address_word first)) ≡ Some first → address_of (tree_data (address_word last)) ≡ Some last → is_span (span first last) ≡ true
+span_back : (first last : Addr) → address_of (tree_data (address_word first)) ≡ Some first → address_of (tree_data (address_word last)) ≡ Some last → is_span (span first last) ≡ true
     → span_of (tree_data (span_object (span first last))) ≡ Some (span first last)
 span_back first last p q within = (λ j. kept is_span (applied (option_map span (p j)) (q j))) ∙ kept_some is_span (span first last) within
 
@@ -75,18 +76,19 @@ spans d s e =
     let whole = span_back b.0 b.1 (addresses first.0 b.0 first.2) (addresses last.0 b.1 last.2) (ap is_span b.4 ∙ k.1) in
     subst (λ (v : Span). span_of (tree_data (span_object v)) ≡ Some v) b.4 whole
 
-hop_back : (destination : Prefix) (next : ℕ) → exact_of (tree_data (shown.prefix_word destination)) ≡ Some destination → address_of (tree_data (address_word next)) ≡ Some next
+hop_back : (destination : Prefix) (next : Addr) → exact_of (tree_data (shown.prefix_word destination)) ≡ Some destination → address_of (tree_data (address_word next)) ≡ Some next → is_hop (hop destination next) ≡ true
     → hop_of (tree_data (route_object (hop destination next))) ≡ Some (hop destination next)
-hop_back destination next p q = λ j. applied (option_map hop (p j)) (q j)
+hop_back destination next p q same = (λ j. kept is_hop (applied (option_map hop (p j)) (q j))) ∙ kept_some is_hop (hop destination next) same
 
 hops : IsReadBack hop_of route_object
 hops d h e =
     let destination = member_of exact_of (codes "destination") d in
     let next = member_of address_of (codes "nexthop") d in
-    let b = both_is hop destination next h (if_is _ _ h e) in
+    let k = kept_is is_hop (applied (option_map hop destination) next) h (if_is _ _ h e) in
+    let b = both_is hop destination next h k.0 in
     let to = said_is exact_of (get (codes "destination") d) b.0 b.2 in
     let by = said_is address_of (get (codes "nexthop") d) b.1 b.3 in
-    let whole = hop_back b.0 b.1 (exact_again to.0 b.0 to.2) (addresses by.0 b.1 by.2) in
+    let whole = hop_back b.0 b.1 (exact_again to.0 b.0 to.2) (addresses by.0 b.1 by.2) (ap is_hop b.4 ∙ k.1) in
     subst (λ (v : Hop). hop_of (tree_data (route_object v)) ≡ Some v) b.4 whole
 
 -- ---- the lists of attributes

@@ -9,12 +9,13 @@ use Rattle.std.proofs.lemmas.Str.Parse.{digit_from_value}
 use Rattle.serde_json.specs.Data.{Data}
 use Rattle.serde_json.specs.Find.{as_number, as_str, as_u64}
 use Rattle.std.specs.Option.{option_and_then}
-use Rattle.api_shown.specs.Groups as shown
-use Rattle.api_shown.specs.Groups.{protocol_word}
+use Rattle.api_policy.specs.Groups as shown
+use Rattle.api_policy.specs.Groups.{protocol_word}
 use Rattle.json_replies.specs.Printed.{tree_data}
-use Rattle.json_values.specs.Texts.{number_in}
+use Rattle.json_values.specs.Numbers.{number_in}
+use Rattle.json_values.specs.Six.{or_else}
 use Rattle.json_values.specs.Values.{said_by, whole_of}
-use Rattle.json_values.specs.Grammars.{named_protocol, or_else, protocol_in, protocol_of}
+use Rattle.json_values.specs.Grammars.{named_protocol, protocol_in, protocol_of}
 use Rattle.json_values.proofs.SoughtLemmas.{passes}
 use Rattle.json_values.proofs.AddressLemmas.{number_read}
 use Rattle.json_laws.specs.ReadBack.{IsReadBack}
@@ -32,8 +33,8 @@ name_read : (n : ℕ) (t : List ℕ) → shown.named_protocol n ≡ Some t → n
 name_read n t =
     one_name n 1 (codes "icmp") t _ (n == 1) refl refl (one_name n 2 (codes "igmp") t _ (n == 2) refl refl (one_name n 6 (codes "tcp") t _ (n == 6) refl refl
     (one_name n 17 (codes "udp") t _ (n == 17) refl refl (one_name n 47 (codes "gre") t _ (n == 47) refl refl (one_name n 50 (codes "esp") t _ (n == 50) refl refl
-    (one_name n 51 (codes "ah") t _ (n == 51) refl refl (one_name n 89 (codes "ospf") t _ (n == 89) refl refl (one_name n 112 (codes "vrrp") t _ (n == 112) refl refl
-    (one_name n 132 (codes "sctp") t _ (n == 132) refl refl (λ e. absurd cc))))))))))
+    (one_name n 51 (codes "ah") t _ (n == 51) refl refl (one_name n 58 (codes "ipv6-icmp") t _ (n == 58) refl refl (one_name n 89 (codes "ospf") t _ (n == 89) refl refl (one_name n 112 (codes "vrrp") t _ (n == 112) refl refl
+    (one_name n 132 (codes "sctp") t _ (n == 132) refl refl (λ e. absurd cc)))))))))))
 
 -- a text that begins with a digit is no name
 digit_first : (c : ℕ) (rest : List ℕ) → c < 58 → named_protocol (c ∷ rest) ≡ None
@@ -65,8 +66,8 @@ named_small : (t : List ℕ) (n : ℕ) → named_protocol t ≡ Some n → n < 2
 named_small t n =
     name_small n 1 _ (bytes_eq t (codes "icmp")) (omega arith) (name_small n 2 _ (bytes_eq t (codes "igmp")) (omega arith) (name_small n 6 _ (bytes_eq t (codes "tcp")) (omega arith)
     (name_small n 17 _ (bytes_eq t (codes "udp")) (omega arith) (name_small n 47 _ (bytes_eq t (codes "gre")) (omega arith) (name_small n 50 _ (bytes_eq t (codes "esp")) (omega arith)
-    (name_small n 51 _ (bytes_eq t (codes "ah")) (omega arith) (name_small n 89 _ (bytes_eq t (codes "ospf")) (omega arith) (name_small n 112 _ (bytes_eq t (codes "vrrp")) (omega arith)
-    (name_small n 132 _ (bytes_eq t (codes "sctp")) (omega arith) (λ e. absurd cc))))))))))
+    (name_small n 51 _ (bytes_eq t (codes "ah")) (omega arith) (name_small n 58 _ (bytes_eq t (codes "ipv6-icmp")) (omega arith) (name_small n 58 _ (bytes_eq t (codes "icmpv6")) (omega arith) (name_small n 89 _ (bytes_eq t (codes "ospf")) (omega arith) (name_small n 112 _ (bytes_eq t (codes "vrrp")) (omega arith)
+    (name_small n 132 _ (bytes_eq t (codes "sctp")) (omega arith) (λ e. absurd cc))))))))))))
 
 word_by : (n : ℕ) (o : Option (List ℕ)) → n < 256 → shown.named_protocol n ≡ o → or_else (protocol_in (unwrap_or o (decimal n))) None ≡ Some n
 word_by n None less is =

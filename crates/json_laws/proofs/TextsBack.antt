@@ -1,5 +1,5 @@
 -- Texts, ids, addresses and numbers, printed and read again.
-use Rattle.std.proofs.Common.{◌≡◌, ℕ, zero, suc, ◌-◌, ◌%◌, ◌^◌, ◌<◌, Bool, true, false, List, [], ◌∷◌, ◌++◌, map, Option, Some, None, option_map, is_some, codes, decimal, refl, sym, ap, ◌∙◌, arith, inl}
+use Rattle.std.proofs.Common.{◌≡◌, ℕ, zero, suc, ◌-◌, ◌*◌, ◌/◌, ◌%◌, ◌^◌, ◌<◌, ◌≤◌, Bool, true, false, List, [], ◌∷◌, ◌++◌, map, Option, Some, None, option_map, codes, decimal, refl, sym, ap, ◌∙◌, arith, inl}
 use Rattle.std.specs.Prelude.{if◌then◌else◌, nat_le, ◌&&◌}
 use Rattle.std.specs.Option.{option_and_then}
 use Rattle.std.specs.Char.{to_ascii_lowercase}
@@ -14,16 +14,24 @@ use Rattle.uuid.proofs.RoundTrips.{parses_hyphenated_text}
 use Rattle.serde_json.specs.Data.{Data}
 use Rattle.serde_json.specs.Data as json
 use Rattle.serde_json.specs.Find.{as_number, as_str, as_u64}
+use Rattle.net_addr.proofs.Print6Spelled as printed
 use Rattle.net_addr.specs.Macs.{is_unicast}
 use Rattle.net_addr.specs.Prefixes.{Written, Prefix, prefix_of, is_exact}
-use Rattle.net_addr.specs.Spelling.{address_text, mac_text, prefix_text}
+use Rattle.net_addr.specs.Addresses.{IsAddr, renumbered, width}
+use Rattle.net_addr.specs.Addresses as net
+use Rattle.net_addr.specs.Spelling.{SpellsCidr, addr_text, address_text, mac_text, prefix_text}
+use Rattle.net_addr.specs.declared.address.Addr.{Addr}
+use Rattle.net_addr.specs.declared.address.Addr.TheVariants.{V4, V6}
 use Rattle.api_types.specs.Ident.{Ident, IsDrawable, Spells, ident_text, uuid_bytes, uuid_number}
 use Rattle.api_types.specs.Printed.{number, word}
-use Rattle.api_shown.specs.Trees.{address_word, id_word, mac_word, prefix_word}
-use Rattle.json_values.specs.Texts.{number_with, address_in, mac_in, address_before, written, written_in, id_in}
+use Rattle.api_policy.specs.Trees.{address_word, four_word, id_word, mac_word, prefix_word}
+use Rattle.json_values.specs.Numbers.{number_with, four_in, mac_in}
+use Rattle.json_values.specs.Texts.{address_in, written_in, id_in}
 use Rattle.json_values.specs.Values.{kept, said_by, whole_of}
-use Rattle.json_values.specs.Items.{id_of, address_of, mac_of, card_of, exact_of}
+use Rattle.json_values.specs.Items.{id_of, four_of, address_of, mac_of, card_of, exact_of}
 use Rattle.json_values.specs.Grammars.{short_text, group_name, device_owner, project_name, target_name, is_short, is_free_name, is_free_owner, is_project_name, is_target, segment_number, port_number, subnet_prefix, is_subnet_prefix}
+use Rattle.json_values.proofs.AddrLemmas.{addr_given, addr_spelled, cidr_given, cidr_spelled}
+use Rattle.json_values.proofs.SixBounds.{addr_fits}
 use Rattle.json_values.proofs.SoughtLemmas.{passes}
 use Rattle.json_values.proofs.IdLemmas.{id_read, id_spelled}
 use Rattle.json_laws.specs.ReadBack.{IsReadBack}
@@ -97,12 +105,23 @@ ports d n e = in_range 0 65535 d n e
 
 -- ---- addresses
 
-address_same : (t : List ℕ) (n : ℕ) → address_in t ≡ Some n → address_text n ≡ t
-unfolding address_in
-address_same t n e = same_text (address_text n) t (passes (λ m. bytes_eq (address_text m) t) (2 ^ 32) n e).1
+four_same : (t : List ℕ) (n : ℕ) → four_in t ≡ Some n → address_text n ≡ t
+unfolding four_in
+four_same t n e = same_text (address_text n) t (passes (λ m. bytes_eq (address_text m) t) (2 ^ 32) n e).1
+
+pub fours : IsReadBack four_of four_word
+fours d n e = let s = said_is four_in (as_str d) n e in ap four_in (four_same s.0 n s.2) ∙ s.2
+
+-- the printed text of an address is of that address
+pub address_back : (a : Addr) → IsAddr a → address_in (addr_text a) ≡ Some a
+address_back a h = sym (addr_given (addr_text a) a (printed.addr_spelled a h))
+
+-- what is read fits its version
+pub read_fits : (t : List ℕ) (a : Addr) → address_in t ≡ Some a → IsAddr a
+read_fits t a e = addr_fits t a (addr_spelled t a e)
 
 pub addresses : IsReadBack address_of address_word
-addresses d n e = let s = said_is address_in (as_str d) n e in ap address_in (address_same s.0 n s.2) ∙ s.2
+addresses d a e = let s = said_is address_in (as_str d) a e in address_back a (read_fits s.0 a s.2)
 
 lower_again : (t : List ℕ) → map to_ascii_lowercase (map to_ascii_lowercase t) ≡ map to_ascii_lowercase t
 lower_again [] = refl
@@ -125,42 +144,45 @@ macs d n e =
 
 -- ---- prefixes
 
-before_same : (len : ℕ) (t : List ℕ) (a : ℕ) → address_before len t ≡ Some a → address_text a ++ codes "/" ++ decimal len ≡ t
-unfolding address_before
-before_same len t a e = same_text (address_text a ++ codes "/" ++ decimal len) t (passes (λ n. bytes_eq (address_text n ++ codes "/" ++ decimal len) t) (2 ^ 32) a e).1
+-- an address and a length that are read fit
+pub written_fits : (t : List ℕ) (w : Written) → written_in t ≡ Some w → IsAddr w.addr × (w.len ≤ width w.addr)
+unfolding SpellsCidr
+written_fits t w e = let s = cidr_spelled t w e in (addr_fits s.0 w.addr s.1, s.2)
 
-written_same : (t : List ℕ) (w : Written) → written_in t ≡ Some w → address_text w.addr ++ codes "/" ++ decimal w.len ≡ t
-unfolding written_in
-written_same t w e =
-    let s = said_is (λ len. option_map (written len) (address_before len t)) (number_with (λ len. is_some (address_before len t)) 33) w e in
-    let m = mapped_is (written s.0) (address_before s.0 t) w s.2 in
-    ap (λ (v : Written). address_text v.addr ++ codes "/" ++ decimal v.len) (sym m.2) ∙ before_same s.0 t m.0 m.1
+pub written_back : (w : Written) → IsAddr w.addr → w.len ≤ width w.addr → written_in (addr_text w.addr ++ codes "/" ++ decimal w.len) ≡ Some w
+unfolding SpellsCidr
+written_back w h l = sym (cidr_given (addr_text w.addr ++ codes "/" ++ decimal w.len) w (addr_text w.addr, printed.addr_spelled w.addr h, l, refl))
 
-exact_base : (w : Written) → is_exact w ≡ true → (prefix_of w).base ≡ w.addr
+renumbered_same : (a : Addr) (n : ℕ) → n ≡ net.number a → renumbered a n ≡ a
+renumbered_same (V4 m) n e = ap V4 e
+renumbered_same (V6 m) n e = ap V6 e
+
+pub exact_base : (w : Written) → is_exact w ≡ true → (prefix_of w).base ≡ w.addr
 unfolding is_exact prefix_of
 exact_base w e =
-    let zero : w.addr % 2 ^ (32 - w.len) ≡ 0 = grind (arith, nat_tests) in
-    let k = 2 ^ (32 - w.len) in
-    let rest = mod-eq-sub-div-mul w.addr k in
-    let within = div-mul-le_self w.addr k in
-    omega (arith, zero, rest, within)
+    let zero : net.number w.addr % 2 ^ (width w.addr - w.len) ≡ 0 = grind (arith, nat_tests) in
+    let k = 2 ^ (width w.addr - w.len) in
+    let rest = mod-eq-sub-div-mul (net.number w.addr) k in
+    let within = div-mul-le_self (net.number w.addr) k in
+    renumbered_same w.addr (net.number w.addr / k * k) (omega (arith, zero, rest, within))
 
 exact_len : (w : Written) → (prefix_of w).len ≡ w.len
 unfolding prefix_of
 exact_len w = refl
 
-exact_text : (w : Written) → is_exact w ≡ true → prefix_text (prefix_of w) ≡ address_text w.addr ++ codes "/" ++ decimal w.len
+exact_text : (w : Written) → is_exact w ≡ true → prefix_text (prefix_of w) ≡ addr_text w.addr ++ codes "/" ++ decimal w.len
 unfolding prefix_text
-exact_text w e = ap (λ (b : ℕ). address_text b ++ codes "/" ++ decimal (prefix_of w).len) (exact_base w e) ∙ ap (λ (l : ℕ). address_text w.addr ++ codes "/" ++ decimal l) (exact_len w)
+exact_text w e = ap (λ (b : Addr). addr_text b ++ codes "/" ++ decimal (prefix_of w).len) (exact_base w e) ∙ ap (λ (l : ℕ). addr_text w.addr ++ codes "/" ++ decimal l) (exact_len w)
 
 pub exact_again : (d : Data) (p : Prefix) → exact_of d ≡ Some p → exact_of (json.string (prefix_text p)) ≡ Some p
 exact_again d p e =
     let m = mapped_is prefix_of (kept is_exact (said_by written_in d)) p e in
     let k = kept_is is_exact (said_by written_in d) m.0 m.1 in
     let s = said_is written_in (as_str d) m.0 k.0 in
-    let text : prefix_text p ≡ s.0 = ap prefix_text (sym m.2) ∙ exact_text m.0 k.1 ∙ written_same s.0 m.0 s.2 in
+    let fits = written_fits s.0 m.0 s.2 in
+    let text : prefix_text p ≡ addr_text m.0.addr ++ codes "/" ++ decimal m.0.len = ap prefix_text (sym m.2) ∙ exact_text m.0 k.1 in
     ap (λ (t : List ℕ). option_map prefix_of (kept is_exact (written_in t))) text
-    ∙ ap (λ (o : Option Written). option_map prefix_of (kept is_exact o)) s.2 ∙ ap (option_map prefix_of) (kept_some is_exact m.0 k.1) ∙ ap Some m.2
+    ∙ ap (λ (o : Option Written). option_map prefix_of (kept is_exact o)) (written_back m.0 fits.0 fits.1) ∙ ap (option_map prefix_of) (kept_some is_exact m.0 k.1) ∙ ap Some m.2
 
 pub prefixes : IsReadBack subnet_prefix prefix_word
 prefixes d p e =

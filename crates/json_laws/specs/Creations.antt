@@ -1,9 +1,12 @@
 -- Rows that have what a creation's body gives, and forms in which that is given again.
-use Rattle.std.specs.Prelude.{◌≡◌, Option, Some, None, option_map, List, ℕ}
+use Rattle.std.specs.Prelude.{◌≡◌, Option, Some, None, option_map, List, ℕ, if◌then◌else◌}
+use Rattle.net_addr.specs.Addresses.{is_v4}
+use Rattle.net_addr.specs.declared.address.Addr.{Addr}
 use Rattle.api_types.specs.RowLists.{RowLists}
 use Rattle.api_types.specs.declared.form.Given.{Given}
 use Rattle.api_types.specs.declared.form.Given.TheVariants.{Absent, Null, Is}
-use Rattle.api_types.specs.declared.form.IpVersion.TheVariants.{V4}
+use Rattle.api_types.specs.declared.form.IpVersion.{IpVersion}
+use Rattle.api_types.specs.declared.form.IpVersion.TheVariants.{V4, V6}
 use Rattle.api_types.specs.declared.form.NetworkType.{NetworkType}
 use Rattle.api_types.specs.declared.form.NetworkType.TheVariants as type
 use Rattle.api_types.specs.declared.form.ObjectType.TheVariants as ObjectType
@@ -12,7 +15,7 @@ use Rattle.api_types.specs.declared.floating.Target.{Target}
 use Rattle.api_types.specs.declared.network.Segment.{Segment}
 use Rattle.api_types.specs.declared.network.Segment.TheVariants as segment
 use Rattle.api_types.specs.declared.policy.Action.TheVariants.{Shared, External}
-use Rattle.api_shown.specs.Networks.{is_open}
+use Rattle.api_policy.specs.Networks.{is_open}
 use Rattle.api_types.specs.declared.form.NetworkForm.{NetworkForm}
 use Rattle.api_types.specs.declared.form.SubnetForm.{SubnetForm}
 use Rattle.api_types.specs.declared.form.PortForm.{PortForm}
@@ -97,12 +100,18 @@ pub record NetworkAgain (f g : NetworkForm) : Type 0 where
   pub project_id : Again f.project_id g.project_id
   pub tenant_id : Again f.tenant_id g.tenant_id
 
+-- the version of an address
+abbrev pub version_of : Addr → IpVersion
+version_of x = if is_v4 x then V4 else V6
+
 -- the row has what the form gives
 pub record IsSubnetOf (f : SubnetForm) (r : SubnetRow) : Type 0 where
   pub name : Has f.name r.name
   pub description : Has f.description r.description
   pub network_id : Has f.network_id r.network
-  pub ip_version : Has f.ip_version V4
+  pub ip_version : Has f.ip_version (version_of r.prefix.base)
+  pub ipv6_address_mode : Holds f.ipv6_address_mode r.address_mode
+  pub ipv6_ra_mode : Holds f.ipv6_ra_mode r.ra_mode
   pub cidr : Has f.cidr r.prefix
   pub gateway_ip : Holds f.gateway_ip r.gateway
   pub allocation_pools : Has f.allocation_pools r.pools
@@ -115,6 +124,8 @@ pub record SubnetAgain (f g : SubnetForm) : Type 0 where
   pub description : Again f.description g.description
   pub network_id : Again f.network_id g.network_id
   pub ip_version : Again f.ip_version g.ip_version
+  pub ipv6_address_mode : AgainOrNull f.ipv6_address_mode g.ipv6_address_mode
+  pub ipv6_ra_mode : AgainOrNull f.ipv6_ra_mode g.ipv6_ra_mode
   pub cidr : Again f.cidr g.cidr
   pub gateway_ip : AgainOrNull f.gateway_ip g.gateway_ip
   pub allocation_pools : Again f.allocation_pools g.allocation_pools

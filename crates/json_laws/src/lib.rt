@@ -9,18 +9,18 @@ ghost use Rattle.std.specs.Prelude.{◌≡◌, ℕ, List, option_map};
 ghost use Rattle.serde_json.specs.Data.{Data};
 ghost use Rattle.serde_json.specs.Find.{as_bool, get};
 ghost use Rattle.api_types.specs.Printed.{NamedTree, number, truth, word};
-ghost use Rattle.api_shown.specs.Floatings.{floating_members};
-ghost use Rattle.api_shown.specs.Groups.{direction_word, ethertype_word, group_members, protocol_word, rule_members};
+ghost use Rattle.api_policy.specs.Floatings.{floating_members};
+ghost use Rattle.api_policy.specs.Groups.{direction_word, ethertype_word, group_members, protocol_word, rule_members};
 ghost use Rattle.api_types.specs.declared.call.Caller.{Caller};
-ghost use Rattle.api_shown.specs.Networks.{network_members};
-ghost use Rattle.api_shown.specs.Ports.{port_members};
-ghost use Rattle.api_shown.specs.Routers.{router_members};
-ghost use Rattle.api_shown.specs.Subnets.{subnet_members};
-ghost use Rattle.api_shown.specs.Policies.{action_word, policy_members};
-ghost use Rattle.api_shown.specs.Trees.{address_word, id_word, list_of, mac_word, prefix_word, route_object, span_object};
+ghost use Rattle.api_policy.specs.Networks.{network_members};
+ghost use Rattle.api_policy.specs.Ports.{port_members};
+ghost use Rattle.api_policy.specs.Routers.{router_members};
+ghost use Rattle.api_policy.specs.Subnets.{mode_word, subnet_members};
+ghost use Rattle.api_policy.specs.Policies.{action_word, policy_members};
+ghost use Rattle.api_policy.specs.Trees.{address_word, four_word, id_word, list_of, mac_word, prefix_word, route_object, span_object};
 ghost use Rattle.json_replies.specs.Printed.{fields, tree_data};
-ghost use Rattle.json_values.specs.Grammars.{action_of, device_owner, direction_of, ethertype_of, group_ids, group_name, host_routes, name_servers, network_type_of, pools, port_number, project_name, protocol_of, router_routes, segment_number, short_text, subnet_prefix, target_name};
-ghost use Rattle.json_values.specs.Items.{address_of, card_of, id_of, prefix_said};
+ghost use Rattle.json_values.specs.Grammars.{action_of, device_owner, direction_of, ethertype_of, group_ids, group_name, host_routes, mode_of, name_servers, network_type_of, pools, port_number, project_name, protocol_of, router_routes, segment_number, short_text, subnet_prefix, target_name};
+ghost use Rattle.json_values.specs.Items.{address_of, card_of, four_of, id_of, prefix_said};
 ghost use Rattle.api_types.specs.RowLists.{RowLists};
 ghost use Rattle.api_types.specs.declared.floating.FloatingRow.{FloatingRow};
 ghost use Rattle.api_types.specs.declared.group.GroupRow.{GroupRow};
@@ -44,6 +44,7 @@ pub fn values_read_back()
     ensures flags { IsReadBack as_bool truth }
     ensures ids { IsReadBack id_of id_word }
     ensures addresses { IsReadBack address_of address_word }
+    ensures fours { IsReadBack four_of four_word }
     ensures macs { IsReadBack card_of mac_word }
     ensures prefixes { IsReadBack subnet_prefix prefix_word }
     ensures remotes { IsReadBack prefix_said prefix_word }
@@ -54,6 +55,7 @@ pub fn values_read_back()
     ensures directions { IsReadBack direction_of (λ x. word (direction_word x)) }
     ensures ethertypes { IsReadBack ethertype_of (λ x. word (ethertype_word x)) }
     ensures actions { IsReadBack action_of (λ x. word (action_word x)) }
+    ensures modes { IsReadBack mode_of mode_word }
     ensures pools { IsReadBack pools (list_of span_object) }
     ensures name_servers { IsReadBack name_servers (list_of address_word) }
     ensures host_routes { IsReadBack host_routes (list_of route_object) }

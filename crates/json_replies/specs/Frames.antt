@@ -1,6 +1,7 @@
 -- Frames, keys and tracked entries as they are printed.
 use Rattle.std.specs.Prelude.{ℕ, List, [], ◌∷◌, codes}
-use Rattle.net_addr.specs.Spelling.{address_text, mac_text, prefix_text}
+use Rattle.net_addr.specs.Spelling.{addr_text, address_text, mac_text, prefix_text}
+use Rattle.net_addr.specs.declared.address.Addr.{Addr}
 use Rattle.net_addr.specs.Prefixes.{Prefix}
 use Rattle.api_types.specs.Ident.{Ident, ident_text}
 use Rattle.api_types.specs.Printed.{Tree, number, word, NamedTree}
@@ -20,8 +21,12 @@ use Rattle.json_replies.specs.Printed.{fields}
 abbrev pub id_tree : Ident → Tree
 id_tree id = word (ident_text id)
 
-abbrev pub address_tree : ℕ → Tree
-address_tree address = word (address_text address)
+abbrev pub address_tree : Addr → Tree
+address_tree address = word (addr_text address)
+
+-- an address of version 4, by its number
+abbrev pub four_tree : ℕ → Tree
+four_tree address = word (address_text address)
 
 abbrev pub mac_tree : ℕ → Tree
 mac_tree mac = word (mac_text mac)
@@ -43,13 +48,13 @@ part_members (part.Proto n) = (codes "number", number n) ∷ (codes "proto", wor
 
 abbrev pub frame_members : Frame → List NamedTree
 frame_members (Ip4 src dst from to ttl part) =
-    (codes "dst", mac_tree dst) ∷ (codes "from", address_tree from) ∷ (codes "kind", word (codes "ip4"))
-    ∷ (codes "src", mac_tree src) ∷ (codes "to", address_tree to) ∷ (codes "ttl", number ttl) ∷ part_members part
+    (codes "dst", mac_tree dst) ∷ (codes "from", four_tree from) ∷ (codes "kind", word (codes "ip4"))
+    ∷ (codes "src", mac_tree src) ∷ (codes "to", four_tree to) ∷ (codes "ttl", number ttl) ∷ part_members part
 frame_members (ArpAsk src from to) =
-    (codes "from", address_tree from) ∷ (codes "kind", word (codes "arp_ask"))
-    ∷ (codes "src", mac_tree src) ∷ (codes "to", address_tree to) ∷ []
+    (codes "from", four_tree from) ∷ (codes "kind", word (codes "arp_ask"))
+    ∷ (codes "src", mac_tree src) ∷ (codes "to", four_tree to) ∷ []
 frame_members (Dhcp src from) =
-    (codes "from", address_tree from) ∷ (codes "kind", word (codes "dhcp_ask")) ∷ (codes "src", mac_tree src) ∷ []
+    (codes "from", four_tree from) ∷ (codes "kind", word (codes "dhcp_ask")) ∷ (codes "src", mac_tree src) ∷ []
 frame_members (Other src dst ethertype) =
     (codes "dst", mac_tree dst) ∷ (codes "ethertype", number ethertype) ∷ (codes "kind", word (codes "other"))
     ∷ (codes "src", mac_tree src) ∷ []
@@ -67,8 +72,8 @@ kind_members (Proto n) = (codes "number", number n) ∷ (codes "proto", word (co
 
 abbrev pub key_members : Key → List NamedTree
 key_members key =
-    (codes "dport", number key.dport) ∷ (codes "from", address_tree key.from) ∷ (codes "sport", number key.sport)
-    ∷ (codes "to", address_tree key.to) ∷ kind_members key.kind
+    (codes "dport", number key.dport) ∷ (codes "from", four_tree key.from) ∷ (codes "sport", number key.sport)
+    ∷ (codes "to", four_tree key.to) ∷ kind_members key.kind
 
 abbrev pub key_tree : Key → Tree
 key_tree key = fields (key_members key)
@@ -78,5 +83,5 @@ entry_tree (Flow port direction key) = fields (
     (codes "direction", direction_tree direction) ∷ (codes "key", key_tree key) ∷ (codes "kind", word (codes "flow"))
     ∷ (codes "port", id_tree port) ∷ [])
 entry_tree (Snat router key outer outer_port) = fields (
-    (codes "key", key_tree key) ∷ (codes "kind", word (codes "snat")) ∷ (codes "outer", address_tree outer)
+    (codes "key", key_tree key) ∷ (codes "kind", word (codes "snat")) ∷ (codes "outer", four_tree outer)
     ∷ (codes "outer_port", number outer_port) ∷ (codes "router", id_tree router) ∷ [])

@@ -18,15 +18,15 @@ use Rattle.plane_types.specs.declared.table.InwardRow.{InwardRow}
 use Rattle.plane_types.specs.declared.table.NeighbourRow.{NeighbourRow}
 use Rattle.plane_types.specs.declared.table.RouterPort.{RouterPort}
 use Rattle.plane_types.specs.declared.table.RouterTable.{RouterTable}
-use Rattle.plane_types.specs.declared.table.RouteRank.{RouteRank}
-use Rattle.plane_types.specs.declared.table.RouteRank.TheVariants.{Connected, Extra, Default}
+use Rattle.api_types.specs.declared.route.RouteRank.{RouteRank}
+use Rattle.api_types.specs.declared.route.RouteRank.TheVariants.{Connected, Extra, Default}
 use Rattle.plane_types.specs.declared.table.RouteRow.{RouteRow}
 use Rattle.plane_types.specs.declared.table.FloatRow.{FloatRow}
 use Rattle.plane_types.specs.declared.table.LeaseRow.{LeaseRow}
-use Rattle.plane_types.specs.declared.table.Wire.{Wire}
+use Rattle.api_types.specs.declared.wire.Wire.{Wire}
 use Rattle.plane_types.specs.declared.tables.HostTables.{HostTables}
 use Rattle.json_replies.specs.Printed.{fields, list, or_null}
-use Rattle.json_replies.specs.Frames.{id_tree, address_tree, mac_tree, prefix_tree, direction_tree}
+use Rattle.json_replies.specs.Frames.{id_tree, address_tree, four_tree, mac_tree, prefix_tree, direction_tree}
 use Rattle.json_replies.specs.Verdicts.{hop_tree}
 
 abbrev pub physical_tree : Option Wire → Tree
@@ -96,7 +96,7 @@ router_port_tree row = fields (
 
 abbrev pub router_tree : RouterTable → Tree
 router_tree row = fields (
-    (codes "gateway_address", or_null address_tree row.gateway) ∷ (codes "ports", list (map router_port_tree row.ports))
+    (codes "gateway_address", or_null four_tree row.gateway) ∷ (codes "ports", list (map router_port_tree row.ports))
     ∷ (codes "router", id_tree row.router) ∷ (codes "snat", truth row.snat) ∷ (codes "up", truth row.up) ∷ [])
 
 abbrev pub rank_word : RouteRank → List ℕ
@@ -111,7 +111,7 @@ route_tree row = fields (
 
 abbrev pub float_tree : FloatRow → Tree
 float_tree row = fields (
-    (codes "fixed", address_tree row.fixed) ∷ (codes "floating", address_tree row.floating) ∷ (codes "router", id_tree row.router) ∷ [])
+    (codes "fixed", four_tree row.fixed) ∷ (codes "floating", four_tree row.floating) ∷ (codes "router", id_tree row.router) ∷ [])
 
 abbrev pub lease_row_tree : LeaseRow → Tree
 lease_row_tree row = fields (

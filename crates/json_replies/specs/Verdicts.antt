@@ -1,6 +1,6 @@
 -- What becomes of a frame, as it is printed.
 use Rattle.std.specs.Prelude.{ℕ, List, [], ◌∷◌, map, codes}
-use Rattle.net_addr.specs.Spelling.{address_text, mac_text}
+use Rattle.net_addr.specs.Spelling.{addr_text, mac_text}
 use Rattle.api_types.specs.Printed.{Tree, null, number, word}
 use Rattle.api_types.specs.declared.subnet.Hop.{Hop}
 use Rattle.plane_types.specs.declared.ask.Heard.{Heard}
@@ -9,7 +9,7 @@ use Rattle.plane_types.specs.declared.verdict.AskAnswer.{AskAnswer}
 use Rattle.plane_types.specs.declared.verdict.AskAnswer.TheVariants.{Arp, Lease as Leased}
 use Rattle.plane_types.specs.declared.verdict.DropCause.{DropCause}
 use Rattle.plane_types.specs.declared.verdict.DropCause.TheVariants.{Dead, Unsupported, Spoof, Egress, Ingress, Unknown, NoHolder, NoLease, RouterDown, Expired, NoRoute, TranslationFull}
-use Rattle.plane_types.specs.declared.verdict.Lease.{Lease}
+use Rattle.api_types.specs.declared.lease.Lease.{Lease}
 use Rattle.plane_types.specs.declared.verdict.Outcome.{Outcome}
 use Rattle.plane_types.specs.declared.verdict.Outcome.TheVariants.{Delivered, Answered, Absorbed, Out, Dropped}
 use Rattle.plane_types.specs.declared.verdict.Toward.{Toward}
@@ -50,7 +50,7 @@ cause_word TranslationFull = codes "TranslationFull"
 
 abbrev pub toward_text : Toward → List ℕ
 toward_text (Mac mac) = mac_text mac
-toward_text (Address address) = address_text address
+toward_text (Address address) = addr_text address
 toward_text Dhcp = codes "dhcp"
 
 abbrev pub outcome_tree : Outcome → Tree

@@ -4,7 +4,7 @@ ghost use Rattle.serde_json.specs.Data.{no_members};
 ghost use Rattle.api_types.specs.Printed.{number, word};
 ghost use Rattle.serde_json.specs.View.{members_view};
 ghost use Rattle.json_replies.specs.Printed.{members_data, tree_data};
-ghost use Rattle.json_replies.specs.Frames.{part_members, frame_tree, mac_tree, address_tree, kind_members, key_tree, entry_tree};
+ghost use Rattle.json_replies.specs.Frames.{part_members, frame_tree, mac_tree, four_tree, kind_members, key_tree, entry_tree};
 
 use crate::printed::Prints;
 use net_addr::{Addr4, Mac, OutOfMemory};
@@ -72,8 +72,8 @@ fn packet(
     to: Addr4,
     ttl: u8,
 ) -> Result<Map<String, Value>, OutOfMemory>
-    ensures { IfOk result (λ m. members_view m.entries ≡ members_data ((codes "dst", mac_tree dst) ∷ (codes "from", address_tree from) ∷ (codes "kind", word (codes "ip4"))
-        ∷ (codes "src", mac_tree src) ∷ (codes "to", address_tree to) ∷ (codes "ttl", number ttl) ∷ []) no_members) }
+    ensures { IfOk result (λ m. members_view m.entries ≡ members_data ((codes "dst", mac_tree dst) ∷ (codes "from", four_tree from) ∷ (codes "kind", word (codes "ip4"))
+        ∷ (codes "src", mac_tree src) ∷ (codes "to", four_tree to) ∷ (codes "ttl", number ttl) ∷ []) no_members) }
 {
     let mut map = Map::new(alloc);
     put(&mut map, alloc, "dst", &dst)?;

@@ -6,11 +6,11 @@ ghost use Rattle.json_replies.specs.Tables.{physical_tree, number_tree, tag_row_
 
 use crate::frame::put;
 use crate::printed::Prints;
-use api_types::Pair;
+use api_types::{Pair, RouteRank, Wire};
 use net_addr::{OutOfMemory, Text};
 use plane_types::{
     BridgeKey, BridgeRow, BridgeTo, Carrier, FilterRow, FloatRow, HostTables, InwardRow, LeaseRow,
-    NeighbourRow, RouteRank, RouteRow, RouterPort, RouterTable, SetRow, TagRow, TapRow, Wire,
+    NeighbourRow, RouteRow, RouterPort, RouterTable, SetRow, TagRow, TapRow,
 };
 use serde_json::{Map, Value};
 use std::alloc::Global;

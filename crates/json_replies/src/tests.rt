@@ -1,10 +1,9 @@
 use super::*;
-use api_types::{Answer, Direction, Id, Kind, Members, Printed, Refusal, Shown};
-use net_addr::{Addr4, Mac, OutOfMemory, Seq, Text};
+use api_types::{Answer, Direction, Id, Kind, Lease, Members, Printed, Refusal, Shown};
+use net_addr::{Addr, Addr4, Mac, OutOfMemory, Seq, Text};
 use plane_types::{
     AskAnswer, BridgeKey, BridgeRow, BridgeTo, DropCause, Entry, Frame, Heard, HostState,
-    HostTables, Key, KeyKind, KeyPart, LabAnswer, Lease, Made, Outcome, Reply, Toward, TrailItem,
-    Verdict,
+    HostTables, Key, KeyKind, KeyPart, LabAnswer, Made, Outcome, Reply, Toward, TrailItem, Verdict,
 };
 use std::alloc::Global;
 use std::test::Fail;
@@ -208,7 +207,7 @@ fn translated(rt: HostRuntime) -> Result<(), Fail> {
         dport: 80,
     };
     let frame = packet(Mac(0xfa16_3e00_0000), Mac(0), outer, key.to, 40000, 80, 63);
-    let toward = Toward::Address(Addr4(0xcb00_7101));
+    let toward = Toward::Address(Addr::V4(Addr4(0xcb00_7101)));
     let network = Id::make(2, 6);
     let mut seen = verdict(
         alloc,
@@ -238,9 +237,9 @@ fn translated(rt: HostRuntime) -> Result<(), Fail> {
 fn answered(rt: HostRuntime) -> Result<(), Fail> {
     let alloc = rt.alloc();
     let lease = Lease {
-        address: Addr4(0x0a00_0004),
+        address: Addr::V4(Addr4(0x0a00_0004)),
         length: 24,
-        gateway: Some(Addr4(0x0a00_0001)),
+        gateway: Some(Addr::V4(Addr4(0x0a00_0001))),
         name_servers: Seq::new(alloc),
         host_routes: Seq::new(alloc),
     };
@@ -251,7 +250,7 @@ fn answered(rt: HostRuntime) -> Result<(), Fail> {
     let found = verdict(
         alloc,
         Outcome::Answered(AskAnswer::Arp {
-            address: Addr4(0x0a00_0001),
+            address: Addr::V4(Addr4(0x0a00_0001)),
             mac: Mac(0xfa16_3e00_0001),
         }),
     );

@@ -4,9 +4,9 @@ ghost use Rattle.json_replies.specs.Verdicts.{hop_tree, lease_tree, ask_answer_t
 
 use crate::frame::put;
 use crate::printed::Prints;
-use api_types::Hop;
+use api_types::{Hop, Lease};
 use net_addr::{OutOfMemory, Text};
-use plane_types::{AskAnswer, DropCause, Heard, Lease, Made, Outcome, Toward, TrailItem, Verdict};
+use plane_types::{AskAnswer, DropCause, Heard, Made, Outcome, Toward, TrailItem, Verdict};
 use serde_json::{Map, Value};
 use std::alloc::Global;
 

@@ -1,11 +1,11 @@
 //! Truth values, numbers, texts, ids and addresses as JSON.
 ghost use Rattle.std.specs.Prelude.{◌≡◌, IfOk};
 ghost use Rattle.api_types.specs.Printed.{truth, number, word};
-ghost use Rattle.json_replies.specs.Frames.{id_tree, address_tree, mac_tree, prefix_tree, direction_tree};
+ghost use Rattle.json_replies.specs.Frames.{id_tree, address_tree, four_tree, mac_tree, prefix_tree, direction_tree};
 
 use crate::printed::Prints;
 use api_types::{Direction, Id};
-use net_addr::{Addr4, Mac, OutOfMemory, Prefix4, Text};
+use net_addr::{Addr, Addr4, Mac, OutOfMemory, Prefix, Text};
 use serde_json::Value;
 use std::alloc::Global;
 
@@ -73,8 +73,16 @@ impl Prints for Id {
     }
 }
 
-impl Prints for Addr4 {
+impl Prints for Addr {
     ghost tree = { address_tree };
+
+    fn value(&self, alloc: Global) -> Result<Value, OutOfMemory> {
+        self.print(alloc)?.value(alloc)
+    }
+}
+
+impl Prints for Addr4 {
+    ghost tree = { four_tree };
 
     fn value(&self, alloc: Global) -> Result<Value, OutOfMemory> {
         self.print(alloc)?.value(alloc)
@@ -89,7 +97,7 @@ impl Prints for Mac {
     }
 }
 
-impl Prints for Prefix4 {
+impl Prints for Prefix {
     ghost tree = { prefix_tree };
 
     fn value(&self, alloc: Global) -> Result<Value, OutOfMemory> {

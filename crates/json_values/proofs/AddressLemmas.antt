@@ -1,17 +1,16 @@
 -- Texts of addresses, MACs, prefixes and numbers, read.
-use Rattle.std.proofs.Common.{◌≡◌, ℕ, ◌+◌, ◌*◌, ◌/◌, ◌%◌, ◌^◌, ◌<◌, ◌≤◌, Bool, true, false, List, [], ◌∷◌, ◌++◌, map, Option, Some, None, is_some, codes, refl, sym, ap, ◌∙◌, subst, arith, append_assoc}
+use Rattle.std.proofs.Common.{◌≡◌, ℕ, ◌+◌, ◌*◌, ◌/◌, ◌%◌, ◌^◌, ◌<◌, ◌≤◌, Bool, true, false, List, [], ◌∷◌, ◌++◌, map, Some, None, codes, refl, sym, ap, ◌∙◌, subst, arith, append_assoc}
 use Rattle.std.proofs.lemmas.Bool.Decides.{nat_tests}
 use Rattle.std.proofs.lemmas.Fmt.{decimal_injective}
 use Rattle.std.proofs.lemmas.Slice.Eq.{bytes_eq-Decides}
 use Rattle.std.specs.Char.{digit_value, to_ascii_lowercase}
 use Rattle.std.specs.Fmt.{decimal, digit_glyph}
 use Rattle.std.specs.Str.{bytes_eq}
-use Rattle.net_addr.proofs.PrintLemmas.{address_spelled, prefix_spelled}
+use Rattle.net_addr.proofs.PrintLemmas.{address_spelled}
 use Rattle.net_addr.proofs.SpellingLemmas.{append_none}
-use Rattle.net_addr.specs.Prefixes.{Written}
-use Rattle.net_addr.specs.Spelling.{Spells, SpellsAddress, SpellsMac, SpellsCidr, IsAddressText, IsMacText, IsCidrText, address_text, mac_text, pair_text}
+use Rattle.net_addr.specs.Spelling.{Spells, SpellsAddress, SpellsMac, IsAddressText, IsMacText, address_text, mac_text, pair_text}
 use Rattle.json_values.proofs.SoughtLemmas.{passes, found, nothing}
-use Rattle.json_values.specs.Texts.{number_with, number_in, address_in, mac_in, address_before, written, written_in}
+use Rattle.json_values.specs.Numbers.{number_in, four_in, mac_in}
 
 -- ---- addresses
 
@@ -48,24 +47,29 @@ address_text_of text n h =
 has_text : (text : List ℕ) → ℕ → Bool
 has_text text n = bytes_eq (address_text n) text
 
-is_text : (xs ys : List ℕ) → xs ≡ ys → bytes_eq xs ys ≡ true
+pub is_text : (xs ys : List ℕ) → xs ≡ ys → bytes_eq xs ys ≡ true
 is_text xs ys e = (bytes_eq-Decides xs ys).1 e
 
-same_text : (xs ys : List ℕ) → bytes_eq xs ys ≡ true → xs ≡ ys
+pub same_text : (xs ys : List ℕ) → bytes_eq xs ys ≡ true → xs ≡ ys
 same_text xs ys e = (bytes_eq-Decides xs ys).0 e
 
 spelled : (text : List ℕ) (m : ℕ) → m < 2 ^ 32 → bytes_eq (address_text m) text ≡ true → SpellsAddress text m
 spelled text m less e = subst (λ (t : List ℕ). SpellsAddress t m) (same_text (address_text m) text e) (address_spelled m less)
 
-pub address_read : (text : List ℕ) (n : ℕ) → SpellsAddress text n → ((m : ℕ) → SpellsAddress text m → m ≡ n) → Some n ≡ address_in text
-unfolding address_in
-address_read text n h only =
+pub four_read : (text : List ℕ) (n : ℕ) → SpellsAddress text n → ((m : ℕ) → SpellsAddress text m → m ≡ n) → Some n ≡ four_in text
+unfolding four_in
+four_read text n h only =
     let p = address_text_of text n h in
     sym (found (λ m. bytes_eq (address_text m) text) (2 ^ 32) n p.0 (is_text (address_text n) text p.1) (λ m less passed. only m (spelled text m less passed)))
 
-pub no_address : (text : List ℕ) → (IsAddressText text → ⊥) → None ≡ address_in text
-unfolding address_in
-no_address text none = sym (nothing (λ m. bytes_eq (address_text m) text) (2 ^ 32) (λ m less passed. none (m, spelled text m less passed)))
+-- what is read is spelled
+pub four_spelled : (text : List ℕ) (n : ℕ) → four_in text ≡ Some n → SpellsAddress text n
+unfolding four_in
+four_spelled text n e = let p = passes (λ m. bytes_eq (address_text m) text) (2 ^ 32) n e in spelled text n p.0 p.1
+
+pub no_four : (text : List ℕ) → (IsAddressText text → ⊥) → None ≡ four_in text
+unfolding four_in
+no_four text none = sym (nothing (λ m. bytes_eq (address_text m) text) (2 ^ 32) (λ m less passed. none (m, spelled text m less passed)))
 
 -- ---- MACs
 
@@ -259,51 +263,6 @@ pub no_mac : (text : List ℕ) → (IsMacText text → ⊥) → None ≡ mac_in 
 unfolding mac_in
 no_mac text none = sym (nothing (λ m. bytes_eq (mac_text m) (map to_ascii_lowercase text)) (2 ^ 48) (λ m less passed. none (m, mac_spelled_by text m less passed)))
 
--- ---- prefixes
-
-cidr_spelled : (len : ℕ) (text : List ℕ) (m : ℕ) → len < 33 → m < 2 ^ 32 → bytes_eq (address_text m ++ codes "/" ++ decimal len) text ≡ true → SpellsCidr text (written len m)
-cidr_spelled len text m small less e =
-    prefix_spelled text (address_text m) m len (sym (same_text (address_text m ++ codes "/" ++ decimal len) text e)) (address_spelled m less) (omega arith)
-
-before_spelled : (len : ℕ) (text : List ℕ) (m : ℕ) → len < 33 → address_before len text ≡ Some m → SpellsCidr text (written len m)
-unfolding address_before
-before_spelled len text m small e =
-    let p = passes (λ n. bytes_eq (address_text n ++ codes "/" ++ decimal len) text) (2 ^ 32) m e in cidr_spelled len text m small p.0 p.1
-
-some_spelled : (len : ℕ) (text : List ℕ) → len < 33 → is_some (address_before len text) ≡ true → (m : ℕ) × SpellsCidr text (written len m)
-some_spelled len text small e = by (address_before len text) refl e
-  where
-    by : (o : Option ℕ) → address_before len text ≡ o → is_some o ≡ true → (m : ℕ) × SpellsCidr text (written len m)
-    by None is e = absurd cc
-    by (Some m) is e = (m, before_spelled len text m small is)
-
-before_read : (text : List ℕ) (w : Written) → SpellsCidr text w → ((v : Written) → SpellsCidr text v → v ≡ w) → (w.len < 33) × (address_before w.len text ≡ Some w.addr)
-unfolding SpellsCidr address_before
-before_read text w h only =
-    let p = address_text_of h.0 w.addr h.1 in
-    let small : w.len < 33 = omega (arith, h.2) in
-    let whole : address_text w.addr ++ codes "/" ++ decimal w.len ≡ text = ap (λ (t : List ℕ). t ++ codes "/" ++ decimal w.len) p.1 ∙ sym h.3 in (
-      small,
-      found (λ n. bytes_eq (address_text n ++ codes "/" ++ decimal w.len) text) (2 ^ 32) w.addr p.0 (is_text _ text whole)
-          (λ m less passed. ap (λ (v : Written). v.addr) (only (written w.len m) (cidr_spelled w.len text m small less passed))),
-    )
-
-pub cidr_read : (text : List ℕ) (w : Written) → SpellsCidr text w → ((v : Written) → SpellsCidr text v → v ≡ w) → Some w ≡ written_in text
-unfolding written_in
-cidr_read text w h only =
-    let p = before_read text w h only in
-    let length : number_with (λ len. is_some (address_before len text)) 33 ≡ Some w.len =
-    found (λ len. is_some (address_before len text)) 33 w.len p.0 (ap is_some p.1)
-    (λ len small passed. let s = some_spelled len text small passed in ap (λ (v : Written). v.len) (only (written len s.0) s.1)) in
-    rw (length, p.1) refl
-
-pub no_cidr : (text : List ℕ) → (IsCidrText text → ⊥) → None ≡ written_in text
-unfolding written_in
-no_cidr text none =
-    let length : number_with (λ len. is_some (address_before len text)) 33 ≡ None =
-    nothing (λ len. is_some (address_before len text)) 33 (λ len small passed. let s = some_spelled len text small passed in none (written len s.0, s.1)) in
-    rw length refl
-
 -- ---- numbers
 
 pub number_read : (bound : ℕ) (text : List ℕ) (n : ℕ) → bound < 2 ^ 64 → n < bound → decimal n ≡ text → Some n ≡ number_in bound text
@@ -315,3 +274,8 @@ number_read bound text n small less e =
 pub no_number : (bound : ℕ) (text : List ℕ) → ((n : ℕ) → n < bound → decimal n ≡ text → ⊥) → None ≡ number_in bound text
 unfolding number_in
 no_number bound text none = sym (nothing (λ m. bytes_eq (decimal m) text) bound (λ m less passed. none m less (same_text (decimal m) text passed)))
+
+-- the number that a text writes, and that it writes it
+pub number_is : (bound : ℕ) (text : List ℕ) (n : ℕ) → number_in bound text ≡ Some n → (n < bound) × (decimal n ≡ text)
+unfolding number_in
+number_is bound text n e = let p = passes (λ m. bytes_eq (decimal m) text) bound n e in (p.0, same_text (decimal n) text p.1)

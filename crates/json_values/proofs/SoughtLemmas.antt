@@ -1,7 +1,7 @@
 -- The one number below a bound that passes a test.
 use Rattle.std.proofs.Common.{◌≡◌, ℕ, zero, suc, ◌<◌, Bool, true, false, Option, Some, None, below_more, refl, sym, ap, ◌∙◌, arith}
 use Rattle.std.specs.Prelude.{if◌then◌else◌}
-use Rattle.json_values.specs.Texts.{number_with}
+use Rattle.json_values.specs.Numbers.{number_with}
 
 passes_by : (test : ℕ → Bool) (k m : ℕ) (b : Bool) (found : Option ℕ) → test k ≡ b → (found ≡ Some m → (m < k) × (test m ≡ true)) → (if b then Some k else found) ≡ Some m
     → (m < suc k) × (test m ≡ true)

@@ -2,11 +2,11 @@
 use Rattle.std.specs.Prelude.{◌||◌, Bool, is_some}
 use Rattle.serde_json.specs.Data.{Data}
 use Rattle.serde_json.specs.Find.{as_bool}
-use Rattle.json_values.specs.Items.{id_of, address_of, card_of, prefix_said, gateway_of}
+use Rattle.json_values.specs.Items.{id_of, four_of, address_of, card_of, prefix_said, gateway_of}
 use Rattle.json_values.specs.Frames.{frame_of}
-use Rattle.json_values.specs.Grammars.{short_text, group_name, device_owner, project_name, target_name, network_type_of, segment_number, ip_version, subnet_prefix, pools, name_servers, host_routes, router_routes, fixed_addresses, address_pairs, group_ids, vnic_type_of, direction_of, ethertype_of, protocol_of, port_number, object_type_of, action_of, wire_tag, change_number, is_empty_object}
+use Rattle.json_values.specs.Grammars.{short_text, group_name, device_owner, project_name, target_name, network_type_of, segment_number, ip_version, mode_of, subnet_prefix, pools, name_servers, host_routes, router_routes, fixed_addresses, address_pairs, group_ids, vnic_type_of, direction_of, ethertype_of, protocol_of, port_number, object_type_of, action_of, wire_tag, change_number, is_empty_object}
 use Rattle.json_values.specs.declared.allowed.GrammarName.{GrammarName}
-use Rattle.json_values.specs.declared.allowed.GrammarName.TheVariants.{ShortText, GroupName, DeviceOwner, ProjectName, TargetName, Flag, RowId, NetworkKind, SegmentNumber, SubnetVersion, SubnetPrefix, AnyAddress, AllocationPools, NameServers, HostRoutes, RouterRoutes, CardMac, FixedAddresses, AddressPairs, GroupIds, VirtualCard, RuleDirection, EtherVersion, ProtocolNumber, PortNumber, RemotePrefix, GatewayInfo, PolicyObject, PermittedAction, WireTag, ChangeNumber, EventFrame}
+use Rattle.json_values.specs.declared.allowed.GrammarName.TheVariants.{ShortText, GroupName, DeviceOwner, ProjectName, TargetName, Flag, RowId, NetworkKind, SegmentNumber, SubnetVersion, AddressMode, SubnetPrefix, AnyAddress, FourAddress, AllocationPools, NameServers, HostRoutes, RouterRoutes, CardMac, FixedAddresses, AddressPairs, GroupIds, VirtualCard, RuleDirection, EtherVersion, ProtocolNumber, PortNumber, RemotePrefix, GatewayInfo, PolicyObject, PermittedAction, WireTag, ChangeNumber, EventFrame}
 
 -- the grammar reads the value; an object without members stands for no gateway
 abbrev pub allows : GrammarName → Data → Bool
@@ -20,8 +20,10 @@ allows RowId d = is_some (id_of d)
 allows NetworkKind d = is_some (network_type_of d)
 allows SegmentNumber d = is_some (segment_number d)
 allows SubnetVersion d = is_some (ip_version d)
+allows AddressMode d = is_some (mode_of d)
 allows SubnetPrefix d = is_some (subnet_prefix d)
 allows AnyAddress d = is_some (address_of d)
+allows FourAddress d = is_some (four_of d)
 allows AllocationPools d = is_some (pools d)
 allows NameServers d = is_some (name_servers d)
 allows HostRoutes d = is_some (host_routes d)

@@ -6,7 +6,7 @@ use Rattle.plane_types.specs.declared.frame.Frame.TheVariants.{Ip4, ArpAsk, Dhcp
 use Rattle.plane_types.specs.declared.frame.KeyPart.{KeyPart}
 use Rattle.plane_types.specs.declared.frame.KeyPart.TheVariants.{Tcp, Udp, EchoAsk, EchoReply, Proto}
 use Rattle.json_values.specs.Values.{kept, applied, whole_of, word_of, object_of, member_of}
-use Rattle.json_values.specs.Items.{address_of, mac_of}
+use Rattle.json_values.specs.Items.{four_of, mac_of}
 use Rattle.json_values.specs.declared.frame.FrameKind.{FrameKind}
 use Rattle.json_values.specs.declared.frame.FrameKind.TheVariants as kind
 use Rattle.json_values.specs.declared.frame.Carried.{Carried}
@@ -61,8 +61,8 @@ packet src dst from to ttl part = Ip4 src dst from to ttl part
 abbrev pub packet_with : Carried → Data → Option Frame
 packet_with carries = object_of (packet_names ++ part_names carries) (λ d.
     applied (applied (applied (applied (applied (option_map packet
-    (member_of mac_of (codes "src") d)) (member_of mac_of (codes "dst") d)) (member_of address_of (codes "from") d))
-    (member_of address_of (codes "to") d)) (member_of eight_bits (codes "ttl") d)) (part_of carries d))
+    (member_of mac_of (codes "src") d)) (member_of mac_of (codes "dst") d)) (member_of four_of (codes "from") d))
+    (member_of four_of (codes "to") d)) (member_of eight_bits (codes "ttl") d)) (part_of carries d))
 
 abbrev pub packet_of : Data → Option Frame
 packet_of d = option_and_then (λ carries. packet_with carries d) (member_of carried_of (codes "proto") d)
@@ -72,14 +72,14 @@ arp_ask src from to = ArpAsk src from to
 
 abbrev pub arp_of : Data → Option Frame
 arp_of = object_of (codes "kind" ∷ codes "src" ∷ codes "from" ∷ codes "to" ∷ []) (λ d.
-    applied (applied (option_map arp_ask (member_of mac_of (codes "src") d)) (member_of address_of (codes "from") d)) (member_of address_of (codes "to") d))
+    applied (applied (option_map arp_ask (member_of mac_of (codes "src") d)) (member_of four_of (codes "from") d)) (member_of four_of (codes "to") d))
 
 abbrev pub dhcp_ask : ℕ → ℕ → Frame
 dhcp_ask src from = Dhcp src from
 
 abbrev pub dhcp_of : Data → Option Frame
 dhcp_of = object_of (codes "kind" ∷ codes "src" ∷ codes "from" ∷ []) (λ d.
-    applied (option_map dhcp_ask (member_of mac_of (codes "src") d)) (member_of address_of (codes "from") d))
+    applied (option_map dhcp_ask (member_of mac_of (codes "src") d)) (member_of four_of (codes "from") d))
 
 abbrev pub other_frame : ℕ → ℕ → ℕ → Frame
 other_frame src dst ethertype = Other src dst ethertype

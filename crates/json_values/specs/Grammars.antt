@@ -1,5 +1,5 @@
 -- The grammar of each attribute (OpenStack API reference, Networking API v2.0): what its value says by itself. None is said by a value that isn't allowed.
-use Rattle.std.specs.Prelude.{ℕ, ◌^◌, ◌-◌, ◌==◌, ◌&&◌, ◌||◌, not, Bool, false, nat_le, nat_eq, List, [], ◌∷◌, length, Option, Some, None, option_map, codes}
+use Rattle.std.specs.Prelude.{ℕ, ◌^◌, ◌-◌, ◌==◌, ◌&&◌, ◌||◌, not, Bool, false, nat_le, nat_eq, List, [], ◌∷◌, length, if◌then◌else◌, Option, Some, None, option_and_then, codes}
 use Rattle.std.specs.Char.{is_ascii_alphanumeric}
 use Rattle.std.specs.List.{list_all, starts_with}
 use Rattle.std.specs.Str.{bytes_eq, chars, str_to_ascii_lowercase}
@@ -8,10 +8,12 @@ use Rattle.serde_json.specs.Events.{members_len}
 use Rattle.serde_json.specs.Find.{as_str, as_object}
 use Rattle.net_addr.specs.Prefixes.{Prefix, Span}
 use Rattle.net_addr.specs.Spans.{are_apart}
+use Rattle.net_addr.specs.declared.address.Addr.{Addr}
+use Rattle.api_types.specs.Consistent.InForm.{longest_of}
 use Rattle.api_types.specs.Ident.{Ident}
 use Rattle.api_types.specs.declared.form.FixedAsked.{FixedAsked}
 use Rattle.api_types.specs.declared.form.IpVersion.{IpVersion}
-use Rattle.api_types.specs.declared.form.IpVersion.TheVariants.{V4}
+use Rattle.api_types.specs.declared.form.IpVersion.TheVariants.{V4, V6}
 use Rattle.api_types.specs.declared.form.NetworkType.{NetworkType}
 use Rattle.api_types.specs.declared.form.NetworkType.TheVariants.{Local, Flat, Vlan, Vxlan}
 use Rattle.api_types.specs.declared.form.ObjectType.{ObjectType}
@@ -26,7 +28,10 @@ use Rattle.api_types.specs.declared.group.Ethertype.TheVariants.{Ipv4, Ipv6}
 use Rattle.api_types.specs.declared.policy.Action.{Action}
 use Rattle.api_types.specs.declared.policy.Action.TheVariants.{Shared, External}
 use Rattle.api_types.specs.declared.subnet.Hop.{Hop}
-use Rattle.json_values.specs.Texts.{number_in}
+use Rattle.api_types.specs.declared.subnet.Ipv6Mode.{Ipv6Mode}
+use Rattle.api_types.specs.declared.subnet.Ipv6Mode.TheVariants.{Slaac, Stateful, Stateless}
+use Rattle.json_values.specs.Numbers.{number_in}
+use Rattle.json_values.specs.Six.{or_else}
 use Rattle.json_values.specs.Values.{kept, whole_of, said_by, word_in, word_of, list_of, pairwise}
 use Rattle.json_values.specs.Items.{id_of, address_of, exact_of, span_of, hop_of, fixed_of, pair_of, other_id, other_hop}
 
@@ -76,13 +81,20 @@ network_type_of = word_of ((codes "local", Local) ∷ (codes "flat", Flat) ∷ (
 abbrev pub segment_number : Data → Option ℕ
 segment_number = whole_of 1 16777215
 
+abbrev pub version_of : ℕ → Option IpVersion
+version_of n = if n == 4 then Some V4 else if n == 6 then Some V6 else None
+
 abbrev pub ip_version : Data → Option IpVersion
-ip_version d = option_map (λ n. V4) (whole_of 4 4 d)
+ip_version d = option_and_then version_of (whole_of 4 6 d)
+
+-- how the ports of a subnet of version 6 come by their addresses, and what its router tells of that
+abbrev pub mode_of : Data → Option Ipv6Mode
+mode_of = word_of ((codes "slaac", Slaac) ∷ (codes "dhcpv6-stateful", Stateful) ∷ (codes "dhcpv6-stateless", Stateless) ∷ [])
 
 abbrev pub is_subnet_prefix : Prefix → Bool
-is_subnet_prefix p = nat_le 1 p.len && nat_le p.len 30
+is_subnet_prefix p = nat_le 1 p.len && nat_le p.len (longest_of p.base)
 
--- an exact prefix of length 1 to 30
+-- an exact prefix of length 1 to 30, or of version 6 to 126
 abbrev pub subnet_prefix : Data → Option Prefix
 subnet_prefix d = kept is_subnet_prefix (exact_of d)
 
@@ -93,7 +105,7 @@ are_pools spans = nat_le 1 (length spans) && pairwise are_apart spans
 abbrev pub pools : Data → Option (List Span)
 pools d = kept are_pools (list_of 20 span_of d)
 
-abbrev pub name_servers : Data → Option (List ℕ)
+abbrev pub name_servers : Data → Option (List Addr)
 name_servers = list_of 5 address_of
 
 abbrev pub host_routes : Data → Option (List Hop)
@@ -129,11 +141,7 @@ ethertype_of = said_by ethertype_in
 -- protocols by their names (IANA)
 abbrev pub named_protocol : List ℕ → Option ℕ
 named_protocol = word_in ((codes "icmp", 1) ∷ (codes "igmp", 2) ∷ (codes "tcp", 6) ∷ (codes "udp", 17) ∷ (codes "gre", 47)
-    ∷ (codes "esp", 50) ∷ (codes "ah", 51) ∷ (codes "ospf", 89) ∷ (codes "vrrp", 112) ∷ (codes "sctp", 132) ∷ [])
-
-abbrev pub or_else : {T : Type 0} → Option T → Option T → Option T
-or_else None other = other
-or_else (Some x) other = Some x
+    ∷ (codes "esp", 50) ∷ (codes "ah", 51) ∷ (codes "ipv6-icmp", 58) ∷ (codes "icmpv6", 58) ∷ (codes "ospf", 89) ∷ (codes "vrrp", 112) ∷ (codes "sctp", 132) ∷ [])
 
 -- a name, or a number's text
 abbrev pub protocol_in : List ℕ → Option ℕ

@@ -1,3 +1,5 @@
+pub mod Numbers
+pub mod Six
 pub mod Texts
 pub mod Values
 pub mod Items

@@ -1,46 +1,34 @@
--- What a text says where an address, a MAC, a prefix, a number or an id is expected. None is said by a text that spells none.
-use Rattle.std.specs.Prelude.{ℕ, zero, suc, ◌/◌, ◌%◌, ◌^◌, ◌&&◌, Bool, nat_le, nat_lt, List, ◌++◌, if◌then◌else◌, Option, Some, None, is_some, option_map, option_and_then, codes, decimal}
+-- What a text says where an address, a prefix or an id is expected. None is said by a text that spells none.
+use Rattle.std.specs.Prelude.{ℕ, ◌+◌, ◌/◌, ◌%◌, ◌^◌, ◌==◌, ◌&&◌, Bool, nat_le, nat_lt, List, if◌then◌else◌, Option, Some, None, option_map, option_and_then}
 use Rattle.std.specs.Int.{w128, from_be_bytes}
-use Rattle.std.specs.Str.{bytes_eq, str_to_ascii_lowercase}
+use Rattle.std.specs.List.{after_first, before_first}
+use Rattle.std.specs.Str.{bytes_eq}
 use Rattle.uuid.specs.Text.{parsed_hyphenated}
+use Rattle.net_addr.specs.Addresses.{width}
+use Rattle.net_addr.specs.Ordered.{whole_prefix}
 use Rattle.net_addr.specs.Prefixes.{Written, Prefix, prefix_of}
-use Rattle.net_addr.specs.Spelling.{address_text, mac_text}
+use Rattle.net_addr.specs.declared.address.Addr.{Addr}
+use Rattle.net_addr.specs.declared.address.Addr.TheVariants.{V4, V6}
 use Rattle.api_types.specs.Ident.{Ident, uuid_bytes}
+use Rattle.json_values.specs.Numbers.{number_in, four_in}
+use Rattle.json_values.specs.Six.{or_else, six_in}
 
--- the number below a bound that passes a test, where one does
-unfoldable pub number_with : (ℕ → Bool) → ℕ → Option ℕ
-number_with test zero = None
-number_with test (suc n) = if test n then Some n else number_with test n
+-- the address of either version that the text spells; no text spells one of both
+abbrev pub address_in : List ℕ → Option Addr
+address_in text = or_else (option_map V4 (four_in text)) (option_map V6 (six_in text))
 
--- the number below a bound that the text writes in decimal, without leading zeros
-unfoldable pub number_in : ℕ → List ℕ → Option ℕ
-number_in bound text = number_with (λ n. bytes_eq (decimal n) text) bound
+abbrev pub is_slash : ℕ → Bool
+is_slash b = b == 47
 
--- the address that has this text (RFC 3986, 3.2.2, IPv4address)
-unfoldable pub address_in : List ℕ → Option ℕ
-address_in text = number_with (λ n. bytes_eq (address_text n) text) (2 ^ 32)
+abbrev pub written : Addr → ℕ → Written
+written addr len = record { addr = addr; len = len }
 
--- the MAC that has this text in lower case (IEEE 802)
-unfoldable pub mac_in : List ℕ → Option ℕ
-mac_in text = number_with (λ n. bytes_eq (mac_text n) (str_to_ascii_lowercase text)) (2 ^ 48)
-
--- the address that has this text with `/` and the length behind it
-unfoldable pub address_before : ℕ → List ℕ → Option ℕ
-address_before len text = number_with (λ n. bytes_eq (address_text n ++ codes "/" ++ decimal len) text) (2 ^ 32)
-
-abbrev pub written : ℕ → ℕ → Written
-written len addr = record { addr = addr; len = len }
-
--- the address and the length, to 32, that have this text (RFC 4632, 3.1)
+-- the address before the first slash, and behind it the length, to 32 or 128 (RFC 4632, 3.1; RFC 4291, 2.3)
 unfoldable pub written_in : List ℕ → Option Written
-written_in text = option_and_then (λ len. option_map (written len) (address_before len text)) (number_with (λ len. is_some (address_before len text)) 33)
+written_in text = option_and_then (λ addr. option_map (written addr) (number_in (width addr + 1) (after_first is_slash text))) (address_in (before_first is_slash text))
 
--- an address as the prefix of that address alone
-abbrev pub single : ℕ → Prefix
-single address = record { base = address; len = 32 }
-
-abbrev pub prefix_by : Option ℕ → Option Written → Option Prefix
-prefix_by (Some address) w = Some (single address)
+abbrev pub prefix_by : Option Addr → Option Written → Option Prefix
+prefix_by (Some address) w = Some (whole_prefix address)
 prefix_by None w = option_map prefix_of w
 
 -- an address, or an address with a length, of which the bits behind the length are cleared

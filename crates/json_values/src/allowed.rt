@@ -4,11 +4,11 @@ ghost use Rattle.serde_json.specs.View.{view};
 ghost use Rattle.json_values.specs.Allowed.{allows};
 
 use crate::grammar::{
-    AddressPairs, AllocationPools, AnyAddress, CardMac, ChangeNumber, DeviceOwner, EtherVersion,
-    EventFrame, FixedAddresses, Flag, GatewayInfo, Grammar, GroupIds, GroupName, HostRoutes,
-    NameServers, NetworkKind, PermittedAction, PolicyObject, PortNumber, ProjectName,
-    ProtocolNumber, RemotePrefix, RouterRoutes, RowId, RuleDirection, SegmentNumber, ShortText,
-    SubnetPrefix, SubnetVersion, TargetName, VirtualCard, WireTag,
+    AddressMode, AddressPairs, AllocationPools, AnyAddress, CardMac, ChangeNumber, DeviceOwner,
+    EtherVersion, EventFrame, FixedAddresses, Flag, FourAddress, GatewayInfo, Grammar, GroupIds,
+    GroupName, HostRoutes, NameServers, NetworkKind, PermittedAction, PolicyObject, PortNumber,
+    ProjectName, ProtocolNumber, RemotePrefix, RouterRoutes, RowId, RuleDirection, SegmentNumber,
+    ShortText, SubnetPrefix, SubnetVersion, TargetName, VirtualCard, WireTag,
 };
 use crate::object::is_empty_object;
 use net_addr::OutOfMemory;
@@ -28,8 +28,10 @@ pub enum GrammarName {
     NetworkKind,
     SegmentNumber,
     SubnetVersion,
+    AddressMode,
     SubnetPrefix,
     AnyAddress,
+    FourAddress,
     AllocationPools,
     NameServers,
     HostRoutes,
@@ -75,8 +77,10 @@ pub fn allows(alloc: Global, name: GrammarName, value: &Value) -> Result<bool, O
         GrammarName::NetworkKind => is_read::<NetworkKind>(alloc, value),
         GrammarName::SegmentNumber => is_read::<SegmentNumber>(alloc, value),
         GrammarName::SubnetVersion => is_read::<SubnetVersion>(alloc, value),
+        GrammarName::AddressMode => is_read::<AddressMode>(alloc, value),
         GrammarName::SubnetPrefix => is_read::<SubnetPrefix>(alloc, value),
         GrammarName::AnyAddress => is_read::<AnyAddress>(alloc, value),
+        GrammarName::FourAddress => is_read::<FourAddress>(alloc, value),
         GrammarName::AllocationPools => is_read::<AllocationPools>(alloc, value),
         GrammarName::NameServers => is_read::<NameServers>(alloc, value),
         GrammarName::HostRoutes => is_read::<HostRoutes>(alloc, value),

@@ -4,10 +4,10 @@ ghost use Rattle.serde_json.specs.Find.{as_object};
 ghost use Rattle.serde_json.specs.View.{view};
 ghost use Rattle.json_values.specs.Frames.{sixteen_bits, eight_bits, other_protocol, carried_of, packet_names, part_names, part_of, packet_with, packet_of, arp_of, dhcp_of, other_of, kind_of, frame_by, frame_of};
 ghost use Rattle.json_values.specs.Values.{member_of, is_only};
-ghost use Rattle.json_values.specs.Items.{mac_of, address_of};
+ghost use Rattle.json_values.specs.Items.{mac_of, four_of};
 
 use crate::object::is_object_of;
-use crate::value::{address_of, mac_of, whole_of};
+use crate::value::{four_of, mac_of, whole_of};
 use net_addr::{Addr4, Mac};
 use plane_types::{Frame, KeyPart};
 use serde_json::Value;
@@ -100,10 +100,10 @@ fn mac_at(frame: &Value, name: &str) -> Option<Mac>
     mac_of(frame.get(name)?)
 }
 
-fn address_at(frame: &Value, name: &str) -> Option<Addr4>
-    ensures { result ≡ member_of address_of name.now (view frame.now) }
+fn four_at(frame: &Value, name: &str) -> Option<Addr4>
+    ensures { result ≡ member_of four_of name.now (view frame.now) }
 {
-    address_of(frame.get(name)?)
+    four_of(frame.get(name)?)
 }
 
 fn number_at(frame: &Value, name: &str) -> Option<u16>
@@ -150,8 +150,8 @@ fn packet_with(frame: &Value, carries: Carried) -> Option<Frame>
     }
     let src = mac_at(frame, "src")?;
     let dst = mac_at(frame, "dst")?;
-    let from = address_at(frame, "from")?;
-    let to = address_at(frame, "to")?;
+    let from = four_at(frame, "from")?;
+    let to = four_at(frame, "to")?;
     let ttl = eight_bits(frame.get("ttl")?)?;
     let part = part_of(frame, carries)?;
     Some(Frame::Ip4 {
@@ -178,8 +178,8 @@ fn arp_of(frame: &Value) -> Option<Frame>
         return None;
     }
     let src = mac_at(frame, "src")?;
-    let from = address_at(frame, "from")?;
-    let to = address_at(frame, "to")?;
+    let from = four_at(frame, "from")?;
+    let to = four_at(frame, "to")?;
     Some(Frame::ArpAsk { src, from, to })
 }
 
@@ -190,7 +190,7 @@ fn dhcp_of(frame: &Value) -> Option<Frame>
         return None;
     }
     let src = mac_at(frame, "src")?;
-    let from = address_at(frame, "from")?;
+    let from = four_at(frame, "from")?;
     Some(Frame::Dhcp { src, from })
 }
 

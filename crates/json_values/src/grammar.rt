@@ -2,23 +2,24 @@
 ghost use Rattle.std.specs.Prelude.{◌≡◌, IfOk, option_map};
 ghost use Rattle.serde_json.specs.Find.{as_bool};
 ghost use Rattle.serde_json.specs.View.{view};
-ghost use Rattle.json_values.specs.Items.{id_of, address_of, card_of, prefix_said, gateway_of};
+ghost use Rattle.api_types.specs.Consistent.InForm.{longest_of as longest_length};
+ghost use Rattle.json_values.specs.Items.{id_of, four_of, address_of, card_of, prefix_said, gateway_of};
 ghost use Rattle.json_values.specs.Frames.{frame_of};
-ghost use Rattle.json_values.specs.Grammars.{short_text, group_name, device_owner, project_name, target_name, network_type_of, segment_number, ip_version, subnet_prefix, pools, name_servers, host_routes, router_routes, fixed_addresses, address_pairs, group_ids, vnic_type_of, direction_of, ethertype_of, protocol_of, port_number, object_type_of, action_of, wire_tag, change_number};
+ghost use Rattle.json_values.specs.Grammars.{short_text, group_name, device_owner, project_name, target_name, network_type_of, segment_number, ip_version, mode_of, subnet_prefix, pools, name_servers, host_routes, router_routes, fixed_addresses, address_pairs, group_ids, vnic_type_of, direction_of, ethertype_of, protocol_of, port_number, object_type_of, action_of, wire_tag, change_number};
 
 use crate::frame::frame_of;
 use crate::item::gateway_of;
 use crate::list::{is_pairwise, list_of};
-use crate::value::{address_of, card_of, exact_of, id_of, prefix_of, whole_of};
+use crate::value::{address_of, card_of, exact_of, four_of, id_of, prefix_of, whole_of};
 use crate::word::{
-    action_of, device_owner, direction_of, ethertype_of, group_name, network_type_of, project_name,
-    protocol_of, short_text, target_name,
+    action_of, device_owner, direction_of, ethertype_of, group_name, mode_of, network_type_of,
+    project_name, protocol_of, short_text, target_name,
 };
 use api_types::{
-    Action, Direction, Ethertype, FixedAsked, GatewayAsked, Id, IpVersion, NetworkType, ObjectType,
-    PairAsked, Routes, VnicType,
+    Action, Direction, Ethertype, FixedAsked, GatewayAsked, Id, IpVersion, Ipv6Mode, NetworkType,
+    ObjectType, PairAsked, Routes, VnicType,
 };
-use net_addr::{Addr4, Mac, OutOfMemory, Prefix4, Seq, Spans, Text};
+use net_addr::{Addr, Addr4, Mac, OutOfMemory, Prefix, Seq, Spans, Text};
 use plane_types::Frame;
 use serde_json::Value;
 use std::alloc::Global;
@@ -169,7 +170,7 @@ impl Grammar for SegmentNumber {
     }
 }
 
-/// The version of IP of a subnet, 4.
+/// The version of IP of a subnet, 4 or 6.
 pub struct SubnetVersion;
 
 impl Grammar for SubnetVersion {
@@ -178,39 +179,79 @@ impl Grammar for SubnetVersion {
     ghost says = { ip_version };
 
     fn read(_alloc: Global, value: &Value) -> Result<Option<IpVersion>, OutOfMemory> {
-        match whole_of(value, 4, 4) {
-            Some(_) => Ok(Some(IpVersion::V4)),
-            None => Ok(None),
-        }
-    }
-}
-
-/// The prefix of a subnet, of length 1 to 30, whose other bits are zero.
-pub struct SubnetPrefix;
-
-impl Grammar for SubnetPrefix {
-    type Read = Prefix4;
-
-    ghost says = { subnet_prefix };
-
-    fn read(_alloc: Global, value: &Value) -> Result<Option<Prefix4>, OutOfMemory> {
-        match exact_of(value) {
-            Some(prefix) if 1 <= prefix.len && prefix.len <= 30 => Ok(Some(prefix)),
+        match whole_of(value, 4, 6) {
+            Some(number) if number == 4 => Ok(Some(IpVersion::V4)),
+            Some(number) if number == 6 => Ok(Some(IpVersion::V6)),
             _ => Ok(None),
         }
     }
 }
 
-/// An IPv4 address.
+/// How the ports of a subnet of version 6 come by their addresses: `slaac`, `dhcpv6-stateful` or
+/// `dhcpv6-stateless`.
+pub struct AddressMode;
+
+impl Grammar for AddressMode {
+    type Read = Ipv6Mode;
+
+    ghost says = { mode_of };
+
+    fn read(_alloc: Global, value: &Value) -> Result<Option<Ipv6Mode>, OutOfMemory> {
+        Ok(mode_of(value))
+    }
+}
+
+// The greatest length of a subnet's prefix.
+fn longest_of(base: &Addr) -> u8
+    ensures { result ≡ longest_length base.now }
+{
+    match *base {
+        Addr::V4(_) => 30,
+        Addr::V6(_) => 126,
+    }
+}
+
+/// The prefix of a subnet, of length 1 to 30 or, of version 6, to 126, whose other bits are zero.
+pub struct SubnetPrefix;
+
+impl Grammar for SubnetPrefix {
+    type Read = Prefix;
+
+    ghost says = { subnet_prefix };
+
+    fn read(_alloc: Global, value: &Value) -> Result<Option<Prefix>, OutOfMemory> {
+        match exact_of(value) {
+            Some(prefix) if 1 <= prefix.len && prefix.len <= longest_of(&prefix.base) => {
+                Ok(Some(prefix))
+            }
+            _ => Ok(None),
+        }
+    }
+}
+
+/// An address of either version.
 pub struct AnyAddress;
 
 impl Grammar for AnyAddress {
-    type Read = Addr4;
+    type Read = Addr;
 
     ghost says = { address_of };
 
-    fn read(_alloc: Global, value: &Value) -> Result<Option<Addr4>, OutOfMemory> {
+    fn read(_alloc: Global, value: &Value) -> Result<Option<Addr>, OutOfMemory> {
         Ok(address_of(value))
+    }
+}
+
+/// An IPv4 address.
+pub struct FourAddress;
+
+impl Grammar for FourAddress {
+    type Read = Addr4;
+
+    ghost says = { four_of };
+
+    fn read(_alloc: Global, value: &Value) -> Result<Option<Addr4>, OutOfMemory> {
+        Ok(four_of(value))
     }
 }
 
@@ -234,11 +275,11 @@ impl Grammar for AllocationPools {
 pub struct NameServers;
 
 impl Grammar for NameServers {
-    type Read = Seq<Addr4>;
+    type Read = Seq<Addr>;
 
     ghost says = { name_servers };
 
-    fn read(alloc: Global, value: &Value) -> Result<Option<Seq<Addr4>>, OutOfMemory> {
+    fn read(alloc: Global, value: &Value) -> Result<Option<Seq<Addr>>, OutOfMemory> {
         list_of(alloc, value, 5)
     }
 }
@@ -402,11 +443,11 @@ impl Grammar for PortNumber {
 pub struct RemotePrefix;
 
 impl Grammar for RemotePrefix {
-    type Read = Prefix4;
+    type Read = Prefix;
 
     ghost says = { prefix_said };
 
-    fn read(_alloc: Global, value: &Value) -> Result<Option<Prefix4>, OutOfMemory> {
+    fn read(_alloc: Global, value: &Value) -> Result<Option<Prefix>, OutOfMemory> {
         Ok(prefix_of(value))
     }
 }

@@ -1,12 +1,12 @@
 //! The items of lists.
 ghost use Rattle.std.specs.Prelude.{◌≡◌};
 ghost use Rattle.serde_json.specs.View.{view};
-ghost use Rattle.json_values.specs.Items.{span_of, hop_of, fixed_of, pair_of, gateway_of, id_of, address_of};
+ghost use Rattle.json_values.specs.Items.{is_span, span, span_of, hop_of, fixed_of, pair_of, gateway_of, id_of, address_of};
 
 use crate::object::is_object_of;
 use crate::value::{address_of, card_of, exact_of, id_of, prefix_of};
 use api_types::{FixedAsked, GatewayAsked, Hop, Id, PairAsked};
-use net_addr::{Addr4, Mac, Span4};
+use net_addr::{Addr, Mac, Span};
 use serde_json::Value;
 
 /// An item of a list.
@@ -29,32 +29,44 @@ impl Item for Id {
     }
 }
 
-impl Item for Addr4 {
+impl Item for Addr {
     ghost says = { address_of };
 
-    fn read(value: &Value) -> Option<Addr4> {
+    fn read(value: &Value) -> Option<Addr> {
         address_of(value)
     }
 }
 
-// A pool: from `start` to `end`, which isn't below it.
-impl Item for Span4 {
+// Whether both are of one version and the first isn't above the last.
+fn is_in_order(first: &Addr, last: &Addr) -> bool
+    ensures { result ≡ is_span (span first.now last.now) }
+{
+    match (first, last) {
+        (Addr::V4(a), Addr::V4(b)) => a.0 <= b.0,
+        (Addr::V6(a), Addr::V6(b)) => a.0 <= b.0,
+        _ => false,
+    }
+}
+
+// A pool: from `start` to `end`, which is of its version and isn't below it.
+impl Item for Span {
     ghost says = { span_of };
 
-    fn read(value: &Value) -> Option<Span4> {
+    fn read(value: &Value) -> Option<Span> {
         if !is_object_of(value, &["end", "start"]) {
             return None;
         }
         let first = address_of(value.get("start")?)?;
         let last = address_of(value.get("end")?)?;
-        if first.0 <= last.0 {
-            Some(Span4 { first, last })
+        if is_in_order(&first, &last) {
+            Some(Span { first, last })
         } else {
             None
         }
     }
 }
 
+// A route: a destination, and a next hop of its version.
 impl Item for Hop {
     ghost says = { hop_of };
 
@@ -64,7 +76,11 @@ impl Item for Hop {
         }
         let destination = exact_of(value.get("destination")?)?;
         let next = address_of(value.get("nexthop")?)?;
-        Some(Hop { destination, next })
+        if destination.base.is_same_version(&next) {
+            Some(Hop { destination, next })
+        } else {
+            None
+        }
     }
 }
 

@@ -19,11 +19,11 @@ mod word;
 
 pub use allowed::{GrammarName, allows};
 pub use grammar::{
-    AddressPairs, AllocationPools, AnyAddress, CardMac, ChangeNumber, DeviceOwner, EtherVersion,
-    EventFrame, FixedAddresses, Flag, GatewayInfo, Grammar, GroupIds, GroupName, HostRoutes,
-    NameServers, NetworkKind, PermittedAction, PolicyObject, PortNumber, ProjectName,
-    ProtocolNumber, RemotePrefix, RouterRoutes, RowId, RuleDirection, SegmentNumber, ShortText,
-    SubnetPrefix, SubnetVersion, TargetName, VirtualCard, WireTag,
+    AddressMode, AddressPairs, AllocationPools, AnyAddress, CardMac, ChangeNumber, DeviceOwner,
+    EtherVersion, EventFrame, FixedAddresses, Flag, FourAddress, GatewayInfo, Grammar, GroupIds,
+    GroupName, HostRoutes, NameServers, NetworkKind, PermittedAction, PolicyObject, PortNumber,
+    ProjectName, ProtocolNumber, RemotePrefix, RouterRoutes, RowId, RuleDirection, SegmentNumber,
+    ShortText, SubnetPrefix, SubnetVersion, TargetName, VirtualCard, WireTag,
 };
 pub use text::read_id;
 

@@ -9,7 +9,7 @@ ghost use Rattle.json_values.specs.Items.{other_id, other_hop};
 
 use crate::item::Item;
 use api_types::{Hop, Id};
-use net_addr::{OutOfMemory, Seq, Span4};
+use net_addr::{OutOfMemory, Seq, Span};
 use serde_json::Value;
 use std::alloc::Global;
 
@@ -69,10 +69,10 @@ pub(crate) trait Beside {
         ensures { result ≡ goes self.now other.now };
 }
 
-impl Beside for Span4 {
+impl Beside for Span {
     ghost goes = { are_apart };
 
-    fn goes_beside(&self, other: &Span4) -> bool {
+    fn goes_beside(&self, other: &Span) -> bool {
         self.is_apart(*other)
     }
 }

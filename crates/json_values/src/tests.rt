@@ -1,5 +1,5 @@
 use super::*;
-use net_addr::OutOfMemory;
+use net_addr::{OutOfMemory, Text};
 use serde_json::Value;
 use std::alloc::Global;
 use std::test::Fail;
@@ -16,7 +16,7 @@ fn is_allowed(alloc: Global, name: GrammarName, text: &str) -> Result<bool, OutO
 #[test]
 fn texts(rt: HostRuntime) -> Result<(), Fail> {
     let alloc = rt.alloc();
-    let cases: [(GrammarName, &str, bool); 26] = [
+    let cases: [(GrammarName, &str, bool); 31] = [
         (GrammarName::ShortText, "\"\"", true),
         (GrammarName::ShortText, "\"\u{e4}\"", true),
         (GrammarName::ShortText, "7", false),
@@ -36,6 +36,11 @@ fn texts(rt: HostRuntime) -> Result<(), Fail> {
         (GrammarName::TargetName, "\"**\"", false),
         (GrammarName::NetworkKind, "\"vxlan\"", true),
         (GrammarName::NetworkKind, "\"gre\"", false),
+        (GrammarName::AddressMode, "\"slaac\"", true),
+        (GrammarName::AddressMode, "\"dhcpv6-stateful\"", true),
+        (GrammarName::AddressMode, "\"dhcpv6-stateless\"", true),
+        (GrammarName::AddressMode, "\"SLAAC\"", false),
+        (GrammarName::AddressMode, "null", false),
         (GrammarName::EtherVersion, "\"iPv6\"", true),
         (GrammarName::EtherVersion, "\"IPv5\"", false),
         (GrammarName::RuleDirection, "\"egress\"", true),
@@ -54,13 +59,16 @@ fn texts(rt: HostRuntime) -> Result<(), Fail> {
 #[test]
 fn numbers(rt: HostRuntime) -> Result<(), Fail> {
     let alloc = rt.alloc();
-    let cases: [(GrammarName, &str, bool); 28] = [
+    let cases: [(GrammarName, &str, bool); 33] = [
         (GrammarName::SegmentNumber, "0", false),
         (GrammarName::SegmentNumber, "1", true),
         (GrammarName::SegmentNumber, "16777215", true),
         (GrammarName::SegmentNumber, "16777216", false),
         (GrammarName::SubnetVersion, "4", true),
-        (GrammarName::SubnetVersion, "6", false),
+        (GrammarName::SubnetVersion, "6", true),
+        (GrammarName::SubnetVersion, "3", false),
+        (GrammarName::SubnetVersion, "5", false),
+        (GrammarName::SubnetVersion, "7", false),
         (GrammarName::SubnetVersion, "\"4\"", false),
         (GrammarName::PortNumber, "0", true),
         (GrammarName::PortNumber, "-0", false),
@@ -82,6 +90,8 @@ fn numbers(rt: HostRuntime) -> Result<(), Fail> {
         (GrammarName::ProtocolNumber, "\"+6\"", false),
         (GrammarName::ProtocolNumber, "\"sctp\"", true),
         (GrammarName::ProtocolNumber, "\"TCP\"", false),
+        (GrammarName::ProtocolNumber, "\"icmpv6\"", true),
+        (GrammarName::ProtocolNumber, "\"ipv6\"", false),
         (GrammarName::Flag, "0", false),
     ];
     for (name, text, wanted) in cases {
@@ -94,7 +104,7 @@ fn numbers(rt: HostRuntime) -> Result<(), Fail> {
 #[test]
 fn addresses(rt: HostRuntime) -> Result<(), Fail> {
     let alloc = rt.alloc();
-    let cases: [(GrammarName, &str, bool); 22] = [
+    let cases: [(GrammarName, &str, bool); 24] = [
         (
             GrammarName::RowId,
             "\"00000001-0000-8000-8000-000000000006\"",
@@ -129,6 +139,8 @@ fn addresses(rt: HostRuntime) -> Result<(), Fail> {
         (GrammarName::AnyAddress, "\"10.0.0.256\"", false),
         (GrammarName::AnyAddress, "\"10.0.0.01\"", false),
         (GrammarName::AnyAddress, "\"10.0.0.1/32\"", false),
+        (GrammarName::FourAddress, "\"10.0.0.1\"", true),
+        (GrammarName::FourAddress, "\"::1\"", false),
         (GrammarName::SubnetPrefix, "\"10.0.0.0/30\"", true),
         (GrammarName::SubnetPrefix, "\"10.0.0.0/31\"", false),
         (GrammarName::SubnetPrefix, "\"128.0.0.0/1\"", true),
@@ -148,11 +160,127 @@ fn addresses(rt: HostRuntime) -> Result<(), Fail> {
     Ok(())
 }
 
+// Addresses of version 6, from RFC 4291, 2.2, and texts beside them.
+#[test]
+fn addresses_of_six(rt: HostRuntime) -> Result<(), Fail> {
+    let alloc = rt.alloc();
+    let cases: [(&str, bool); 26] = [
+        ("ABCD:EF01:2345:6789:ABCD:EF01:2345:6789", true),
+        ("2001:DB8::8:800:200C:417A", true),
+        ("FF01::101", true),
+        ("::1", true),
+        ("::", true),
+        ("0:0:0:0:0:0:13.1.68.3", true),
+        ("::FFFF:129.144.52.38", true),
+        ("1:2:3:4:5:6:7::", true),
+        ("::2:3:4:5:6:7:8", true),
+        ("0001:0:0:0:0:0:0:0001", true),
+        ("", false),
+        (":", false),
+        (":::", false),
+        ("1::2::3", false),
+        ("1:2:3:4:5:6:7", false),
+        ("1:2:3:4:5:6:7:8:9", false),
+        ("1:2:3:4:5:6:7:8::", false),
+        ("00001::", false),
+        ("g::", false),
+        (":1::", false),
+        ("1:", false),
+        ("1:2:3:4:5:6:7:1.2.3.4", false),
+        ("::1.2.3", false),
+        ("::1.2.3.04", false),
+        ("1.2.3.4::", false),
+        ("fe80::1%eth0", false),
+    ];
+    for (text, wanted) in cases {
+        let quoted = format!(in alloc; "\"{text}\"")?;
+        assert_eq!(rt;
+            is_allowed(alloc, GrammarName::AnyAddress, quoted.as_str())?,
+            wanted,
+            "{text}"
+        );
+    }
+    Ok(())
+}
+
+// Prefixes of version 6, from RFC 4291, 2.3, and the lengths of subnets.
+#[test]
+fn prefixes_of_six(rt: HostRuntime) -> Result<(), Fail> {
+    let alloc = rt.alloc();
+    let cases: [(GrammarName, &str, bool); 16] = [
+        (
+            GrammarName::SubnetPrefix,
+            "\"2001:0DB8:0000:CD30:0000:0000:0000:0000/60\"",
+            true,
+        ),
+        (
+            GrammarName::SubnetPrefix,
+            "\"2001:0DB8::CD30:0:0:0:0/60\"",
+            true,
+        ),
+        (GrammarName::SubnetPrefix, "\"2001:0DB8:0:CD3/60\"", false),
+        (GrammarName::SubnetPrefix, "\"2001:0DB8::CD30/60\"", false),
+        (GrammarName::SubnetPrefix, "\"8000::/1\"", true),
+        (GrammarName::SubnetPrefix, "\"::/0\"", false),
+        (GrammarName::SubnetPrefix, "\"2001:db8::4/126\"", true),
+        (GrammarName::SubnetPrefix, "\"2001:db8::4/127\"", false),
+        (GrammarName::SubnetPrefix, "\"2001:db8::4\"", false),
+        (GrammarName::SubnetPrefix, "\"10.0.0.0/64\"", false),
+        (GrammarName::RemotePrefix, "\"2001:db8::1/64\"", true),
+        (GrammarName::RemotePrefix, "\"2001:db8::1/128\"", true),
+        (GrammarName::RemotePrefix, "\"2001:db8::1\"", true),
+        (GrammarName::RemotePrefix, "\"2001:db8::1/129\"", false),
+        (GrammarName::RemotePrefix, "\"2001:db8::1/064\"", false),
+        (GrammarName::RemotePrefix, "\"2001:db8::/\"", false),
+    ];
+    for (name, text, wanted) in cases {
+        assert_eq!(rt; is_allowed(alloc, name, text)?, wanted, "{text}");
+    }
+    Ok(())
+}
+
+// The printed text of the address that a value says, or none.
+fn printed(alloc: Global, text: &str) -> Result<Text, OutOfMemory> {
+    let Ok(value) = Value::from_str(alloc, text) else {
+        return Err(OutOfMemory);
+    };
+    match AnyAddress::read(alloc, &value)? {
+        Some(address) => address.print(alloc),
+        None => Text::of(alloc, ""),
+    }
+}
+
+// What is read is printed by RFC 5952, 4: its own texts, and those of RFC 4291.
+#[test]
+fn printed_addresses(rt: HostRuntime) -> Result<(), Fail> {
+    let alloc = rt.alloc();
+    let cases: [(&str, &str); 10] = [
+        ("\"2001:DB8:0:0:1:0:0:1\"", "2001:db8::1:0:0:1"),
+        ("\"2001:0db8::0001\"", "2001:db8::1"),
+        ("\"2001:db8:0:0:0:0:2:1\"", "2001:db8::2:1"),
+        ("\"2001:db8::1:1:1:1:1\"", "2001:db8:0:1:1:1:1:1"),
+        ("\"2001:0:0:1:0:0:0:1\"", "2001:0:0:1::1"),
+        (
+            "\"2001:DB8:0:0:8:800:200C:417A\"",
+            "2001:db8::8:800:200c:417a",
+        ),
+        ("\"0:0:0:0:0:0:13.1.68.3\"", "::d01:4403"),
+        ("\"::FFFF:129.144.52.38\"", "::ffff:8190:3426"),
+        ("\"0:0:0:0:0:0:0:0\"", "::"),
+        ("\"10.0.0.1\"", "10.0.0.1"),
+    ];
+    for (text, wanted) in cases {
+        let found = printed(alloc, text)?;
+        assert_eq!(rt; found.as_str(), wanted, "{text}");
+    }
+    Ok(())
+}
+
 // Lists and objects, with their items' members.
 #[test]
 fn lists(rt: HostRuntime) -> Result<(), Fail> {
     let alloc = rt.alloc();
-    let cases: [(GrammarName, &str, bool); 32] = [
+    let cases: [(GrammarName, &str, bool); 42] = [
         (GrammarName::AllocationPools, "[]", false),
         (
             GrammarName::AllocationPools,
@@ -281,6 +409,52 @@ fn lists(rt: HostRuntime) -> Result<(), Fail> {
             false,
         ),
         (GrammarName::GroupIds, "[]", true),
+        (
+            GrammarName::AllocationPools,
+            "[{\"end\":\"2001:db8::ffff\",\"start\":\"2001:DB8::2\"},{\"end\":\"10.0.0.9\",\"start\":\"10.0.0.2\"}]",
+            true,
+        ),
+        (
+            GrammarName::AllocationPools,
+            "[{\"end\":\"2001:db8::2\",\"start\":\"10.0.0.2\"}]",
+            false,
+        ),
+        (
+            GrammarName::AllocationPools,
+            "[{\"end\":\"2001:db8::1\",\"start\":\"2001:db8::2\"}]",
+            false,
+        ),
+        (
+            GrammarName::AllocationPools,
+            "[{\"end\":\"::9\",\"start\":\"::2\"},{\"end\":\"::a\",\"start\":\"::9\"}]",
+            false,
+        ),
+        (GrammarName::NameServers, "[\"::1\",\"1.1.1.1\"]", true),
+        (
+            GrammarName::HostRoutes,
+            "[{\"destination\":\"2001:db8:1::/48\",\"nexthop\":\"2001:db8::1\"},{\"destination\":\"::/0\",\"nexthop\":\"::1\"}]",
+            true,
+        ),
+        (
+            GrammarName::HostRoutes,
+            "[{\"destination\":\"2001:db8:1::/48\",\"nexthop\":\"10.0.0.1\"}]",
+            false,
+        ),
+        (
+            GrammarName::RouterRoutes,
+            "[{\"destination\":\"::/0\",\"nexthop\":\"2001:db8::1\"},{\"destination\":\"0::/0\",\"nexthop\":\"2001:DB8:0::1\"}]",
+            false,
+        ),
+        (
+            GrammarName::FixedAddresses,
+            "[{\"ip_address\":\"2001:db8::5\"}]",
+            true,
+        ),
+        (
+            GrammarName::AddressPairs,
+            "[{\"ip_address\":\"2001:db8::5/64\"},{\"ip_address\":\"2001:db8::5\"}]",
+            true,
+        ),
     ];
     for (name, text, wanted) in cases {
         assert_eq!(rt; is_allowed(alloc, name, text)?, wanted, "{text}");

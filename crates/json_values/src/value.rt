@@ -2,11 +2,11 @@
 ghost use Rattle.std.specs.Prelude.{◌≡◌};
 ghost use Rattle.serde_json.specs.View.{view};
 ghost use Rattle.json_values.specs.Values.{whole_of};
-ghost use Rattle.json_values.specs.Items.{id_of, address_of, mac_of, card_of, prefix_said, exact_of};
+ghost use Rattle.json_values.specs.Items.{id_of, four_of, address_of, mac_of, card_of, prefix_said, exact_of};
 
-use crate::text::{read_address, read_cidr, read_id, read_mac};
+use crate::text::{read_address, read_cidr, read_four, read_id, read_mac};
 use api_types::Id;
-use net_addr::{Addr4, Mac, Prefix4};
+use net_addr::{Addr, Addr4, Mac, Prefix};
 use serde_json::Value;
 
 /// A whole number from one to another, written without fraction and exponent.
@@ -25,7 +25,13 @@ pub(crate) fn id_of(value: &Value) -> Option<Id>
     read_id(value.as_str()?.as_bytes())
 }
 
-pub(crate) fn address_of(value: &Value) -> Option<Addr4>
+pub(crate) fn four_of(value: &Value) -> Option<Addr4>
+    ensures { result ≡ four_of (view value.now) }
+{
+    read_four(value.as_str()?.as_bytes())
+}
+
+pub(crate) fn address_of(value: &Value) -> Option<Addr>
     ensures { result ≡ address_of (view value.now) }
 {
     read_address(value.as_str()?.as_bytes())
@@ -48,21 +54,21 @@ pub(crate) fn card_of(value: &Value) -> Option<Mac>
 }
 
 /// An address, or an address with a length, of which the bits behind the length are cleared.
-pub(crate) fn prefix_of(value: &Value) -> Option<Prefix4>
+pub(crate) fn prefix_of(value: &Value) -> Option<Prefix>
     ensures { result ≡ prefix_said (view value.now) }
 {
-    let text = value.as_str()?.as_bytes();
-    if let Some(base) = read_address(text) {
-        return Some(Prefix4 { base, len: 32 });
+    let text = value.as_str()?;
+    if let Some(address) = read_address(text.as_bytes()) {
+        return Some(address.whole_prefix());
     }
-    match read_cidr(text) {
+    match read_cidr(text.as_bytes()) {
         Some(cidr) => Some(cidr.prefix()),
         None => None,
     }
 }
 
 /// A prefix whose other bits are zero.
-pub(crate) fn exact_of(value: &Value) -> Option<Prefix4>
+pub(crate) fn exact_of(value: &Value) -> Option<Prefix>
     ensures { result ≡ exact_of (view value.now) }
 {
     match read_cidr(value.as_str()?.as_bytes()) {

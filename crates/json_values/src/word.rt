@@ -2,11 +2,11 @@
 ghost use Rattle.std.specs.Prelude.{◌≡◌, option_map};
 ghost use Rattle.std.specs.List.{list_all};
 ghost use Rattle.serde_json.specs.View.{view};
-ghost use Rattle.json_values.specs.Grammars.{is_short, short_text, group_name, device_owner, is_project_byte, is_project_name, project_name, target_name, network_type_of, direction_of, ethertype_of, named_protocol, protocol_in, protocol_of, action_of};
+ghost use Rattle.json_values.specs.Grammars.{is_short, short_text, group_name, device_owner, is_project_byte, is_project_name, project_name, target_name, network_type_of, mode_of, direction_of, ethertype_of, named_protocol, protocol_in, protocol_of, action_of};
 
 use crate::text::read_byte;
 use crate::value::whole_of;
-use api_types::{Action, Direction, Ethertype, NetworkType};
+use api_types::{Action, Direction, Ethertype, Ipv6Mode, NetworkType};
 use serde_json::Value;
 
 // Whether a text has at most 255 characters.
@@ -91,6 +91,18 @@ pub(crate) fn network_type_of(value: &Value) -> Option<NetworkType>
     }
 }
 
+/// How the ports of a subnet of version 6 come by their addresses.
+pub(crate) fn mode_of(value: &Value) -> Option<Ipv6Mode>
+    ensures { result ≡ mode_of (view value.now) }
+{
+    match value.as_str()? {
+        "slaac" => Some(Ipv6Mode::Slaac),
+        "dhcpv6-stateful" => Some(Ipv6Mode::Stateful),
+        "dhcpv6-stateless" => Some(Ipv6Mode::Stateless),
+        _ => None,
+    }
+}
+
 pub(crate) fn direction_of(value: &Value) -> Option<Direction>
     ensures { result ≡ direction_of (view value.now) }
 {
@@ -127,6 +139,8 @@ fn named_protocol(text: &str) -> Option<u8>
         "gre" => Some(47),
         "esp" => Some(50),
         "ah" => Some(51),
+        "ipv6-icmp" => Some(58),
+        "icmpv6" => Some(58),
         "ospf" => Some(89),
         "vrrp" => Some(112),
         "sctp" => Some(132),

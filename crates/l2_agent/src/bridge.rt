@@ -1,14 +1,12 @@
 ghost use Rattle.std.specs.Prelude.{◌≡◌, ◌++◌, IfOk, OnOk};
 ghost use Rattle.std.specs.List.{filter_map};
-ghost use Rattle.plane_types.specs.Live.{segment};
+ghost use Rattle.api_types.specs.Live.{segment};
 ghost use Rattle.plane_types.specs.TableRows.{bridge_row as bridge_row_of, bridge_rows as bridge_rows_of, dhcp_row as dhcp_row_of, end_of as end_for, mac_row, to_here as to_tap_or_router, to_there as to_tunnel};
 
-use api_types::{PortRow, Rows, Segment};
+use api_types::{PortRow, Rows, Segment, ascending, is_dhcp, is_router_port};
 use net_addr::{Copies, OutOfMemory, Seq, Text};
-use plane_rows::{
-    ascending, is_at, is_dhcp, is_live, is_router_port, router_of, segment_of, tag_of,
-};
-use plane_types::{BridgeKey, BridgeRow, BridgeTo, TagRow};
+use plane_rows::{is_at, is_live, router_of, segment_of};
+use plane_types::{BridgeKey, BridgeRow, BridgeTo, TagRow, tag_of};
 use std::alloc::Global;
 
 // To a port of this host.
@@ -26,7 +24,7 @@ fn to_here(rows: &Rows, port: &PortRow) -> Option<BridgeTo>
 }
 
 // To a port of another host.
-#[tactic(auto, unfolding(plane_types::specs::Live::segment))]
+#[tactic(auto, unfolding(api_types::specs::Live::segment))]
 fn to_there(alloc: Global, rows: &Rows, port: &PortRow) -> Result<Option<BridgeTo>, OutOfMemory>
     ensures { IfOk result (λ o. o ≡ to_tunnel (segment rows.now port.now.network) port.now) }
 {

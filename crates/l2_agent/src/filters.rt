@@ -2,9 +2,8 @@ ghost use Rattle.std.specs.Prelude.{◌≡◌, ◌++◌, IfOk, OnOk};
 ghost use Rattle.plane_types.specs.TableRows.{filter_by as filter_of_rule, filter_rows as filter_rows_of, filters_of, filters_of_group};
 
 use crate::taps::is_tap;
-use api_types::{Ethertype, GroupRow, PortRow, Rows, RuleRow};
+use api_types::{Ethertype, GroupRow, PortRow, Rows, RuleRow, names_group};
 use net_addr::{OutOfMemory, Seq, Text};
-use plane_rows::names_group;
 use plane_types::FilterRow;
 use std::alloc::Global;
 
@@ -39,6 +38,7 @@ fn add_group(
         return Ok(());
     }
     for rule in rows.rules().rows() {
+        let _prefix = rule.remote_prefix;
         if let Some(row) = filter_by(port, group, rule) {
             filters.push(row)?;
         }

@@ -1,5 +1,5 @@
 ghost use Rattle.std.specs.Prelude.{◌≡◌, IfOk};
-ghost use Rattle.plane_types.specs.Live.{segment};
+ghost use Rattle.api_types.specs.Live.{segment};
 ghost use Rattle.plane_types.specs.TableRows.{carrier_of as carrier_by_segment, inward_row as inward_row_of, inward_rows as inward_rows_of};
 
 use crate::wires::wire_of;
@@ -10,7 +10,7 @@ use plane_types::{Carrier, InwardRow, TagRow};
 use std::alloc::Global;
 
 // By what frames of a network come to a host, unless it is local.
-#[tactic(auto, unfolding(plane_types::specs::Live::segment))]
+#[tactic(auto, unfolding(api_types::specs::Live::segment))]
 fn carrier_of(alloc: Global, rows: &Rows, network: Id) -> Result<Option<Carrier>, OutOfMemory>
     ensures { IfOk result (λ c. c ≡ carrier_by_segment (segment rows.now network)) }
 {

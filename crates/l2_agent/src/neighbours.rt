@@ -3,10 +3,10 @@ ghost use Rattle.std.specs.List.{filter_map};
 ghost use Rattle.api_types.specs.declared.port.Fixed.{Fixed as TheFixed};
 ghost use Rattle.plane_types.specs.TableRows.{floating_neighbour, neighbour_rows as neighbour_rows_of, neighbours_of};
 
-use api_types::{Fixed, FloatingRow, PortRow, Rows};
-use net_addr::{Mac, OutOfMemory, Seq, Text};
-use plane_rows::{ascending, floating_holder, is_joined, is_live, tag_of};
-use plane_types::{NeighbourRow, TagRow};
+use api_types::{Fixed, FloatingRow, PortRow, Rows, ascending};
+use net_addr::{Addr, Mac, OutOfMemory, Seq, Text};
+use plane_rows::{floating_holder, is_joined, is_live};
+use plane_types::{NeighbourRow, TagRow, tag_of};
 use std::alloc::Global;
 
 // Adds an entry for each address.
@@ -77,7 +77,7 @@ fn floating_row(
     let tag = tag_of(tags, floating.network)?;
     Some(NeighbourRow {
         tag,
-        address: floating.address,
+        address: Addr::V4(floating.address),
         mac: port.mac,
     })
 }
@@ -91,6 +91,7 @@ fn add_floatings(
     ensures { OnOk result (neighbours.new.items ≡ neighbours.old.items ++ filter_map (floating_neighbour rows.now host.now tags.now) rows.now.floatings) }
 {
     for floating in rows.floatings().rows() {
+        let _address = Addr::V4(floating.address);
         if let Some(row) = floating_row(rows, host, tags, floating) {
             neighbours.push(row)?;
         }

@@ -6,7 +6,7 @@ ghost use Rattle.plane_types.specs.declared.table.FilterRow.{FilterRow as TheFil
 
 use api_secgroup::members;
 use api_types::{GroupRow, Id, Rows};
-use net_addr::{OutOfMemory, Prefix4, Seq};
+use net_addr::{OutOfMemory, Prefix, Seq};
 use plane_types::{FilterRow, SetRow};
 use std::alloc::Global;
 
@@ -19,7 +19,7 @@ fn is_named(filters: &[FilterRow], group: Id) -> bool
         .any(|filter| filter.remote_group == Some(group))
 }
 
-fn add_prefixes(sets: &mut Seq<SetRow>, group: Id, prefixes: &[Prefix4]) -> Result<(), OutOfMemory>
+fn add_prefixes(sets: &mut Seq<SetRow>, group: Id, prefixes: &[Prefix]) -> Result<(), OutOfMemory>
     ensures { OnOk result (sets.new ≡ sets.old ++ map (λ (p : Prefix). record { group = group; prefix = p }) prefixes.now) }
 {
     for prefix in prefixes {

@@ -1,13 +1,13 @@
 ghost use Rattle.std.specs.Prelude.{◌≡◌, ◌==◌, IfOk, option_map};
 ghost use Rattle.std.specs.List.{list_any};
 ghost use Rattle.plane_types.specs.TableRows.{is_tagged as is_tagged_by_rows, tag_of as tag_given};
-ghost use Rattle.l2_agent.specs.Retagged.{free_tags as free_beside, in_turn as given_in_turn, kept_tags as kept_of, next_tag as next_of, retagged as retagged_by_rows, tagged as tagged_by_rows};
+ghost use Rattle.plane_types.specs.Retagged.{free_tags as free_beside, in_turn as given_in_turn, kept_tags as kept_of, next_tag as next_of, retagged as retagged_by_rows, tagged as tagged_by_rows};
 
 use crate::wires::wire_of;
 use api_types::{Id, NetworkRow, Rows};
 use net_addr::{OutOfMemory, Seq, Text};
-use plane_rows::{is_here, tag_of};
-use plane_types::{TagRow, Tags};
+use plane_rows::is_here;
+use plane_types::{TagRow, Tags, tag_of};
 use std::alloc::Global;
 
 // Whether a live port of the network is on the host.
@@ -18,7 +18,7 @@ fn is_tagged(rows: &Rows, host: &Text, network: &NetworkRow) -> bool
 }
 
 // The networks that have a tag on the host, in order of creation.
-#[tactic(auto, unfolding(crate::specs::Retagged::tagged))]
+#[tactic(auto, unfolding(plane_types::specs::Retagged::tagged))]
 fn tagged(alloc: Global, rows: &Rows, host: &Text) -> Result<Vec<Id>, OutOfMemory>
     ensures { IfOk result (λ v. v.items ≡ tagged_by_rows rows.now host.now) }
 {
@@ -32,7 +32,7 @@ fn tagged(alloc: Global, rows: &Rows, host: &Text) -> Result<Vec<Id>, OutOfMemor
 }
 
 // The tags that these networks had.
-#[tactic(auto, unfolding(crate::specs::Retagged::kept_tags))]
+#[tactic(auto, unfolding(plane_types::specs::Retagged::kept_tags))]
 fn kept_tags(alloc: Global, old: &[TagRow], networks: &[Id]) -> Result<Vec<u16>, OutOfMemory>
     ensures { IfOk result (λ v. v.items ≡ kept_of old.now networks.now) }
 {
@@ -52,7 +52,7 @@ fn is_among(tags: &[u16], tag: u16) -> bool
 }
 
 // The tags from 1 to 4,094 that are none of these, ascending.
-#[tactic(auto, unfolding(crate::specs::Retagged::free_tags))]
+#[tactic(auto, unfolding(plane_types::specs::Retagged::free_tags))]
 fn free_tags(alloc: Global, kept: &[u16]) -> Result<Vec<u16>, OutOfMemory>
     ensures { IfOk result (λ v. v.items ≡ free_beside kept.now) }
 {
@@ -79,7 +79,7 @@ fn next_tag<'f>(old: &[TagRow], network: Id, free: &'f [u16]) -> Option<(u16, &'
 }
 
 // A row for each network: the tag that it had, else the first one that is free then.
-#[tactic(auto, unfolding(crate::specs::Retagged::in_turn))]
+#[tactic(auto, unfolding(plane_types::specs::Retagged::in_turn))]
 fn in_turn(
     alloc: Global,
     rows: &Rows,
@@ -106,7 +106,7 @@ fn in_turn(
 
 /// The tags of a host. A network keeps the tag that it had, and the others take the least free
 /// ones, in order of creation. Its cost grows with the networks times the ports and the old tags.
-#[tactic(auto, unfolding(crate::specs::Retagged::retagged))]
+#[tactic(auto, unfolding(plane_types::specs::Retagged::retagged))]
 pub(crate) fn retagged(
     alloc: Global,
     rows: &Rows,

@@ -1,11 +1,12 @@
 ghost use Rattle.std.specs.Prelude.{◌≡◌, ◌++◌, IfOk, OnOk, map};
+ghost use Rattle.net_addr.specs.Ordered.{whole_prefix};
 ghost use Rattle.api_types.specs.declared.port.Fixed.{Fixed as TheFixed};
 ghost use Rattle.plane_types.specs.TableRows.{allowed_of as allowed_by_rows, is_tap as is_tap_by_rows, tap_row as tap_row_of, tap_rows as tap_rows_of};
 
-use api_types::{Fixed, Pair, PortRow, Rows};
-use net_addr::{Mac, OutOfMemory, Prefix4, Seq, Text};
-use plane_rows::{is_here, is_router_port, tag_of};
-use plane_types::{TagRow, TapRow};
+use api_types::{Fixed, Pair, PortRow, Rows, is_router_port};
+use net_addr::{Mac, OutOfMemory, Seq, Text};
+use plane_rows::is_here;
+use plane_types::{TagRow, TapRow, tag_of};
 use std::alloc::Global;
 
 /// Whether a port is live on the host and no router's.
@@ -17,15 +18,12 @@ pub(crate) fn is_tap(rows: &Rows, host: &Text, port: &PortRow) -> bool
 
 // Adds a pair of the MAC and each of these addresses.
 fn add_addresses(allowed: &mut Seq<Pair>, mac: Mac, fixed: &[Fixed]) -> Result<(), OutOfMemory>
-    ensures { OnOk result (allowed.new ≡ allowed.old ++ map (λ (f : TheFixed). record { mac = mac; prefix = record { base = f.address; len = 32 } }) fixed.now) }
+    ensures { OnOk result (allowed.new ≡ allowed.old ++ map (λ (f : TheFixed). record { mac = mac; prefix = whole_prefix f.address }) fixed.now) }
 {
     for held in fixed {
         allowed.push(Pair {
             mac,
-            prefix: Prefix4 {
-                base: held.address,
-                len: 32,
-            },
+            prefix: held.address.whole_prefix(),
         })?;
     }
     Ok(())

@@ -1,14 +1,14 @@
 ghost use Rattle.std.specs.Prelude.{◌≡◌, IfOk};
-ghost use Rattle.plane_types.specs.Live.{segment, wire_of as wire_by_segment};
+ghost use Rattle.api_types.specs.Live.{segment};
+ghost use Rattle.api_types.specs.Wires.{wire_of as wire_by_segment};
 
-use api_types::{Id, Rows, Segment};
+use api_types::{Id, Rows, Segment, Wire};
 use net_addr::{Copies, OutOfMemory};
 use plane_rows::segment_of;
-use plane_types::Wire;
 use std::alloc::Global;
 
 /// The wire that carries a network, where it is flat or vlan.
-#[tactic(auto, unfolding(plane_types::specs::Live::segment))]
+#[tactic(auto, unfolding(api_types::specs::Live::segment))]
 pub(crate) fn wire_of(alloc: Global, rows: &Rows, network: Id) -> Result<Option<Wire>, OutOfMemory>
     ensures { IfOk result (λ w. w ≡ wire_by_segment (segment rows.now network)) }
 {

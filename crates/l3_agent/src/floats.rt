@@ -1,5 +1,5 @@
 ghost use Rattle.std.specs.Prelude.{◌≡◌, IfOk, option_copied};
-ghost use Rattle.plane_types.specs.Holders.{router_named};
+ghost use Rattle.api_types.specs.Holders.{router_named};
 ghost use Rattle.plane_types.specs.TableRows.{float_row_by, float_rows as float_rows_of, is_hosted as is_hosted_by_rows};
 
 use crate::routers::is_hosted;

@@ -1,17 +1,17 @@
 ghost use Rattle.std.specs.Prelude.{◌≡◌, IfOk, map};
 ghost use Rattle.std.specs.List.{filter_map};
 ghost use Rattle.api_types.specs.declared.port.Fixed.{Fixed as TheFixed};
-ghost use Rattle.plane_types.specs.RouterRows.{legs_of};
+ghost use Rattle.api_types.specs.RouterRows.{legs_of};
 ghost use Rattle.plane_types.specs.TableRows.{prefixes_for as prefixes_by_rows, router_port as router_port_of, tagged_by};
 
-use api_types::{PortRow, RouterRow, Rows};
-use net_addr::{Addr4, OutOfMemory, Prefixes, Seq};
-use plane_rows::{is_interface, is_leg, named_subnet, tag_of};
-use plane_types::{RouterPort, TagRow};
+use api_types::{PortRow, RouterRow, Rows, is_interface};
+use net_addr::{Addr, OutOfMemory, Prefixes, Seq};
+use plane_rows::{is_leg, named_subnet};
+use plane_types::{RouterPort, TagRow, tag_of};
 use std::alloc::Global;
 
 // The addresses of a port.
-fn addresses_of(alloc: Global, port: &PortRow) -> Result<Seq<Addr4>, OutOfMemory>
+fn addresses_of(alloc: Global, port: &PortRow) -> Result<Seq<Addr>, OutOfMemory>
     ensures { IfOk result (λ a. a ≡ map (λ (f : TheFixed). f.address) port.now.fixed) }
 {
     let mut addresses = Seq::new(alloc);
@@ -69,7 +69,7 @@ fn tagged(
 
 /// A row for each live port of a router on a network that has a tag. Its cost grows with the ports,
 /// and for each of the router's with the tags and its addresses.
-#[tactic(auto, unfolding(plane_types::specs::RouterRows::legs_of))]
+#[tactic(auto, unfolding(api_types::specs::RouterRows::legs_of))]
 pub(crate) fn router_ports(
     alloc: Global,
     rows: &Rows,

@@ -4,7 +4,7 @@ use Rattle.std.specs.Prelude.{◌&&◌, ◌||◌, codes}
 use Rattle.std.specs.List.{filter, list_any}
 use Rattle.api_types.specs.Consistent.{IsConsistent}
 use Rattle.api_types.specs.Ident.{Ident, ident_text}
-use Rattle.api_types.specs.Lists.{stands_so}
+use Rattle.api_types.specs.Lists.{is_empty, stands_so}
 use Rattle.api_types.specs.RowLists.{RowLists}
 use Rattle.api_types.specs.Table.{ident_eq}
 use Rattle.api_types.specs.declared.call.Caller.{Caller}
@@ -18,7 +18,7 @@ use Rattle.api_policy.specs.Visibility.{seen_ports, sees_port, sees_row}
 use Rattle.api_steps.specs.Footing.{Footing, footing}
 use Rattle.api_steps.specs.Refusing.{first_refusal, not_found, when}
 use Rattle.api_steps.proofs.StepApart.{step_apart}
-use Rattle.plane_types.specs.Meaning.{network_on}
+use Rattle.api_types.specs.Wires.{network_on}
 use Rattle.plane_types.specs.declared.ask.Ask.{Ask}
 use Rattle.plane_types.specs.declared.ask.Ask.TheVariants.{Api, Lab}
 use Rattle.plane_types.specs.declared.ask.LabCall.{LabCall}
@@ -85,7 +85,7 @@ module _ (caller : Caller) (v w : WorldState) (tenant : caller.admin ≡ false) 
   lab_apart (Forget host) = refl
   lab_apart Settle = refl
 
-pub ask_apart : (caller : Caller) (v w : WorldState) → caller.admin ≡ false → IsConsistent v.state.rows → IsConsistent w.state.rows → footing default_parts v.state caller ≡ footing default_parts w.state caller
+pub ask_apart : (caller : Caller) (v w : WorldState) → caller.admin ≡ false → not (is_empty caller.project) ≡ true → IsConsistent v.state.rows → IsConsistent w.state.rows → footing default_parts v.state caller ≡ footing default_parts w.state caller
     → (ask : Ask) → told_of (ask_outcome v caller ask) ≡ told_of (ask_outcome w caller ask)
-ask_apart caller v w tenant c d same (Api call) = ap ByMachine (step_apart default_parts caller v.state w.state tenant c d same call)
-ask_apart caller v w tenant c d same (Lab call) = ap (λ o. told_of (ByLab o)) (lab_apart caller v w tenant same call)
+ask_apart caller v w tenant named c d same (Api call) = ap ByMachine (step_apart default_parts caller v.state w.state tenant named c d same call)
+ask_apart caller v w tenant named c d same (Lab call) = ap (λ o. told_of (ByLab o)) (lab_apart caller v w tenant same call)

@@ -18,9 +18,9 @@ use Rattle.api_types.specs.declared.refusal.PolicyRule.TheVariants.{AdminOnly}
 use Rattle.api_types.specs.declared.change.Item.{Item}
 use Rattle.net_settings.specs.Defaults.{default_hosts}
 use Rattle.net_settings.specs.declared.settings.Host.{Host as Carrier}
-use Rattle.row_laws.proofs.ListLemmas.{false_true, none_some, or_true, some_equal}
-use Rattle.row_laws.proofs.NameLemmas.{bytes_itself, bytes_same}
-use Rattle.api_check.specs.Carrying.{can_carry, carries}
+use Rattle.api_types.proofs.ListLemmas.{false_true, none_some, or_true, some_equal}
+use Rattle.api_types.proofs.NameLemmas.{bytes_itself, bytes_same}
+use Rattle.api_ml2.specs.Carrying.{can_carry, carries}
 use Rattle.api_steps.specs.Holdable.{AreHoldable}
 use Rattle.api_steps.specs.Refusing.{when}
 use Rattle.keeper_core.specs.Counts.{Tells}
@@ -47,13 +47,13 @@ use Rattle.plane_laws.proofs.KeptLaw.{stay-placed}
 use Rattle.plane_laws.proofs.ListLaw.{lists-cross, lists-mean-rows}
 use Rattle.plane_laws.proofs.Theorem.{tables-mean-rows}
 use Rattle.plane_types.specs.declared.table.TagRow.{TagRow}
-use Rattle.l2_agent.specs.Retagged.{AreTags}
-use Rattle.l2_agent.proofs.RetaggedLaw.{tags_stand}
-use Rattle.agent_node.specs.Wired.{wired}
-use Rattle.agent_node.proofs.PlacedLemmas.{stay_placed}
-use Rattle.agent_node.proofs.TagLemmas.{are_tags}
-use Rattle.agent_node.specs.Node.{Node, Stands, host_of, resynced, started, with_entries}
-use Rattle.host_fleet.specs.Steps.{AreFor, ArePut, IsKeptAt, Stepwise, held_by, ready_for}
+use Rattle.plane_types.specs.Retagged.{AreTags}
+use Rattle.plane_types.proofs.RetaggedLaw.{tags_stand}
+use Rattle.plane_types.specs.Wired.{wired}
+use Rattle.plane_types.proofs.PlacedLemmas.{stay_placed}
+use Rattle.plane_types.proofs.RealisedTags.{are_tags}
+use Rattle.plane_types.specs.Node.{Node, Stands, host_of, resynced, started, with_entries}
+use Rattle.lab_world.specs.Steps.{AreFor, ArePut, IsKeptAt, Stepwise, held_by, ready_for}
 use Rattle.lab_world.specs.Hosts.{AreHosts}
 use Rattle.lab_world.specs.Lab.{Answered, Barred, WorldState, event_refusal, host_told, lab_outcome, tables_told, unless_barred}
 use Rattle.lab_world.specs.World.{ByLab, HoldsRows, IsHandled, first_host, rewired, world_after}
@@ -142,8 +142,7 @@ carrier_named name s (d ∷ hosts) h = by (bytes_eq d.name name) refl (can_carry
 pub hold_rows : (state : State) (nodes : List Node) → IsConsistent state.rows → AreHosts state nodes → HoldRows (carries default_hosts) state.rows (map host_of nodes)
 hold_rows state nodes c h = record {
   consistent = c;
-  few = h.holdable.few;
-  carried = h.holdable.carried;
+  carried = h.holdable;
   synced = record {
     realise = each_map host_of (λ (g : Host). Realises state.rows g.name g.tables) nodes (λ k n at. subst (λ rows. Realises rows n.name n.tables) (h.rows k n at) (h.stand k n at).realised);
     placed = each_map host_of IsPlaced nodes (λ k n at. (h.stand k n at).placed);
@@ -296,7 +295,7 @@ first_seen rows nodes same = unseen nodes ∙ ap (map host_of) same
     unseen (n ∷ ns) = λ j. host_of n ∷ unseen ns j
 
 pub no_rows_holdable : AreHoldable (carries default_hosts) no_rows
-no_rows_holdable = record { few = lit< tt; carried = record { at_host = λ k p at. none_some p _ at } }
+no_rows_holdable = record { at_host = λ k p at. none_some p _ at }
 
 -- ---- frames
 

@@ -1,3 +1,5 @@
 mod AskApart
 mod HostLaws
 mod OwnRefusals
+mod SoFar
+mod Placing

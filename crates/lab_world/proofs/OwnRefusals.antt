@@ -12,7 +12,7 @@ use Rattle.api_types.specs.declared.form.Form.TheVariants.{Network as NetworkOf,
 use Rattle.api_types.specs.declared.form.NetworkForm.{NetworkForm}
 use Rattle.api_types.specs.declared.form.PortForm.{PortForm}
 use Rattle.api_types.specs.declared.kind.Kind.{Kind}
-use Rattle.api_types.specs.declared.kind.Kind.TheVariants.{Project, Network, Subnet, Port, Group, Rule, Router, Floating, Policy}
+use Rattle.api_types.specs.declared.kind.Kind.TheVariants.{Project, Network, Subnet, Port, Group, Rule, Router, Floating, Policy, Network as NetworkKind}
 use Rattle.api_types.specs.declared.network.NetworkRow.{NetworkRow}
 use Rattle.api_types.specs.declared.refusal.Refusal.{Refusal}
 use Rattle.api_types.specs.Ident.{Ident}
@@ -25,20 +25,19 @@ use Rattle.api_steps.specs.NotBuilt.{is_kind_ahead, is_network_ahead, is_port_ah
 use Rattle.api_steps.specs.Networks as networks
 use Rattle.api_steps.specs.Ports as ports
 use Rattle.api_steps.specs.Given.{are_unlike, is_for_other, owner_of, value_of, value_or}
-use Rattle.api_steps.specs.Numbers.{free_number}
+use Rattle.api_ml2.specs.Numbers.{free_number}
 use Rattle.api_steps.specs.Reads.{marker_text, row_told, rows_listed}
 use Rattle.api_steps.specs.Refusing.{at_name, first_refusal, needing, not_found as not_found_of, unless, when}
 use Rattle.api_machine.specs.Plan.{IsRefusalOf}
 use Rattle.api_steps.specs.State.{State, drawing_at, is_last}
 use Rattle.api_policy.specs.Visibility.{is_own, seen_networks, seen_ports}
-use Rattle.api_shown.specs.Networks.{network_members}
-use Rattle.api_shown.specs.Ports.{port_members}
-use Rattle.api_shown.specs.Shown.{shown_as}
-use Rattle.api_shown.specs.Listed.{has_marker, listed}
+use Rattle.api_policy.specs.Networks.{network_members}
+use Rattle.api_policy.specs.Ports.{port_members}
+use Rattle.api_policy.specs.Shown.{shown_as}
+use Rattle.api_policy.specs.Listed.{has_marker, listed}
 use Rattle.row_laws.specs.Gone.{without_network}
 use Rattle.api_types.specs.Registration.{drawn_id}
 use Rattle.api_types.specs.Printed.{ManyRows, NamedTree, NoRow, OneRow}
-use Rattle.api_types.specs.declared.kind.Kind.TheVariants.{Network as NetworkKind}
 use Rattle.api_types.specs.declared.refusal.PolicyRule.TheVariants.{AdminOnly, NetworkAccess, NetworkOwner, OwnerOnly}
 use Rattle.api_types.specs.declared.refusal.Value.TheVariants.{Mac as MacValue}
 use Rattle.api_steps.specs.Step.{api_step, kind_listed, row_created, row_deleted, row_shown, row_updated}

@@ -4,8 +4,8 @@ use Rattle.api_types.specs.Lists.{Each}
 use Rattle.net_settings.specs.Defaults.{default_hosts}
 use Rattle.api_steps.specs.Holdable.{AreHoldable}
 use Rattle.api_steps.specs.State.{State}
-use Rattle.api_check.specs.Carrying.{carries}
-use Rattle.agent_node.specs.Node.{Node, Stands}
+use Rattle.api_ml2.specs.Carrying.{carries}
+use Rattle.plane_types.specs.Node.{Node, Stands}
 
 -- the hosts of the default settings, each of which holds the machine's rows, with rows that they can hold
 pub record AreHosts (state : State) (nodes : List Node) : Type 0 where

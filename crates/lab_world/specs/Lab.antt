@@ -12,7 +12,7 @@ use Rattle.api_policy.specs.Visibility.{sees_row}
 use Rattle.api_steps.specs.Refusing.{first_refusal, not_found, when}
 use Rattle.api_steps.specs.State.{State}
 use Rattle.plane_types.specs.Hosts.{Host, all_entries, is_named}
-use Rattle.plane_types.specs.Meaning.{network_on}
+use Rattle.api_types.specs.Wires.{network_on}
 use Rattle.plane_types.specs.Told.{fabric_verdict, hosts_after, rows_verdict}
 use Rattle.plane_types.specs.declared.ask.HostState.{HostState}
 use Rattle.plane_types.specs.declared.ask.LabAnswer.{LabAnswer}

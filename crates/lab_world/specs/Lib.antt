@@ -1,3 +1,4 @@
 pub mod Hosts
 pub mod Lab
 pub mod World
+pub mod Steps

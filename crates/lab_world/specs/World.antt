@@ -14,12 +14,12 @@ use Rattle.plane_types.specs.declared.ask.Ask.{Ask}
 use Rattle.plane_types.specs.declared.ask.Ask.TheVariants.{Api, Lab}
 use Rattle.plane_types.specs.declared.ask.Reply.{Reply}
 use Rattle.plane_types.specs.declared.ask.Reply.TheVariants.{Done, LabDone, Refused}
-use Rattle.api_check.specs.Carrying.{carries}
+use Rattle.api_ml2.specs.Carrying.{carries}
 use Rattle.api_steps.specs.InForm.{IsInForm}
 use Rattle.api_steps.specs.Refusing.{told}
 use Rattle.api_steps.specs.Step.{api_step}
 use Rattle.plane_laws.specs.Held.{HoldRows}
-use Rattle.agent_node.specs.Wired.{wired}
+use Rattle.plane_types.specs.Wired.{wired}
 use Rattle.lab_world.specs.Lab.{Answered, Barred, LabOutcome, WorldState, lab_outcome}
 
 -- a host that wires its first rows
@@ -44,9 +44,10 @@ abbrev pub ask_outcome : WorldState → Caller → Ask → AskOutcome
 ask_outcome w caller (Api call) = ByMachine (api_step default_parts w.state caller call)
 ask_outcome w caller (Lab call) = ByLab (lab_outcome w caller call)
 
-abbrev pub IsAskInForm : Ask → Type 0
-IsAskInForm (Api call) = IsInForm call
-IsAskInForm (Lab call) = ⊤
+-- what the reading of a request has made sure of
+abbrev pub IsAskInForm : Caller → Ask → Type 0
+IsAskInForm caller (Api call) = IsInForm caller call
+IsAskInForm caller (Lab call) = ⊤
 
 -- where a call moves the rows, the version is the next, and each host wires the new rows
 abbrev pub moved : WorldState → RowLists → WorldState

@@ -5,12 +5,12 @@ ghost use Rattle.api_types.specs.declared.refusal.PolicyRule.TheVariants.{AdminO
 ghost use Rattle.api_types.specs.declared.refusal.Refusal.TheVariants.{Forbidden as ForbiddenBy};
 ghost use Rattle.api_steps.specs.Refusing.{not_found as not_found_of};
 ghost use Rattle.plane_types.specs.Hosts.{is_named};
-ghost use Rattle.agent_node.specs.Node.{host_of};
+ghost use Rattle.plane_types.specs.Node.{host_of};
 ghost use Rattle.lab_world.specs.Lab.{Answered, IsBarred, event_refusal, tables_told};
 
+use crate::hosts::Hosts;
 use api_policy::sees;
 use api_types::{Caller, Id, Kind, PolicyRule, Refusal, Rows};
-use host_fleet::Hosts;
 use net_addr::{Copies, OutOfMemory, Text};
 use plane_rows::network_on;
 use plane_types::{Event, LabAnswer};

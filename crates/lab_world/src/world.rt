@@ -14,8 +14,8 @@ ghost use Rattle.plane_types.specs.declared.ask.LabCall.TheVariants.{Frames};
 ghost use Rattle.plane_types.specs.declared.event.Event.{Event as TheEvent};
 ghost use Rattle.plane_types.specs.declared.verdict.Verdict.{Verdict as TheVerdict};
 ghost use Rattle.plane_laws.specs.Bounds.{HasEightBits};
-ghost use Rattle.agent_node.specs.Node.{Node, started};
-ghost use Rattle.api_check.specs.Carrying.{carries};
+ghost use Rattle.plane_types.specs.Node.{Node, started};
+ghost use Rattle.api_ml2.specs.Carrying.{carries};
 ghost use Rattle.api_steps.specs.Holdable.{AreHoldable};
 ghost use Rattle.api_steps.specs.InForm.{IsInForm};
 ghost use Rattle.api_steps.specs.Step.{api_step};
@@ -23,11 +23,11 @@ ghost use Rattle.keeper_core.specs.Counts.{RoseBy, Tells};
 ghost use Rattle.lab_world.specs.Lab.{Answered, IsBarred, lab_outcome};
 ghost use Rattle.lab_world.specs.World.{Handles, HoldsRows, IsAskInForm, IsHandled, ByLab, ByMachine, ask_outcome, fresh_world, moved};
 
+use crate::hosts::Hosts;
 use crate::lab::{bar_event, bar_tenant, tables_of};
 use api_machine::{Machine, Planned};
 use api_types::{Answer, Call, Caller, Change, Refusal, Rows};
 use fabric_run::send;
-use host_fleet::Hosts;
 use keeper_core::{Keeper, KeeperRefusal};
 use net_addr::{Copies, OutOfMemory, Text};
 use net_meaning::explain;
@@ -47,7 +47,7 @@ pub struct World {
 
 impl Model for World {
     ghost use Rattle.std.specs.Prelude.{map};
-    ghost use Rattle.agent_node.specs.Node.{host_of};
+    ghost use Rattle.plane_types.specs.Node.{host_of};
     ghost use Rattle.lab_world.specs.Hosts.{AreHosts};
     ghost use Rattle.lab_world.specs.Lab.{WorldState};
 
@@ -101,7 +101,7 @@ impl World {
         ask: &Ask,
     ) -> Reply
         requires kept { Tells (K.kept keeper.old) self.old.state.rows }
-        requires in_form { IsAskInForm ask.now }
+        requires in_form { IsAskInForm caller.now ask.now }
         ensures handled { Handles (ask_outcome self.old caller.now ask.now) self.old self.new result }
         ensures frames { (event : TheEvent) (verdict : TheVerdict) → ask.now ≡ LabAsk (Frames event) → result ≡ Reply.LabDone (Seen verdict) → without_hosts verdict ≡ rows_verdict self.old.state.rows (all_entries self.old.hosts) event }
         ensures crosses { (event : TheEvent) (verdict : TheVerdict) → ask.now ≡ LabAsk (Frames event) → result ≡ Reply.LabDone (Seen verdict) → CrossesAtRouters self.old.state.rows verdict }
@@ -199,7 +199,7 @@ impl World {
         call: &Call,
     ) -> Result<Answer, Refusal>
         requires kept { Tells (K.kept keeper.old) self.old.state.rows }
-        requires in_form { IsInForm call.now }
+        requires in_form { IsInForm caller.now call.now }
         ensures ok { IfOk result (λ answer. IsHandled (ByMachine (api_step default_parts self.old.state caller.now call.now)) self.old self.new (Reply.Done answer)) }
         ensures err { IfErr result (λ refusal. (self.new ≡ self.old) × ((refusal ≡ Refusal.OutOfMemory) ⊎ ((refusal ≡ Refusal.StoreFault) ⊎ (api_step default_parts self.old.state caller.now call.now ≡ RefusedWith refusal)))) }
         ensures store_fault { IfErr result (λ refusal. refusal ≡ Refusal.StoreFault → RoseBy 1 (K.faults keeper.old) (K.faults keeper.new)) }

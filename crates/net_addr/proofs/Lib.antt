@@ -1,4 +1,12 @@
+pub mod AddrLemmas
+pub mod CidrLemmas
+pub mod FormLemmas
+pub mod GrammarLemmas
+pub mod GroupLemmas
 pub mod PrefixLemmas
+pub mod Print6Lemmas
+pub mod Print6Spelled
 pub mod PrintLemmas
+pub mod Read6Lemmas
 pub mod ReadingLemmas
 pub mod SpellingLemmas

@@ -4,7 +4,7 @@ use Rattle.std.specs.Char.{digit_value}
 use Rattle.std.specs.Fmt.{decimal, digit_glyph}
 use Rattle.std.proofs.lemmas.Str.{digit_value-digit_char}
 use Rattle.net_addr.proofs.SpellingLemmas.{append_none}
-use Rattle.net_addr.specs.Spelling.{Spells, SpellsAddress, SpellsMac, SpellsCidr, address_parts, address_text, mac_text, pair_text}
+use Rattle.net_addr.specs.Spelling.{Spells, SpellsAddress, SpellsMac, address_parts, address_text, mac_text, pair_text}
 use Rattle.net_addr.specs.declared.spelling.Part.{Part}
 use Rattle.net_addr.specs.declared.spelling.Part.TheVariants.{Digit, Mark}
 
@@ -85,7 +85,3 @@ mac_spelled n h =
     (marked_spelled p2 v1 b t2 n (omega arith)
     (marked_spelled p3 v2 c t3 n (omega arith)
     (marked_spelled p4 v3 d t4 n (omega arith) (marked_spelled p5 v4 e t5 n (omega arith) (pair_spelled [] v5 f [] n (omega arith) (refl, whole))))))
-
-pub prefix_spelled : (text front : List ℕ) (base len : ℕ) → text ≡ front ++ codes "/" ++ decimal len → SpellsAddress front base → len ≤ 32 → SpellsCidr text (record { addr = base; len = len })
-unfolding SpellsCidr
-prefix_spelled text front base len e s l = (front, s, l, e)

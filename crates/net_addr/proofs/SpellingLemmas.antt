@@ -2,6 +2,7 @@
 use Rattle.std.proofs.Common.{◌≡◌, ℕ, zero, suc, ◌+◌, ◌*◌, ◌/◌, ◌%◌, ◌^◌, ◌<◌, ◌≤◌, Bool, true, false, ◌&&◌, List, [], ◌∷◌, ◌++◌, length, take, get_or, Option, Some, None, refl, sym, subst, ap, ◌∙◌, arith, append_assoc, length-append}
 use Rattle.std.proofs.Math.Nat.{mul-le-mul_left, mul-le-mul_right}
 use Rattle.std.proofs.lemmas.Bool.Decides.{nat_tests, Decides-ltb}
+use Rattle.std.proofs.lemmas.Nat.{pow_pos}
 use Rattle.std.specs.Char.{digit_value}
 use Rattle.std.specs.Fmt.{decimal}
 use Rattle.std.specs.Str.Parse.{AllDigits, digits_value}
@@ -9,14 +10,15 @@ use Rattle.std.proofs.lemmas.Fmt.{decimal_is_IsNumeral, decimal_digit, decimal_s
 use Rattle.std.proofs.lemmas.Str.{digit_value_digit}
 use Rattle.std.proofs.lemmas.Str.Parse.{digit_from_value, digits_value-take-le}
 use Rattle.net_addr.specs.Spelling.{Spells}
-use Rattle.net_addr.specs.Reading.{Agree, Ends, GoesOn, IsReading, Takes, no_digit_next, is_clear, value_count}
+use Rattle.net_addr.specs.Reading.{Agree, Ends, IsReading, NumberGoesOn, Takes, no_digit_next, is_clear, value_count}
 use Rattle.net_addr.specs.declared.spelling.Part.{Part}
-use Rattle.net_addr.specs.declared.spelling.Part.TheVariants.{Number, Digit, Mark}
+use Rattle.net_addr.specs.declared.spelling.Part.TheVariants.{Number, Digit, Mark, Group, Gap}
 use Rattle.net_addr.specs.declared.spelling.Reading.{Reading}
+use Rattle.net_addr.specs.declared.spelling.State.TheVariants.{Between, InNumber}
 
 -- decimal numbers
 
-small : (n : ℕ) → n < 256 → n < 2 ^ 64
+pub small : (n : ℕ) → n < 256 → n < 2 ^ 64
 small n h = omega arith
 
 pub digit_byte : (c : ℕ) → digit_value c < 10 → 48 + digit_value c ≡ c
@@ -59,7 +61,7 @@ no_leading_zero (suc k) c more hw e =
     let at : get_or (decimal (suc k)) 0 0 ≡ 48 = ap (λ (ds : List ℕ). get_or ds 0 0) e in
     omega (arith, f)
 
-all_digits : (n : ℕ) → n < 256 → AllDigits 10 (decimal n)
+pub all_digits : (n : ℕ) → n < 256 → AllDigits 10 (decimal n)
 all_digits n h = (decimal_is_IsNumeral n (small n h)).0.1
 
 in_digits : (xs : List ℕ) (c : ℕ) (ys : List ℕ) → AllDigits 10 (xs ++ c ∷ ys) → digit_value c < 10
@@ -77,7 +79,7 @@ append_none (x ∷ xs) = ap (λ (zs : List ℕ). x ∷ zs) (append_none xs)
 
 number_front : (top v c : ℕ) (parts : List Part) (text : List ℕ) (n : ℕ) (m : ℕ) (ds rest : List ℕ)
     → top < 256 → m ≤ top → decimal m ≡ ds → c ∷ text ≡ ds ++ rest → Spells parts (v * 256 + m) rest n
-    → (digit_value c < 10) × (digit_value c ≤ top) × GoesOn parts v top (digit_value c) text n
+    → (digit_value c < 10) × (digit_value c ≤ top) × NumberGoesOn parts v top (digit_value c) text n
 unfolding Spells
 number_front top v c parts text n m [] rest ht hm e et s =
     let long = decimal_nonempty m (small m (omega arith)) in
@@ -92,11 +94,11 @@ number_front top v c parts text n m (x ∷ xs) rest ht hm e et s =
     (d, omega (arith, le), (m, xs, rest, hm, front, back, s))
 
 pub begins_number : (top v c : ℕ) (parts : List Part) (text : List ℕ) (n : ℕ) → top < 256 → Spells (Number top ∷ parts) v (c ∷ text) n
-    → (digit_value c < 10) × (digit_value c ≤ top) × GoesOn parts v top (digit_value c) text n
+    → (digit_value c < 10) × (digit_value c ≤ top) × NumberGoesOn parts v top (digit_value c) text n
 unfolding Spells
 begins_number top v c parts text n ht (m, rest, hm, e, s) = number_front top v c parts text n m (decimal m) rest ht hm refl e s
 
-pub number_agrees : (top v c : ℕ) (parts : List Part) → top < 256 → digit_value c < 10 → Agree (λ text n. Spells (Number top ∷ parts) v (c ∷ text) n) (GoesOn parts v top (digit_value c))
+pub number_agrees : (top v c : ℕ) (parts : List Part) → top < 256 → digit_value c < 10 → Agree (λ text n. Spells (Number top ∷ parts) v (c ∷ text) n) (NumberGoesOn parts v top (digit_value c))
 unfolding Spells
 number_agrees top v c parts ht d text n = (
   λ s. (begins_number top v c parts text n ht s).2,
@@ -130,24 +132,40 @@ pub begins_mark : (v c b : ℕ) (parts : List Part) (text : List ℕ) (n : ℕ) 
 unfolding Spells
 begins_mark v c b parts text n (rest, e, s) = cc
 
+pub gap_agrees : (v k : ℕ) (parts : List Part) → Agree (λ text n. Spells (Gap k ∷ parts) v (58 ∷ text) n) (Spells parts (v * 2 ^ (16 * k)))
+unfolding Spells
+gap_agrees v k parts text n = (
+  λ (rest, e, s). let back : rest ≡ text = cc in subst (λ (ts : List ℕ). Spells parts (v * 2 ^ (16 * k)) ts n) back s,
+  λ s. (text, refl, s),
+)
+
+pub begins_gap : (v c k : ℕ) (parts : List Part) (text : List ℕ) (n : ℕ) → Spells (Gap k ∷ parts) v (c ∷ text) n → c ≡ 58
+unfolding Spells
+begins_gap v c k parts text n (rest, e, s) = cc
+
 -- a byte behind a number that is under way
 
-not_a_digit : (parts : List Part) (v c : ℕ) (text : List ℕ) (n : ℕ) → no_digit_next parts ≡ true → digit_value c < 10 → Spells parts v (c ∷ text) n → ⊥
+pub not_a_digit : (radix : ℕ) (parts : List Part) (v c : ℕ) (text : List ℕ) (n : ℕ) → no_digit_next radix parts ≡ true → digit_value c < radix → Spells parts v (c ∷ text) n → ⊥
 unfolding Spells
-not_a_digit [] v c text n clear d s = let e = s.0 in cc
-not_a_digit (Number top ∷ parts) v c text n clear d s = cc
-not_a_digit (Digit ∷ parts) v c text n clear d s = cc
-not_a_digit (Mark b ∷ parts) v c text n clear d s =
+not_a_digit radix [] v c text n clear d s = let e = s.0 in cc
+not_a_digit radix (Number top ∷ parts) v c text n clear d s = cc
+not_a_digit radix (Digit ∷ parts) v c text n clear d s = cc
+not_a_digit radix (Mark b ∷ parts) v c text n clear d s =
     let same : c ≡ b = begins_mark v c b parts text n s in
-    let big : digit_value b < 10 = subst (λ (x : ℕ). digit_value x < 10) same d in
+    let big : digit_value b < radix = subst (λ (x : ℕ). digit_value x < radix) same d in
+    grind (arith, nat_tests)
+not_a_digit radix (Group ∷ parts) v c text n clear d s = cc
+not_a_digit radix (Gap k ∷ parts) v c text n clear d s =
+    let same : c ≡ 58 = begins_gap v c k parts text n s in
+    let big : digit_value 58 < radix = subst (λ (x : ℕ). digit_value x < radix) same d in
     grind (arith, nat_tests)
 
 goes_on_digit : (parts : List Part) (v top m c : ℕ) (text : List ℕ) (n : ℕ) (whole : ℕ) (more rest : List ℕ)
-    → no_digit_next parts ≡ true → m ≤ top → top < 256 → digit_value c < 10
+    → no_digit_next 10 parts ≡ true → m ≤ top → top < 256 → digit_value c < 10
     → whole ≤ top → decimal whole ≡ decimal m ++ more → c ∷ text ≡ more ++ rest → Spells parts (v * 256 + whole) rest n
-    → (0 < m) × (m * 10 + digit_value c ≤ top) × GoesOn parts v top (m * 10 + digit_value c) text n
+    → (0 < m) × (m * 10 + digit_value c ≤ top) × NumberGoesOn parts v top (m * 10 + digit_value c) text n
 goes_on_digit parts v top m c text n whole [] rest clear hm ht d hw e et s =
-    absurd (not_a_digit parts (v * 256 + whole) c text n clear d (subst (λ (ts : List ℕ). Spells parts (v * 256 + whole) ts n) (sym et) s))
+    absurd (not_a_digit 10 parts (v * 256 + whole) c text n clear d (subst (λ (ts : List ℕ). Spells parts (v * 256 + whole) ts n) (sym et) s))
 goes_on_digit parts v top zero c text n whole (x ∷ xs) rest clear hm ht d hw e et s =
     absurd (no_leading_zero whole x xs (omega arith) (e ∙ ap (λ (ds : List ℕ). ds ++ x ∷ xs) (decimal_digit zero (omega arith))))
 goes_on_digit parts v top (suc k) c text n whole (x ∷ xs) rest clear hm ht d hw e et s =
@@ -159,13 +177,13 @@ goes_on_digit parts v top (suc k) c text n whole (x ∷ xs) rest clear hm ht d h
     let le = front_le whole (suc k * 10 + digit_value c) xs (omega arith) (omega arith) front in
     (omega arith, omega (arith, le), (whole, xs, rest, hw, front, back, s))
 
-pub digit_goes_on : (parts : List Part) (v top m c : ℕ) (text : List ℕ) (n : ℕ) → no_digit_next parts ≡ true → m ≤ top → top < 256 → digit_value c < 10
-    → GoesOn parts v top m (c ∷ text) n → (0 < m) × (m * 10 + digit_value c ≤ top) × GoesOn parts v top (m * 10 + digit_value c) text n
+pub digit_goes_on : (parts : List Part) (v top m c : ℕ) (text : List ℕ) (n : ℕ) → no_digit_next 10 parts ≡ true → m ≤ top → top < 256 → digit_value c < 10
+    → NumberGoesOn parts v top m (c ∷ text) n → (0 < m) × (m * 10 + digit_value c ≤ top) × NumberGoesOn parts v top (m * 10 + digit_value c) text n
 digit_goes_on parts v top m c text n clear hm ht d (whole, more, rest, hw, e, et, s) =
     goes_on_digit parts v top m c text n whole more rest clear hm ht d hw e et s
 
-pub grown_agrees : (parts : List Part) (v top m c : ℕ) → no_digit_next parts ≡ true → m ≤ top → top < 256 → digit_value c < 10 → 0 < m
-    → Agree (λ text n. GoesOn parts v top m (c ∷ text) n) (GoesOn parts v top (m * 10 + digit_value c))
+pub grown_agrees : (parts : List Part) (v top m c : ℕ) → no_digit_next 10 parts ≡ true → m ≤ top → top < 256 → digit_value c < 10 → 0 < m
+    → Agree (λ text n. NumberGoesOn parts v top m (c ∷ text) n) (NumberGoesOn parts v top (m * 10 + digit_value c))
 grown_agrees parts v top m c clear hm ht d pos text n = (
   λ g. (digit_goes_on parts v top m c text n clear hm ht d g).2,
   λ (whole, more, rest, hw, e, et, s).
@@ -186,20 +204,20 @@ goes_on_whole parts v top m text n whole (x ∷ xs) rest none hm ht hw e et s =
 
 pub whole_agrees : (parts : List Part) (v top m : ℕ) (text : List ℕ) (n : ℕ)
     → ((c : ℕ) (ts : List ℕ) → text ≡ c ∷ ts → digit_value c < 10 → ⊥) → m ≤ top → top < 256
-    → (GoesOn parts v top m text n → Spells parts (v * 256 + m) text n) × (Spells parts (v * 256 + m) text n → GoesOn parts v top m text n)
+    → (NumberGoesOn parts v top m text n → Spells parts (v * 256 + m) text n) × (Spells parts (v * 256 + m) text n → NumberGoesOn parts v top m text n)
 whole_agrees parts v top m text n none hm ht = (
   λ (whole, more, rest, hw, e, et, s). goes_on_whole parts v top m text n whole more rest none hm ht hw e et s,
   λ s. (m, [], text, hm, sym (append_none (decimal m)), refl, s),
 )
 
 pub ended_agrees : (parts : List Part) (v top m c : ℕ) → m ≤ top → top < 256 → (digit_value c < 10 → ⊥)
-    → Agree (λ text n. GoesOn parts v top m (c ∷ text) n) (λ text n. Spells parts (v * 256 + m) (c ∷ text) n)
+    → Agree (λ text n. NumberGoesOn parts v top m (c ∷ text) n) (λ text n. Spells parts (v * 256 + m) (c ∷ text) n)
 ended_agrees parts v top m c hm ht none text n =
     whole_agrees parts v top m (c ∷ text) n (λ x ts e d. let same : x ≡ c = cc in none (subst (λ (y : ℕ). digit_value y < 10) same d)) hm ht
 
 -- the end of the text
 
-and_left : (a b : Bool) → (a && b) ≡ true → a ≡ true
+pub and_left : (a b : Bool) → (a && b) ≡ true → a ≡ true
 and_left true b h = refl
 and_left false b h = cc
 
@@ -216,22 +234,31 @@ no_end (Number top ∷ parts) v n long clear (m, rest, hm, e, s) =
     omega (arith, some, length-append (decimal m) rest)
 no_end (Digit ∷ parts) v n long clear (c, rest, h, e, s) = cc
 no_end (Mark c ∷ parts) v n long clear (rest, e, s) = cc
+no_end (Group ∷ parts) v n long clear (ds, rest, some, few, h, e, s) =
+    let none : length (ds ++ rest) ≡ 0 = ap (λ (ts : List ℕ). length ts) (sym e) in
+    omega (arith, some, length-append ds rest)
+no_end (Gap k ∷ parts) v n long clear (rest, e, s) = cc
 
 -- room
+
+pub power_pos : (k : ℕ) → 1 ≤ 2 ^ k
+power_pos k = omega (arith, pow_pos k)
 
 pub count_pos : (parts : List Part) → 1 ≤ value_count parts
 count_pos [] = omega arith
 count_pos (Number top ∷ parts) = omega (arith, count_pos parts)
 count_pos (Digit ∷ parts) = omega (arith, count_pos parts)
 count_pos (Mark c ∷ parts) = count_pos parts
+count_pos (Group ∷ parts) = omega (arith, count_pos parts)
+count_pos (Gap k ∷ parts) = omega (arith, mul-le-mul_right (value_count parts) (power_pos (16 * k)), count_pos parts)
 
 -- a number below b behind the value takes one factor b of the room
-pub room_behind : (v b d k : ℕ) → d < b → (v + 1) * (b * k) ≤ 2 ^ 64 → (v * b + d + 1) * k ≤ 2 ^ 64
+pub room_behind : (v b d k : ℕ) → d < b → (v + 1) * (b * k) ≤ 2 ^ 128 → (v * b + d + 1) * k ≤ 2 ^ 128
 room_behind v b d k h room =
     let less : v * b + d + 1 ≤ (v + 1) * b = omega arith in
     omega (arith, room, mul-le-mul_right k less)
 
-pub room_fits : (v k : ℕ) → 1 ≤ k → (v + 1) * k ≤ 2 ^ 64 → v < 2 ^ 64
+pub room_fits : (v k : ℕ) → 1 ≤ k → (v + 1) * k ≤ 2 ^ 128 → v < 2 ^ 128
 room_fits v k h room = omega (arith, room, mul-le-mul_left (v + 1) h)
 
 -- what a byte leads to, with other words for what may come
@@ -239,11 +266,11 @@ pub takes_along : (P Q : List ℕ → ℕ → Type 0) (c : ℕ) (r : Option Read
 takes_along P Q c None same t = λ text n p. t text n ((same text n).0 p)
 takes_along P Q c (Some r) same t = (t.0, λ text n. (λ p. (t.1 text n).0 ((same text n).0 p), λ q. (same text n).1 ((t.1 text n).1 q)))
 
-pub grown_to : (parts : List Part) (v top m c top' m' : ℕ) → no_digit_next parts ≡ true → m ≤ top → top < 256 → digit_value c < 10 → 0 < m → top' ≡ top → m' ≡ m * 10 + digit_value c
-    → Agree (λ text n. GoesOn parts v top m (c ∷ text) n) (GoesOn parts v top' m')
+pub grown_to : (parts : List Part) (v top m c top' m' : ℕ) → no_digit_next 10 parts ≡ true → m ≤ top → top < 256 → digit_value c < 10 → 0 < m → top' ≡ top → m' ≡ m * 10 + digit_value c
+    → Agree (λ text n. NumberGoesOn parts v top m (c ∷ text) n) (NumberGoesOn parts v top' m')
 grown_to parts v top m c top' m' clear hm ht d pos et em =
-    subst (λ (t : ℕ). Agree (λ text n. GoesOn parts v top m (c ∷ text) n) (GoesOn parts v t m')) (sym et)
-    (subst (λ (k : ℕ). Agree (λ text n. GoesOn parts v top m (c ∷ text) n) (GoesOn parts v top k)) (sym em) (grown_agrees parts v top m c clear hm ht d pos))
+    subst (λ (t : ℕ). Agree (λ text n. NumberGoesOn parts v top m (c ∷ text) n) (NumberGoesOn parts v t m')) (sym et)
+    (subst (λ (k : ℕ). Agree (λ text n. NumberGoesOn parts v top m (c ∷ text) n) (NumberGoesOn parts v top k)) (sym em) (grown_agrees parts v top m c clear hm ht d pos))
 
 -- some text completes each reading
 pub completes : (parts : List Part) (v : ℕ) → (text : List ℕ) × ((n : ℕ) × Spells parts v text n)
@@ -252,27 +279,30 @@ completes [] v = ([], (v, (refl, refl)))
 completes (Number top ∷ parts) v = let (t, w) = completes parts (v * 256 + 0) in (decimal 0 ++ t, (w.0, (0, t, omega arith, refl, w.1)))
 completes (Digit ∷ parts) v = let (t, w) = completes parts (v * 16 + 0) in (48 ∷ t, (w.0, (48, t, omega arith, refl, w.1)))
 completes (Mark c ∷ parts) v = let (t, w) = completes parts v in (c ∷ t, (w.0, (t, refl, w.1)))
+completes (Group ∷ parts) v =
+    let (t, w) = completes parts (v * 2 ^ 16 + 0) in (48 ∷ t, (w.0, (48 ∷ [], t, omega arith, omega arith, (omega arith, tt), refl, w.1)))
+completes (Gap k ∷ parts) v = let (t, w) = completes parts (v * 2 ^ (16 * k)) in (58 ∷ t, (w.0, (t, refl, w.1)))
 
 pub and_right : (a b : Bool) → (a && b) ≡ true → b ≡ true
 and_right true b h = h
 and_right false b h = cc
 
-pub readied_number : (top v m : ℕ) (parts : List Part) → IsReading (Number top ∷ parts) v None → m ≤ top → IsReading parts v (Some (record { top = top; number = m }))
+pub readied_number : (top v m : ℕ) (parts : List Part) → IsReading (Number top ∷ parts) v Between → m ≤ top → IsReading parts v (InNumber (record { top = top; number = m }))
 readied_number top v m parts h hm = (and_right _ _ h.0, and_right _ _ (and_left _ _ h.0), hm, top_small top parts h.0, h.1)
 
 -- a number that is under way, taken as whole
-pub whole_fits : (parts : List Part) (v top m : ℕ) → IsReading parts v (Some (record { top = top; number = m })) → v * 256 + m < 2 ^ 64
+pub whole_fits : (parts : List Part) (v top m : ℕ) → IsReading parts v (InNumber (record { top = top; number = m })) → v * 256 + m < 2 ^ 128
 whole_fits parts v top m h = room_fits _ _ (count_pos parts) (room_behind v 256 m (value_count parts) (omega (arith, h)) h.4)
 
-pub whole_reading : (parts : List Part) (v top m : ℕ) → IsReading parts v (Some (record { top = top; number = m })) → IsReading parts (v * 256 + m) None
+pub whole_reading : (parts : List Part) (v top m : ℕ) → IsReading parts v (InNumber (record { top = top; number = m })) → IsReading parts (v * 256 + m) Between
 whole_reading parts v top m h = (h.0, room_behind v 256 m (value_count parts) (omega (arith, h)) h.4)
 
 pub ends_along : (P Q : List ℕ → ℕ → Type 0) (r : Option ℕ) → ((n : ℕ) → (P [] n → Q [] n) × (Q [] n → P [] n)) → Ends Q r → Ends P r
 ends_along P Q None same e = λ n p. e n ((same n).0 p)
 ends_along P Q (Some v) same e = λ n. (λ p. (e n).0 ((same n).0 p), λ q. (same n).1 ((e n).1 q))
 
-pub ends_number : (parts : List Part) (v top m : ℕ) (r : Option ℕ) → m ≤ top → top < 256 → Ends (Spells parts (v * 256 + m)) r → Ends (GoesOn parts v top m) r
-ends_number parts v top m r hm ht e = ends_along (GoesOn parts v top m) (Spells parts (v * 256 + m)) r (λ n. whole_agrees parts v top m [] n (λ c ts e d. cc) hm ht) e
+pub ends_number : (parts : List Part) (v top m : ℕ) (r : Option ℕ) → m ≤ top → top < 256 → Ends (Spells parts (v * 256 + m)) r → Ends (NumberGoesOn parts v top m) r
+ends_number parts v top m r hm ht e = ends_along (NumberGoesOn parts v top m) (Spells parts (v * 256 + m)) r (λ n. whole_agrees parts v top m [] n (λ c ts e d. cc) hm ht) e
 
 pub no_parts : (parts : List Part) (v c : ℕ) (text : List ℕ) (n : ℕ) → length parts ≡ 0 → Spells parts v (c ∷ text) n → ⊥
 unfolding Spells
@@ -284,21 +314,7 @@ unfolding Spells
 ended [] v n e = (λ s. s.1, λ same. (refl, same))
 ended (p ∷ parts) v n e = absurd (omega arith)
 
--- decimal numbers and marks of one list behind those of another
-pub split_parts : (front back : List Part) (v : ℕ) (text : List ℕ) (n : ℕ) → Spells (front ++ back) v text n
-    → (a : List ℕ) × (b : List ℕ) × (m : ℕ) × (text ≡ a ++ b) × Spells front v a m × Spells back m b n
-unfolding Spells
-split_parts [] back v text n s = ([], text, v, refl, (refl, refl), s)
-split_parts (Number top ∷ front) back v text n (m, rest, hm, e, s) =
-    let (a, b, k, ab, sa, sb) = split_parts front back (v * 256 + m) rest n s in
-    (decimal m ++ a, b, k, e ∙ ap (λ (ts : List ℕ). decimal m ++ ts) ab ∙ sym (append_assoc (decimal m) a b), (m, a, hm, refl, sa), sb)
-split_parts (Digit ∷ front) back v text n (c, rest, h, e, s) =
-    let (a, b, k, ab, sa, sb) = split_parts front back (v * 16 + digit_value c) rest n s in
-    (c ∷ a, b, k, e ∙ ap (λ (ts : List ℕ). c ∷ ts) ab, (c, a, h, refl, sa), sb)
-split_parts (Mark c ∷ front) back v text n (rest, e, s) =
-    let (a, b, k, ab, sa, sb) = split_parts front back v rest n s in
-    (c ∷ a, b, k, e ∙ ap (λ (ts : List ℕ). c ∷ ts) ab, (a, refl, sa), sb)
-
+-- a text of some parts, and behind it a text of others
 pub join_parts : (front back : List Part) (v : ℕ) (a b : List ℕ) (m n : ℕ) → Spells front v a m → Spells back m b n → Spells (front ++ back) v (a ++ b) n
 unfolding Spells
 join_parts [] back v a b m n sa sb =
@@ -310,3 +326,6 @@ join_parts (Number top ∷ front) back v a b m n (k, rest, hk, e, sa) sb =
 join_parts (Digit ∷ front) back v a b m n (c, rest, h, e, sa) sb =
     (c, rest ++ b, h, ap (λ (ts : List ℕ). ts ++ b) e, join_parts front back (v * 16 + digit_value c) rest b m n sa sb)
 join_parts (Mark c ∷ front) back v a b m n (rest, e, sa) sb = (rest ++ b, ap (λ (ts : List ℕ). ts ++ b) e, join_parts front back v rest b m n sa sb)
+join_parts (Group ∷ front) back v a b m n (ds, rest, some, few, h, e, sa) sb =
+    (ds, rest ++ b, some, few, h, ap (λ (ts : List ℕ). ts ++ b) e ∙ append_assoc ds rest b, join_parts front back (v * 2 ^ 16 + digits_value 16 ds) rest b m n sa sb)
+join_parts (Gap k ∷ front) back v a b m n (rest, e, sa) sb = (rest ++ b, ap (λ (ts : List ℕ). ts ++ b) e, join_parts front back (v * 2 ^ (16 * k)) rest b m n sa sb)

@@ -21,6 +21,29 @@ impl Model for Addr4 {
     ghost inverse = { λ n. record { 0 = n } };
 }
 
+/// An IPv6 address (RFC 4291), the number of its 128 bits. Contracts see it as that number.
+#[derive(Clone, Copy, Debug, PartialEq, Eq, PartialOrd, Ord, Hash)]
+pub struct Addr6(pub u128);
+
+impl Model for Addr6 {
+    ghost use Rattle.std.specs.Prelude.{ℕ, ◌<◌, ◌^◌};
+
+    ghost Value = { ℕ };
+
+    ghost view = { λ a. a.0 };
+
+    ghost invariant = { λ a. a.0 < 2 ^ 128 };
+
+    ghost inverse = { λ n. record { 0 = n } };
+}
+
+/// An address of either version. Contracts see the version and the number.
+#[derive(Clone, Copy, Debug, PartialEq, Eq, PartialOrd, Ord, Hash)]
+pub enum Addr {
+    V4(Addr4),
+    V6(Addr6),
+}
+
 /// A MAC address (EUI-48), the number of its 48 bits. Contracts see it as that number.
 #[derive(Clone, Copy, Debug, PartialEq, Eq, PartialOrd, Ord, Hash)]
 pub struct Mac(pub u64);
@@ -40,20 +63,19 @@ impl Model for Mac {
 /// An address with the length of a prefix, as it was written (RFC 4632): 10.0.0.5/24.
 #[derive(Clone, Copy, Debug, PartialEq, Eq)]
 pub struct Cidr {
-    pub addr: Addr4,
-    /// In bits, at most 32.
+    pub addr: Addr,
+    /// In bits, at most 32 or 128, by the version.
     pub len: u8,
 }
 
 impl Model for Cidr {
-    ghost use Rattle.std.specs.Prelude.{◌≤◌};
-    ghost use Rattle.net_addr.specs.Prefixes.{Written};
+    ghost use Rattle.net_addr.specs.Prefixes.{Written, IsWritten};
 
     ghost Value = { Written };
 
     ghost view = { λ c. record { addr = c.addr; len = c.len } };
 
-    ghost invariant = { λ c. c.len ≤ 32 };
+    ghost invariant = { λ c. IsWritten (record { addr = c.addr; len = c.len }) };
 
     ghost inverse = { λ w. record { addr = w.addr; len = w.len } };
 }
@@ -61,16 +83,17 @@ impl Model for Cidr {
 /// A prefix: the addresses that agree with its base in their first bits. The other bits of the
 /// base are zero.
 #[derive(Clone, Copy, Debug, PartialEq, Eq)]
-pub struct Prefix4 {
-    pub base: Addr4,
-    /// In bits, at most 32.
+pub struct Prefix {
+    pub base: Addr,
+    /// In bits, at most 32 or 128, by the version.
     pub len: u8,
 }
 
-impl Model for Prefix4 {
-    ghost use Rattle.net_addr.specs.Prefixes.{Prefix, IsPrefix};
+impl Model for Prefix {
+    ghost use Rattle.net_addr.specs.Prefixes as prefixes;
+    ghost use Rattle.net_addr.specs.Prefixes.{IsPrefix};
 
-    ghost Value = { Prefix };
+    ghost Value = { prefixes.Prefix };
 
     ghost view = { λ p. record { base = p.base; len = p.len } };
 
@@ -79,22 +102,22 @@ impl Model for Prefix4 {
     ghost inverse = { λ v. record { base = v.base; len = v.len } };
 }
 
-/// The addresses from the first to the last, which isn't below the first.
+/// The addresses of one version from the first to the last, which isn't below the first.
 #[derive(Clone, Copy, Debug, PartialEq, Eq)]
-pub struct Span4 {
-    pub first: Addr4,
-    pub last: Addr4,
+pub struct Span {
+    pub first: Addr,
+    pub last: Addr,
 }
 
-impl Model for Span4 {
-    ghost use Rattle.std.specs.Prelude.{◌≤◌};
-    ghost use Rattle.net_addr.specs.Prefixes.{Span};
+impl Model for Span {
+    ghost use Rattle.net_addr.specs.Prefixes as prefixes;
+    ghost use Rattle.net_addr.specs.Prefixes.{IsSpan};
 
-    ghost Value = { Span };
+    ghost Value = { prefixes.Span };
 
     ghost view = { λ s. record { first = s.first; last = s.last } };
 
-    ghost invariant = { λ s. s.first ≤ s.last };
+    ghost invariant = { λ s. IsSpan (record { first = s.first; last = s.last }) };
 
     ghost inverse = { λ v. record { first = v.first; last = v.last } };
 }
@@ -105,14 +128,20 @@ impl Copies for Addr4 {
     }
 }
 
-impl Copies for Prefix4 {
-    fn copy(&self, _alloc: Global) -> Result<Prefix4, OutOfMemory> {
+impl Copies for Addr {
+    fn copy(&self, _alloc: Global) -> Result<Addr, OutOfMemory> {
         Ok(*self)
     }
 }
 
-impl Copies for Span4 {
-    fn copy(&self, _alloc: Global) -> Result<Span4, OutOfMemory> {
+impl Copies for Prefix {
+    fn copy(&self, _alloc: Global) -> Result<Prefix, OutOfMemory> {
+        Ok(*self)
+    }
+}
+
+impl Copies for Span {
+    fn copy(&self, _alloc: Global) -> Result<Span, OutOfMemory> {
         Ok(*self)
     }
 }
@@ -123,20 +152,26 @@ impl Same for Addr4 {
     }
 }
 
+impl Same for Addr {
+    fn is_same(&self, other: &Addr) -> bool {
+        *self == *other
+    }
+}
+
 impl Same for Mac {
     fn is_same(&self, other: &Mac) -> bool {
         *self == *other
     }
 }
 
-impl Same for Prefix4 {
-    fn is_same(&self, other: &Prefix4) -> bool {
+impl Same for Prefix {
+    fn is_same(&self, other: &Prefix) -> bool {
         *self == *other
     }
 }
 
-impl Same for Span4 {
-    fn is_same(&self, other: &Span4) -> bool {
+impl Same for Span {
+    fn is_same(&self, other: &Span) -> bool {
         *self == *other
     }
 }

@@ -1,10 +1,4 @@
-//! Texts, lists and addresses, and want of memory.
-//!
-//! The types that every other crate is made of; it stands on none. A `Text`, a `Bytes` and a `Seq`
-//! are seen as lists, an address as its number, a prefix as its base and length. `Copies` makes an
-//! equal value, `Same` tells whether two values are equal. Addresses, MACs and prefixes are read
-//! exactly where the grammar has their text, printed as the one text that reads back, and compared
-//! and counted by quotients, so that no crate above does so by itself. Only `print` takes memory.
+//! Addresses.
 #![tactic(auto)]
 
 mod address;
@@ -12,12 +6,14 @@ mod equal;
 mod memory;
 mod prefix;
 mod print;
+mod print6;
 mod read;
+mod read6;
 mod seq;
 mod spelling;
 mod text;
 
-pub use address::{Addr4, Cidr, Mac, Prefix4, Span4};
+pub use address::{Addr, Addr4, Addr6, Cidr, Mac, Prefix, Span};
 pub use equal::{Copies, Same};
 pub use memory::OutOfMemory;
 pub use seq::{Names, Numbers, Prefixes, Seq, Spans};

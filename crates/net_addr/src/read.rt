@@ -1,11 +1,15 @@
-ghost use Rattle.std.specs.Prelude.{◌≡◌, ℕ, IfOk, IfErr, OnErr};
+//! Texts of addresses, MACs and prefixes.
+ghost use Rattle.std.specs.Prelude.{◌≡◌, ◌↔◌, ℕ, ◌<◌, ◌≤◌, [], ◌∷◌, length, slice_index, IfOk, IfErr, OnErr};
+ghost use Rattle.net_addr.specs.Addresses.{width};
 ghost use Rattle.net_addr.specs.Prefixes.{Written};
-ghost use Rattle.net_addr.specs.Spelling.{SpellsAddress, SpellsMac, SpellsCidr, IsAddressText, IsMacText, IsCidrText, IsLongestStart};
+ghost use Rattle.net_addr.specs.Spelling.{Spells, SpellsAddr, SpellsAddress, SpellsCidr, SpellsMac, IsAddrText, IsAddressText, IsCidrText, IsLongestStart, IsMacText, IsTextOf};
+ghost use Rattle.net_addr.specs.declared.address.Addr.{Addr};
+ghost use Rattle.net_addr.specs.declared.spelling.Part.TheVariants.{Number};
 
-use crate::address::{Addr4, Cidr, Mac};
+use crate::address::{Addr, Addr4, Addr6, Cidr, Mac};
 use crate::spelling::{BadAddress, Part, read_parts};
 
-const ADDRESS: [Part; 7] = [
+pub(crate) const ADDRESS: [Part; 7] = [
     Part::Number(255),
     Part::Mark(b'.'),
     Part::Number(255),
@@ -13,18 +17,6 @@ const ADDRESS: [Part; 7] = [
     Part::Number(255),
     Part::Mark(b'.'),
     Part::Number(255),
-];
-
-const CIDR: [Part; 9] = [
-    Part::Number(255),
-    Part::Mark(b'.'),
-    Part::Number(255),
-    Part::Mark(b'.'),
-    Part::Number(255),
-    Part::Mark(b'.'),
-    Part::Number(255),
-    Part::Mark(b'/'),
-    Part::Number(32),
 ];
 
 const MAC: [Part; 17] = [
@@ -73,24 +65,77 @@ impl Mac {
         ensures at { IfErr result (λ e. IsLongestStart IsMacText text.now e.at) }
     {
         let value = read_parts(&MAC, text)?;
-        Ok(Mac(value))
+        Ok(Mac(value as u64))
     }
 }
 
+impl Addr {
+    /// Reads an address of either version, as `Addr4::read` and `Addr6::read` do: no text is of
+    /// both. Takes no memory; its cost grows with the text up to the first bad byte.
+    pub fn read(text: &[u8]) -> Result<Addr, BadAddress>
+        ensures ok { IfOk result (λ a. SpellsAddr text.now a) }
+        ensures only { IfOk result (λ a. (n : Addr) → SpellsAddr text.now n → n ≡ a) }
+        ensures refused { OnErr result (¬ (IsAddrText text.now)) }
+        ensures at { IfErr result (λ e. IsLongestStart IsAddrText text.now e.at) }
+    {
+        let four = match Addr4::read(text) {
+            Ok(address) => return Ok(Addr::V4(address)),
+            Err(bad) => bad.at,
+        };
+        match Addr6::read(text) {
+            Ok(address) => Ok(Addr::V6(address)),
+            Err(bad) => Err(BadAddress {
+                at: four.max(bad.at),
+            }),
+        }
+    }
+}
+
+// The place of the first slash, or the length of a text without one.
+fn slash_in(text: &[u8]) -> usize
+    ensures within { result ≤ length text.now }
+    ensures before { (k : ℕ) → k < result → ¬ (slice_index text.now k ≡ 47) }
+    ensures found { result < length text.now → slice_index text.now result ≡ 47 }
+{
+    for (place, c) in text.iter().enumerate() {
+        if *c == b'/' {
+            return place;
+        }
+    }
+    text.len()
+}
+
+// A decimal number to a bound.
+fn read_number(top: u8, text: &[u8]) -> Result<u8, BadAddress>
+    ensures ok { IfOk result (λ v. (n : ℕ) → Spells (Number top ∷ []) 0 text.now n ↔ (n ≡ v)) }
+    ensures refused { OnErr result (¬ (IsTextOf (Number top ∷ []) text.now)) }
+    ensures at { IfErr result (λ e. IsLongestStart (IsTextOf (Number top ∷ [])) text.now e.at) }
+{
+    let value = read_parts(&[Part::Number(top)], text)?;
+    Ok(value as u8)
+}
+
 impl Cidr {
-    /// Reads an address, `/` and a number to 32 without leading zeros (RFC 4632, 3.1). Takes no
-    /// memory; its cost grows with the text up to the first bad byte.
+    /// Reads an address, `/` and a number to 32 or 128 without leading zeros (RFC 4632, 3.1). Takes
+    /// no memory; its cost grows with the text up to the first bad byte.
     pub fn read(text: &[u8]) -> Result<Cidr, BadAddress>
         ensures ok { IfOk result (λ c. SpellsCidr text.now c) }
         ensures only { IfOk result (λ c. (w : Written) → SpellsCidr text.now w → w ≡ c) }
         ensures refused { OnErr result (¬ (IsCidrText text.now)) }
         ensures at { IfErr result (λ e. IsLongestStart IsCidrText text.now e.at) }
     {
-        let value = read_parts(&CIDR, text)?;
-        Ok(Cidr {
-            addr: Addr4((value / 256) as u32),
-            len: (value % 256) as u8,
-        })
+        let slash = slash_in(text);
+        let addr = Addr::read(&text[..slash])?;
+        if slash == text.len() {
+            return Err(BadAddress { at: slash });
+        }
+        let behind = slash + 1;
+        match read_number(addr.width(), &text[behind..]) {
+            Ok(len) => Ok(Cidr { addr, len }),
+            Err(bad) => Err(BadAddress {
+                at: behind + bad.at,
+            }),
+        }
     }
 }
 
@@ -124,8 +169,8 @@ mod tests {
         ("fa:16:3e:00:00:011", Err(BadAddress { at: 17 })),
     ];
 
-    // The address and the length, or the place.
-    const CIDRS: [(&str, Result<(u32, u8), usize>); 10] = [
+    // The number of an address and the length, or the place.
+    const CIDRS: [(&str, Result<(u128, u8), usize>); 16] = [
         ("0.0.0.0/0", Ok((0, 0))),
         ("255.255.255.255/32", Ok((0xffff_ffff, 32))),
         ("10.0.0.5/24", Ok((0x0a00_0005, 24))),
@@ -136,6 +181,15 @@ mod tests {
         ("10.0.0.0/024", Err(10)),
         ("10.0.0.0/320", Err(11)),
         ("10.0.0.0/24 ", Err(11)),
+        (
+            "2001:db8::/32",
+            Ok((0x2001_0db8_0000_0000_0000_0000_0000_0000, 32)),
+        ),
+        ("::/128", Ok((0, 128))),
+        ("::/129", Err(5)),
+        ("::", Err(2)),
+        ("1::/0128", Err(5)),
+        (":/1", Err(1)),
     ];
 
     #[test]
@@ -152,11 +206,18 @@ mod tests {
         }
     }
 
+    fn number(address: &Addr) -> u128 {
+        match *address {
+            Addr::V4(x) => u128::from(x.0),
+            Addr::V6(x) => x.0,
+        }
+    }
+
     #[test]
     fn cidrs(rt: HostRuntime) {
         for (text, wanted) in CIDRS {
             match Cidr::read(text.as_bytes()) {
-                Ok(cidr) => assert_eq!(rt; Ok((cidr.addr.0, cidr.len)), wanted, "{text}"),
+                Ok(cidr) => assert_eq!(rt; Ok((number(&cidr.addr), cidr.len)), wanted, "{text}"),
                 Err(bad) => assert_eq!(rt; Err(bad.at), wanted, "{text}"),
             }
         }

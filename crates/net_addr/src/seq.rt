@@ -1,6 +1,6 @@
 ghost use Rattle.std.specs.Prelude.{◌≡◌, ◌↔◌, [], ◌∷◌, ◌++◌, length, IfOk, IsTrue, OnOk, OnErr};
 
-use crate::address::{Prefix4, Span4};
+use crate::address::{Prefix, Span};
 use crate::equal::{Copies, Same};
 use crate::memory::OutOfMemory;
 use crate::text::Text;
@@ -20,10 +20,10 @@ pub type Names = Seq<Text>;
 pub type Numbers = Seq<u64>;
 
 /// Prefixes in a row.
-pub type Prefixes = Seq<Prefix4>;
+pub type Prefixes = Seq<Prefix>;
 
 /// Spans in a row.
-pub type Spans = Seq<Span4>;
+pub type Spans = Seq<Span>;
 
 impl<T> Model for Seq<T> {
     ghost use Rattle.std.specs.Prelude.{List};

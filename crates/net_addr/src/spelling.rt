@@ -1,8 +1,9 @@
-ghost use Rattle.std.specs.Prelude.{◌≡◌, ◌↔◌, ℕ, ◌+◌, ◌*◌, ◌<◌, ◌≤◌, [], ◌∷◌, true, MatchOption, IfOk, IfErr, OnErr};
+ghost use Rattle.std.specs.Prelude.{◌≡◌, ◌↔◌, ℕ, ◌+◌, ◌*◌, ◌^◌, ◌<◌, ◌≤◌, [], ◌∷◌, true, MatchOption, IfOk, IfErr, OnErr};
 ghost use Rattle.std.specs.Char.{digit_value};
 ghost use Rattle.net_addr.specs.Spelling.{Spells, IsTextOf, IsLongestStart};
-ghost use Rattle.net_addr.specs.declared.spelling.Part.TheVariants.{Number, Digit, Mark};
-ghost use Rattle.net_addr.specs.Reading.{Ends, GoesOn, IsReading, Remains, Takes, is_clear, is_readable};
+ghost use Rattle.net_addr.specs.declared.spelling.Part.TheVariants.{Number, Digit, Mark, Group, Gap};
+ghost use Rattle.net_addr.specs.declared.spelling.State.TheVariants.{Between, InNumber, InGroup};
+ghost use Rattle.net_addr.specs.Reading.{Ends, GroupGoesOn, IsReading, NumberGoesOn, Remains, Takes, is_clear, is_readable};
 
 use std::error::Error;
 use std::fmt;
@@ -32,6 +33,10 @@ pub(crate) enum Part {
     Digit,
     // This byte.
     Mark(u8),
+    // One to four hexadecimal digits, in either case: 16 bits.
+    Group,
+    // A colon that stands for so many groups of zeros.
+    Gap(u8),
 }
 
 // A decimal number under way: its bound, and the number that its digits write so far.
@@ -41,13 +46,28 @@ struct Decimal {
     number: u8,
 }
 
+// A group under way: how many digits it has, and the number that they write.
+#[derive(Clone, Copy)]
+struct Digits {
+    count: u8,
+    number: u16,
+}
+
+// Where a reading stands: between two parts, or in one that may go on.
+#[derive(Clone, Copy)]
+enum State {
+    Between,
+    InNumber(Decimal),
+    InGroup(Digits),
+}
+
 // How far a text has been read: the parts that come next, the value of those that were read, and
-// the number under way before them.
+// the part under way before them.
 #[derive(Clone, Copy)]
 struct Reading<'a> {
     parts: &'a [Part],
-    value: u64,
-    decimal: Option<Decimal>,
+    value: u128,
+    state: State,
 }
 
 // The digit that a byte writes, in either case.
@@ -61,8 +81,8 @@ fn digit(c: u8, radix: u8) -> Option<u8>
 }
 
 // A decimal number's first byte.
-fn begin_number<'a>(top: u8, rest: &'a [Part], value: u64, c: u8) -> Option<Reading<'a>>
-    requires { IsReading (Number top ∷ rest.now) value None }
+fn begin_number<'a>(top: u8, rest: &'a [Part], value: u128, c: u8) -> Option<Reading<'a>>
+    requires { IsReading (Number top ∷ rest.now) value Between }
     ensures { Takes (Spells (Number top ∷ rest.now) value) c result }
 {
     let number = digit(c, 10)?;
@@ -72,27 +92,27 @@ fn begin_number<'a>(top: u8, rest: &'a [Part], value: u64, c: u8) -> Option<Read
     Some(Reading {
         parts: rest,
         value,
-        decimal: Some(Decimal { top, number }),
+        state: State::InNumber(Decimal { top, number }),
     })
 }
 
 // A hexadecimal digit's byte.
-fn begin_digit<'a>(rest: &'a [Part], value: u64, c: u8) -> Option<Reading<'a>>
-    requires { IsReading (Digit ∷ rest.now) value None }
+fn begin_digit<'a>(rest: &'a [Part], value: u128, c: u8) -> Option<Reading<'a>>
+    requires { IsReading (Digit ∷ rest.now) value Between }
     ensures { Takes (Spells (Digit ∷ rest.now) value) c result }
 {
     let digit = digit(c, 16)?;
     Some(Reading {
         parts: rest,
-        value: value * 16 + u64::from(digit),
-        decimal: None,
+        value: value * 16 + u128::from(digit),
+        state: State::Between,
     })
 }
 
 // A mark's byte.
 #[tactic(auto, using(crate::proofs::SpellingLemmas::mark_agrees, crate::proofs::SpellingLemmas::begins_mark))]
-fn begin_mark<'a>(mark: u8, rest: &'a [Part], value: u64, c: u8) -> Option<Reading<'a>>
-    requires { IsReading (Mark mark ∷ rest.now) value None }
+fn begin_mark<'a>(mark: u8, rest: &'a [Part], value: u128, c: u8) -> Option<Reading<'a>>
+    requires { IsReading (Mark mark ∷ rest.now) value Between }
     ensures { Takes (Spells (Mark mark ∷ rest.now) value) c result }
 {
     if c != mark {
@@ -101,13 +121,56 @@ fn begin_mark<'a>(mark: u8, rest: &'a [Part], value: u64, c: u8) -> Option<Readi
     Some(Reading {
         parts: rest,
         value,
-        decimal: None,
+        state: State::Between,
+    })
+}
+
+// A group's first byte.
+fn begin_group<'a>(rest: &'a [Part], value: u128, c: u8) -> Option<Reading<'a>>
+    requires { IsReading (Group ∷ rest.now) value Between }
+    ensures { Takes (Spells (Group ∷ rest.now) value) c result }
+{
+    let digit = digit(c, 16)?;
+    let digits = Digits {
+        count: 1,
+        number: u16::from(digit),
+    };
+    Some(Reading {
+        parts: rest,
+        value,
+        state: State::InGroup(digits),
+    })
+}
+
+// The value with so many groups of zeros behind it.
+fn with_zeros(value: u128, count: u8) -> u128
+    requires { value * 2 ^ (16 * count) < 2 ^ 128 }
+    ensures { result ≡ value * 2 ^ (16 * count) }
+{
+    if value == 0 {
+        return 0;
+    }
+    value << (16 * u32::from(count))
+}
+
+// A gap's byte.
+fn begin_gap<'a>(count: u8, rest: &'a [Part], value: u128, c: u8) -> Option<Reading<'a>>
+    requires { IsReading (Gap count ∷ rest.now) value Between }
+    ensures { Takes (Spells (Gap count ∷ rest.now) value) c result }
+{
+    if c != b':' {
+        return None;
+    }
+    Some(Reading {
+        parts: rest,
+        value: with_zeros(value, count),
+        state: State::Between,
     })
 }
 
 // The first byte of the parts.
-fn begin<'a>(parts: &'a [Part], value: u64, c: u8) -> Option<Reading<'a>>
-    requires { IsReading parts.now value None }
+fn begin<'a>(parts: &'a [Part], value: u128, c: u8) -> Option<Reading<'a>>
+    requires { IsReading parts.now value Between }
     ensures { Takes (Spells parts.now value) c result }
 {
     let (part, rest) = parts.split_first()?;
@@ -115,6 +178,8 @@ fn begin<'a>(parts: &'a [Part], value: u64, c: u8) -> Option<Reading<'a>>
         Part::Number(top) => begin_number(*top, rest, value, c),
         Part::Digit => begin_digit(rest, value, c),
         Part::Mark(mark) => begin_mark(*mark, rest, value, c),
+        Part::Group => begin_group(rest, value, c),
+        Part::Gap(count) => begin_gap(*count, rest, value, c),
     }
 }
 
@@ -135,34 +200,57 @@ fn grow(decimal: Decimal, digit: u8) -> Option<Decimal>
 }
 
 // One more byte behind a number under way.
-fn go_on<'a>(parts: &'a [Part], value: u64, decimal: Decimal, c: u8) -> Option<Reading<'a>>
-    requires { IsReading parts.now value (Some decimal) }
-    ensures { Takes (GoesOn parts.now value decimal.top decimal.number) c result }
+fn go_on_number<'a>(parts: &'a [Part], value: u128, decimal: Decimal, c: u8) -> Option<Reading<'a>>
+    requires { IsReading parts.now value (InNumber decimal) }
+    ensures { Takes (NumberGoesOn parts.now value decimal.top decimal.number) c result }
 {
     let Some(digit) = digit(c, 10) else {
-        return begin(parts, value * 256 + u64::from(decimal.number), c);
+        return begin(parts, value * 256 + u128::from(decimal.number), c);
     };
     let grown = grow(decimal, digit)?;
     Some(Reading {
         parts,
         value,
-        decimal: Some(grown),
+        state: State::InNumber(grown),
+    })
+}
+
+// One more byte behind a group under way.
+fn go_on_group<'a>(parts: &'a [Part], value: u128, digits: Digits, c: u8) -> Option<Reading<'a>>
+    requires { IsReading parts.now value (InGroup digits) }
+    ensures { Takes (GroupGoesOn parts.now value digits.count digits.number) c result }
+{
+    let Some(digit) = digit(c, 16) else {
+        return begin(parts, value * 65536 + u128::from(digits.number), c);
+    };
+    if digits.count == 4 {
+        return None;
+    }
+    let grown = Digits {
+        count: digits.count + 1,
+        number: digits.number * 16 + u16::from(digit),
+    };
+    Some(Reading {
+        parts,
+        value,
+        state: State::InGroup(grown),
     })
 }
 
 // One more byte.
 fn step<'a>(reading: Reading<'a>, c: u8) -> Option<Reading<'a>>
-    requires { IsReading reading.parts.now reading.value reading.decimal }
-    ensures { Takes (Remains reading.entry.parts.now reading.entry.value reading.entry.decimal) c result }
+    requires { IsReading reading.parts.now reading.value reading.state }
+    ensures { Takes (Remains reading.entry.parts.now reading.entry.value reading.entry.state) c result }
 {
-    match reading.decimal {
-        None => begin(reading.parts, reading.value, c),
-        Some(decimal) => go_on(reading.parts, reading.value, decimal, c),
+    match reading.state {
+        State::Between => begin(reading.parts, reading.value, c),
+        State::InNumber(decimal) => go_on_number(reading.parts, reading.value, decimal, c),
+        State::InGroup(digits) => go_on_group(reading.parts, reading.value, digits, c),
     }
 }
 
 // The value, where no parts are left.
-fn end(parts: &[Part], value: u64) -> Option<u64>
+fn end(parts: &[Part], value: u128) -> Option<u128>
     requires { is_clear parts.now ≡ true }
     ensures { Ends (Spells parts.now value) result }
 {
@@ -173,21 +261,25 @@ fn end(parts: &[Part], value: u64) -> Option<u64>
 }
 
 // The value of the whole, where the text may end here.
-fn finish(reading: Reading<'_>) -> Option<u64>
-    requires { IsReading reading.parts.now reading.value reading.decimal }
-    ensures { Ends (Remains reading.entry.parts.now reading.entry.value reading.entry.decimal) result }
+fn finish(reading: Reading<'_>) -> Option<u128>
+    requires { IsReading reading.parts.now reading.value reading.state }
+    ensures { Ends (Remains reading.entry.parts.now reading.entry.value reading.entry.state) result }
 {
-    match reading.decimal {
-        None => end(reading.parts, reading.value),
-        Some(decimal) => {
-            let value = reading.value * 256 + u64::from(decimal.number);
+    match reading.state {
+        State::Between => end(reading.parts, reading.value),
+        State::InNumber(decimal) => {
+            let value = reading.value * 256 + u128::from(decimal.number);
+            end(reading.parts, value)
+        }
+        State::InGroup(digits) => {
+            let value = reading.value * 65536 + u128::from(digits.number);
             end(reading.parts, value)
         }
     }
 }
 
 // The value of a text of these parts.
-pub(crate) fn read_parts(parts: &[Part], text: &[u8]) -> Result<u64, BadAddress>
+pub(crate) fn read_parts(parts: &[Part], text: &[u8]) -> Result<u128, BadAddress>
     requires { is_readable parts.now ≡ true }
     ensures ok { IfOk result (λ v. (n : ℕ) → Spells parts.now 0 text.now n ↔ (n ≡ v)) }
     ensures refused { OnErr result (¬ (IsTextOf parts.now text.now)) }
@@ -196,7 +288,7 @@ pub(crate) fn read_parts(parts: &[Part], text: &[u8]) -> Result<u64, BadAddress>
     let mut reading = Reading {
         parts,
         value: 0,
-        decimal: None,
+        state: State::Between,
     };
     for (at, c) in text.iter().enumerate() {
         let Some(next) = step(reading, *c) else {

@@ -2,9 +2,9 @@
 use Rattle.std.specs.Prelude.{List, [], ◌∷◌, Option, Some, None, option_to_list}
 use Rattle.api_types.specs.Ident.{Ident}
 use Rattle.plane_types.specs.Meaning.{Fate as TheFate, Onward, Trace as TheTrace, ended, with_fresh, with_path}
-use Rattle.plane_types.specs.RouterRows.{leg_of}
+use Rattle.api_types.specs.RouterRows.{leg_of}
 use Rattle.plane_types.specs.Routing.{RouteEnds, RouteSends, Routed as TheRouted}
-use Rattle.packet_rules.specs.Parts.{packet_of}
+use Rattle.plane_types.specs.Parts.{packet_of}
 use Rattle.net_meaning.specs.declared.router.Routed.{Routed}
 use Rattle.net_meaning.specs.declared.router.Routed.TheVariants.{Ends as EndsThere, Sends}
 use Rattle.net_meaning.specs.declared.turn.Fate.{Fate}

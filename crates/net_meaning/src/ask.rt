@@ -2,10 +2,10 @@ ghost use Rattle.std.specs.Prelude.{◌≡◌, IfOk};
 ghost use Rattle.plane_types.specs.Meaning.{answered as lease_answer, asked as address_asked, lease_asked as lease_asked_of, leased as leased_by, out_of as out_or_dropped};
 ghost use Rattle.plane_types.specs.Packets.{address_ask, lease_ask};
 
-use api_types::{Id, PortRow, Rows};
-use net_addr::{Addr4, Mac, OutOfMemory, Text};
+use api_types::{Id, Lease, PortRow, Rows};
+use net_addr::{Addr, Addr4, Mac, OutOfMemory, Text};
 use plane_rows::{dhcp_port, has_wire, holder, joined_with, lease_for, port_at};
-use plane_types::{AskAnswer, DropCause, Frame, Lease, Outcome, Toward};
+use plane_types::{AskAnswer, DropCause, Frame, Outcome, Toward};
 use std::alloc::Global;
 
 /// Out on a network that a physical one carries, else dropped.
@@ -41,15 +41,15 @@ pub(crate) fn asked(
 ) -> Outcome
     ensures { result ≡ address_asked rows.now network host.now (address_ask src from to) }
 {
-    match joined_with(rows, host, holder(rows, network, to)) {
+    match joined_with(rows, host, holder(rows, network, &Addr::V4(to))) {
         Some(port) => Outcome::Answered(AskAnswer::Arp {
-            address: to,
+            address: Addr::V4(to),
             mac: port.mac,
         }),
         None => out_of(
             rows,
             network,
-            Toward::Address(to),
+            Toward::Address(Addr::V4(to)),
             Frame::ArpAsk { src, from, to },
             DropCause::NoHolder,
         ),

@@ -2,24 +2,25 @@ ghost use Rattle.std.specs.Prelude.{◌≡◌, ◌++◌, [], ◌∷◌, IfOk, if
 ghost use Rattle.api_types.specs.Table.{row_of};
 ghost use Rattle.api_types.specs.declared.group.Direction.TheVariants.{Egress as Outward};
 ghost use Rattle.api_types.specs.declared.port.PortRow.{PortRow as ThePort};
-ghost use Rattle.plane_types.specs.Meaning.{dropped as dropped_by, from_live as from_live_by, from_network as from_network_by, from_port as from_port_by, from_sender as from_sender_by, from_wire as from_wire_by, got as got_by, life_of, network_on as network_on_wire, none_so_far as nothing_so_far, on_path, rows_fate, rows_passage, sent_on as sent_on_by, sent_out as sent_out_by, wire_packet as wire_packet_by};
-ghost use Rattle.plane_types.specs.Holders.{port_at as port_by_mac};
+ghost use Rattle.plane_types.specs.Meaning.{dropped as dropped_by, from_live as from_live_by, from_network as from_network_by, from_port as from_port_by, from_sender as from_sender_by, from_wire as from_wire_by, got as got_by, life_of, none_so_far as nothing_so_far, on_path, rows_fate, rows_passage, sent_on as sent_on_by, sent_out as sent_out_by, wire_packet as wire_packet_by};
+ghost use Rattle.api_types.specs.Wires.{network_on as network_on_wire};
+ghost use Rattle.api_types.specs.Holders.{port_at as port_by_mac};
 ghost use Rattle.plane_types.specs.Packets.{is_unsupported as unsupported};
 ghost use Rattle.plane_types.specs.Told.{of_nobody, rows_verdict};
 ghost use Rattle.plane_types.specs.declared.verdict.DropCause.TheVariants.{Unsupported as DropUnsupported};
-ghost use Rattle.packet_rules.specs.Parts.{packet_of};
+ghost use Rattle.plane_types.specs.Parts.{packet_of};
 ghost use Rattle.net_meaning.specs.Turns.{fate_of, trace_of};
 
 use crate::ask::{asked, lease_asked, leased, out_of};
 use crate::guard::passes_guard;
 use crate::passage::passage_at;
 use crate::turn::{Fate, Trace, got};
-use api_types::{Direction, Id, NetworkRow, PortRow, Rows};
-use net_addr::{OutOfMemory, Seq, Text};
-use packet_rules::{Packet, is_unsupported};
-use plane_rows::{dhcp_port, holder, is_live, is_router_port, joined_with, network_on, port_at};
+use api_types::{Direction, Id, NetworkRow, PortRow, Rows, is_router_port};
+use net_addr::{Addr, OutOfMemory, Seq, Text};
+use plane_rows::{dhcp_port, holder, is_live, joined_with, network_on, port_at};
 use plane_types::{
-    AskAnswer, DropCause, Entries, Entry, Event, Frame, Made, Outcome, Toward, Verdict,
+    AskAnswer, DropCause, Entries, Entry, Event, Frame, Made, Outcome, Packet, Toward, Verdict,
+    is_unsupported,
 };
 use std::alloc::Global;
 
@@ -245,9 +246,9 @@ fn from_network(
             };
             return wire_packet(alloc, rows, entries, network, &packet);
         }
-        Frame::ArpAsk { to, .. } => match holder(rows, network.id, to) {
+        Frame::ArpAsk { to, .. } => match holder(rows, network.id, &Addr::V4(to)) {
             Some(port) => Outcome::Answered(AskAnswer::Arp {
-                address: to,
+                address: Addr::V4(to),
                 mac: port.mac,
             }),
             None => return Ok(dropped(alloc, DropCause::Unknown)),

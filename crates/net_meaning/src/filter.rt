@@ -1,32 +1,32 @@
 ghost use Rattle.std.specs.Prelude.{◌≡◌};
-ghost use Rattle.plane_types.specs.Filter.{far_fits as fits_far, is_ipv4 as of_ipv4, is_member as is_member_of, parts_fit as fits_parts, rule_matches as matches_rule, rules_allow as allowed_by_rules};
+ghost use Rattle.plane_types.specs.Filter.{far_fits as fits_far, is_ipv4 as of_ipv4, parts_fit as fits_parts, rule_matches as matches_rule, rules_allow as allowed_by_rules};
+ghost use Rattle.api_types.specs.Members.{is_member as is_member_of};
 
 use api_secgroup::is_member;
-use api_types::{Direction, Ethertype, PortRow, Rows, RuleRow};
-use net_addr::Addr4;
-use packet_rules::{far_of, in_range, is_protocol};
-use plane_rows::names_group;
-use plane_types::Key;
+use api_types::{Direction, Ethertype, PortRow, Rows, RuleRow, names_group};
+use net_addr::Addr;
+use plane_types::{Key, far_of, in_range, is_protocol};
 
 // Whether the far address is in the rule's prefix, or a member's of its group, or both are null.
-fn far_fits(rows: &Rows, rule: &RuleRow, far: Addr4) -> bool
-    ensures { result ≡ fits_far (is_member_of rows.now) rule.now.remote_prefix rule.now.remote_group far }
+fn far_fits(rows: &Rows, rule: &RuleRow, far: &Addr) -> bool
+    ensures { result ≡ fits_far (is_member_of rows.now) rule.now.remote_prefix rule.now.remote_group far.now }
 {
     match (rule.remote_prefix, rule.remote_group) {
         (None, None) => true,
-        (Some(prefix), None) => prefix.contains(far),
+        (Some(prefix), None) => prefix.contains(*far),
         (None, Some(group)) => is_member(rows, group, far),
-        (Some(prefix), Some(group)) => prefix.contains(far) || is_member(rows, group, far),
+        (Some(prefix), Some(group)) => prefix.contains(*far) || is_member(rows, group, far),
     }
 }
 
 fn parts_fit(rows: &Rows, rule: &RuleRow, direction: Direction, key: &Key) -> bool
     ensures { result ≡ fits_parts (is_member_of rows.now) rule.now.direction rule.now.protocol rule.now.low rule.now.high rule.now.remote_prefix rule.now.remote_group direction key.now }
 {
+    let far = far_of(direction, key);
     rule.direction == direction
         && is_protocol(rule.protocol, key.kind)
         && in_range(rule.low, rule.high, key.kind, key.dport)
-        && far_fits(rows, rule, far_of(direction, key))
+        && far_fits(rows, rule, &far)
 }
 
 fn is_ipv4(ethertype: Ethertype) -> bool

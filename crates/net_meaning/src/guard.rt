@@ -1,17 +1,17 @@
 ghost use Rattle.std.specs.Prelude.{◌≡◌};
+ghost use Rattle.net_addr.specs.declared.address.Addr.TheVariants.{V4};
 ghost use Rattle.plane_types.specs.Guard.{guards as guarded, may_ask_lease as may_ask, may_send as may_send_from, passes_guard as passes};
 
-use api_types::PortRow;
-use net_addr::{Addr4, Mac};
-use packet_rules::{has_pair_mac, is_allowed};
-use plane_rows::holds;
-use plane_types::Frame;
+use api_types::{PortRow, holds};
+use net_addr::{Addr, Addr4, Mac};
+use plane_types::{Frame, has_pair_mac, is_allowed};
 
 // With its own MAC and one of its addresses, or by an allowed pair.
 fn may_send(port: &PortRow, mac: Mac, from: Addr4) -> bool
-    ensures { result ≡ may_send_from port.now mac from }
+    ensures { result ≡ may_send_from port.now mac (V4 from) }
 {
-    (port.mac == mac && holds(port, from)) || is_allowed(port.pairs.as_slice(), mac, from)
+    (port.mac == mac && holds(port, &Addr::V4(from)))
+        || is_allowed(port.pairs.as_slice(), mac, Addr::V4(from))
 }
 
 // Without an address, with its own MAC or a pair's.

@@ -3,12 +3,11 @@ ghost use Rattle.plane_types.specs.Entries.{has_flow as flow_is_there, opposite 
 ghost use Rattle.plane_types.specs.Filter.{rules_allow as allowed_by_rules};
 ghost use Rattle.plane_types.specs.Keys.{reversed};
 ghost use Rattle.plane_types.specs.Meaning.{rows_passage};
-ghost use Rattle.packet_rules.specs.Parts.{packet_of, passage_of};
+ghost use Rattle.plane_types.specs.Parts.{packet_of, passage_of};
 
 use crate::filter::rules_allow;
 use api_types::{Direction, PortRow, Rows};
-use packet_rules::{Packet, Passage, is_tracked, new_flow, opposite};
-use plane_types::{Entry, Key};
+use plane_types::{Entry, Key, Packet, Passage, is_tracked, new_flow, opposite};
 
 // Whether a key answers to a flow of the other direction that the rules still let pass.
 fn is_answer(

@@ -1,21 +1,22 @@
 ghost use Rattle.std.specs.Prelude.{◌≡◌, ◌++◌, IfOk, Some, find, if◌then◌else◌, map, option_map};
 ghost use Rattle.std.specs.Option.{unwrap_or};
 ghost use Rattle.net_addr.specs.Prefixes.{contains};
-ghost use Rattle.plane_types.specs.RouterRows.{gateway_address as gateway_by_rows, leg_of, router_view, ways_of as ways_by_rows};
+ghost use Rattle.net_addr.specs.declared.address.Addr.TheVariants.{V4};
+ghost use Rattle.api_types.specs.RouterRows.{gateway_address as gateway_by_rows, leg_of, router_view, ways_of as ways_by_rows};
 ghost use Rattle.plane_types.specs.Routing.{answers as answers_to, best_way as best_of_ways, better as better_of, destined as destined_by, beats as way_beats, routed as routed_by_view, routed_to as to_by_view, routed_way as way_by_view, sent as sent_by};
 ghost use Rattle.plane_rows.specs.Ways.{way_of};
-ghost use Rattle.packet_rules.specs.Parts.{changed_of, destined_of, packet_of, sourced_of, use_of};
+ghost use Rattle.plane_types.specs.Parts.{changed_of, destined_of, packet_of, sourced_of, use_of};
 ghost use Rattle.net_meaning.specs.Turns.{routed_of};
 
 use crate::source::find_source;
 use crate::uses::{answering, valid_uses};
 use api_types::{PortRow, RouterRow, Rows};
-use net_addr::{Addr4, OutOfMemory};
-use packet_rules::{
-    Changed, Destined, Packet, Sourced, Use, answered_to, lower, rank_place, with_destination,
-};
+use net_addr::{Addr, OutOfMemory};
 use plane_rows::{Way, fixed_behind, gateway_address, is_own_address, leg, ways_of};
-use plane_types::{DropCause, Entry, Outcome};
+use plane_types::{
+    Changed, Destined, DropCause, Entry, Outcome, Packet, Sourced, Use, answered_to, lower,
+    rank_place, with_destination,
+};
 use std::alloc::Global;
 
 /// A packet that a router sends on by a port of it, toward the next hop.
@@ -23,7 +24,7 @@ use std::alloc::Global;
 pub(crate) struct Sent<'r> {
     pub(crate) made: Option<Entry>,
     pub(crate) out: &'r PortRow,
-    pub(crate) hop: Addr4,
+    pub(crate) hop: Addr,
     pub(crate) packet: Packet,
 }
 
@@ -35,7 +36,7 @@ pub(crate) enum Routed<'r> {
 }
 
 // The valid entry that a packet answers.
-#[tactic(auto, using(packet_rules::proofs::UseLemmas::none_answers))]
+#[tactic(auto, using(plane_types::proofs::UseLemmas::none_answers))]
 fn answer(rows: &Rows, router: &RouterRow, uses: &[Use], packet: &Packet) -> Option<Use>
     ensures { option_map use_of result ≡ find (answers_to (gateway_by_rows rows.now router.now) (packet_of packet.now)) (map use_of uses.now) }
 {
@@ -47,7 +48,7 @@ fn answer(rows: &Rows, router: &RouterRow, uses: &[Use], packet: &Packet) -> Opt
 
 // A floating address of this router becomes the fixed address; else an entry that the packet
 // answers gives it back the source that it keeps.
-#[tactic(auto, unfolding(plane_types::specs::RouterRows::router_view))]
+#[tactic(auto, unfolding(api_types::specs::RouterRows::router_view))]
 fn find_destination(rows: &Rows, router: &RouterRow, uses: &[Use], packet: &Packet) -> Destined
     ensures { destined_of result ≡ destined_by (router_view rows.now router.now) (map use_of uses.now) (packet_of packet.now) }
 {
@@ -87,10 +88,10 @@ fn better(way: &Way, other: &Option<Way>) -> Way
 }
 
 // The better of the way, where its prefix has the destination, and of the other.
-fn better_for(destination: Addr4, way: &Way, other: &Option<Way>) -> Option<Way>
-    ensures { option_map way_of result ≡ (if contains way.now.prefix destination then Some (better_of (way_of way.now) (option_map way_of other.now)) else option_map way_of other.now) }
+fn better_for(destination: &Addr, way: &Way, other: &Option<Way>) -> Option<Way>
+    ensures { option_map way_of result ≡ (if contains way.now.prefix destination.now then Some (better_of (way_of way.now) (option_map way_of other.now)) else option_map way_of other.now) }
 {
-    if way.prefix.contains(destination) {
+    if way.prefix.contains(*destination) {
         Some(better(way, other))
     } else {
         *other
@@ -99,8 +100,8 @@ fn better_for(destination: Addr4, way: &Way, other: &Option<Way>) -> Option<Way>
 
 // The route with the longest prefix that has the destination; of equal lengths a connected one goes
 // before an extra one, that before the default, and the first of equal ones.
-fn best_way(destination: Addr4, mut ways: Vec<Way>) -> Option<Way>
-    ensures { option_map way_of result ≡ best_of_ways destination (map way_of ways.items) }
+fn best_way(destination: &Addr, mut ways: Vec<Way>) -> Option<Way>
+    ensures { option_map way_of result ≡ best_of_ways destination.now (map way_of ways.items) }
 {
     let mut best = None;
     while let Some(way) = ways.pop() {
@@ -110,14 +111,14 @@ fn best_way(destination: Addr4, mut ways: Vec<Way>) -> Option<Way>
 }
 
 // The source MAC is that of the way out.
-fn send_on<'r>(out: &'r PortRow, hop: Addr4, sourced: Option<Sourced>) -> Routed<'r>
-    ensures { routed_of result ≡ sent_by (leg_of out.now) hop (option_map sourced_of sourced) }
+fn send_on<'r>(out: &'r PortRow, hop: &Addr, sourced: Option<Sourced>) -> Routed<'r>
+    ensures { routed_of result ≡ sent_by (leg_of out.now) hop.now (option_map sourced_of sourced) }
 {
     match sourced {
         Some(sourced) => Routed::Sends(Sent {
             made: sourced.made,
             out,
-            hop,
+            hop: *hop,
             packet: Packet {
                 src: out.mac,
                 ..sourced.packet
@@ -128,12 +129,12 @@ fn send_on<'r>(out: &'r PortRow, hop: Addr4, sourced: Option<Sourced>) -> Routed
 }
 
 // The route's next hop, or the destination where it has none.
-fn next_hop(way: &Way, packet: &Packet) -> Addr4
-    ensures { result ≡ unwrap_or way.now.next packet.now.to }
+fn next_hop(way: &Way, packet: &Packet) -> Addr
+    ensures { result ≡ unwrap_or way.now.next (V4 packet.now.to) }
 {
     match way.next {
         Some(next) => next,
-        None => packet.to,
+        None => Addr::V4(packet.to),
     }
 }
 
@@ -151,14 +152,15 @@ fn routed_by<'r>(
     match leg(rows, router, way.port) {
         Some(out) => {
             let source = find_source(rows, router, uses, port, out, destined);
-            send_on(out, next_hop(way, &destined.packet), source)
+            let hop = next_hop(way, &destined.packet);
+            send_on(out, &hop, source)
         }
         None => Routed::Ends(Outcome::Dropped(DropCause::Unknown)),
     }
 }
 
 // By the best of the router's routes.
-#[tactic(auto, unfolding(plane_types::specs::RouterRows::router_view))]
+#[tactic(auto, unfolding(api_types::specs::RouterRows::router_view))]
 fn routed_on<'r>(
     alloc: Global,
     rows: &'r Rows,
@@ -167,10 +169,11 @@ fn routed_on<'r>(
     port: &PortRow,
     destined: &Destined,
 ) -> Result<Routed<'r>, OutOfMemory>
-    ensures { IfOk result (λ r. routed_of r ≡ way_by_view (router_view rows.now router.now) (map use_of uses.now) (leg_of port.now) (changed_of destined.now.by) (packet_of destined.now.packet) (best_of_ways destined.now.packet.to (ways_by_rows rows.now router.now))) }
+    ensures { IfOk result (λ r. routed_of r ≡ way_by_view (router_view rows.now router.now) (map use_of uses.now) (leg_of port.now) (changed_of destined.now.by) (packet_of destined.now.packet) (best_of_ways (V4 destined.now.packet.to) (ways_by_rows rows.now router.now))) }
 {
     let ways = ways_of(alloc, rows, router)?;
-    match best_way(destined.packet.to, ways) {
+    let to = Addr::V4(destined.packet.to);
+    match best_way(&to, ways) {
         Some(way) => Ok(routed_by(rows, router, uses, port, destined, &way)),
         None => Ok(Routed::Ends(Outcome::Dropped(DropCause::NoRoute))),
     }
@@ -187,7 +190,7 @@ fn routed_to<'r>(
 ) -> Result<Routed<'r>, OutOfMemory>
     ensures { IfOk result (λ r. routed_of r ≡ to_by_view (router_view rows.now router.now) (map use_of uses.now) (leg_of port.now) (destined_of destined.now)) }
 {
-    if is_own_address(rows, router, destined.packet.to) {
+    if is_own_address(rows, router, &Addr::V4(destined.packet.to)) {
         return Ok(Routed::Ends(Outcome::Absorbed { router: router.id }));
     }
     if destined.packet.ttl <= 1 {
@@ -199,7 +202,7 @@ fn routed_to<'r>(
 
 /// What a router does with a packet that came by a port of it. Its cost grows with the entries, and
 /// with the router's addresses and routes times the ports.
-#[tactic(auto, unfolding(plane_types::specs::Routing::routed, plane_types::specs::RouterRows::router_view))]
+#[tactic(auto, unfolding(plane_types::specs::Routing::routed, api_types::specs::RouterRows::router_view))]
 pub(crate) fn route<'r>(
     alloc: Global,
     rows: &'r Rows,

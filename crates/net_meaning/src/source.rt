@@ -1,17 +1,17 @@
 ghost use Rattle.std.specs.Prelude.{◌≡◌, ◌==◌, ◌&&◌, ◌||◌, find, not, map, option_map};
 ghost use Rattle.plane_types.specs.Packets.{key_of};
-ghost use Rattle.plane_types.specs.RouterRows.{floats_of, gateway_address as gateway_by_rows, leg_of, router_view};
-ghost use Rattle.plane_types.specs.Routing.{Float, by_float as changed_by_float, is_gateway_live, new_port as new_port_of, sourced as sourced_by, sourced_float as sourced_by_float, sourced_gateway as sourced_by_gateway, sourced_new as sourced_anew};
-ghost use Rattle.packet_rules.specs.Parts.{changed_of, packet_of, sourced_of, use_of};
+ghost use Rattle.api_types.specs.RouterRows.{floats_of, gateway_address as gateway_by_rows, leg_of, router_view};
+ghost use Rattle.plane_types.specs.Routing.{by_float as changed_by_float, is_gateway_live, new_port as new_port_of, sourced as sourced_by, sourced_float as sourced_by_float, sourced_gateway as sourced_by_gateway, sourced_new as sourced_anew};
+ghost use Rattle.api_types.specs.RouterViews.{Float};
+ghost use Rattle.plane_types.specs.Parts.{changed_of, packet_of, sourced_of, use_of};
 
 use crate::uses::{new_port, translates, with_key};
-use api_types::{Id, PortRow, RouterRow, Rows};
+use api_types::{Id, PortRow, RouterRow, Rows, is_interface};
 use net_addr::Addr4;
-use packet_rules::{
-    Changed, Destined, Packet, Sourced, Use, by_any, by_float, kept_source, sourced_at,
+use plane_rows::{floating_for, gateway_address, has_live_gateway};
+use plane_types::{
+    Changed, Destined, Entry, Packet, Sourced, Use, by_any, by_float, kept_source, sourced_at,
 };
-use plane_rows::{floating_for, gateway_address, has_live_gateway, is_interface};
-use plane_types::Entry;
 
 // With a new entry, where a port is left.
 fn sourced_new(router: Id, uses: &[Use], packet: &Packet, outer: Addr4) -> Option<Sourced>
@@ -33,7 +33,7 @@ fn sourced_new(router: Id, uses: &[Use], packet: &Packet, outer: Addr4) -> Optio
 }
 
 // The source becomes the gateway address, with the port of the entry that has the same key.
-#[tactic(auto, unfolding(plane_types::specs::RouterRows::router_view))]
+#[tactic(auto, unfolding(api_types::specs::RouterRows::router_view))]
 fn sourced_gateway(
     rows: &Rows,
     router: &RouterRow,
@@ -56,7 +56,7 @@ fn sourced_gateway(
 
 // Whether the source is translated: where the packet leaves by the gateway port, or a floating
 // address changed its destination, and the router translates and its gateway port is live.
-#[tactic(auto, using(crate::proofs::LegLemmas::gateway_among), unfolding(plane_types::specs::RouterRows::router_view))]
+#[tactic(auto, using(crate::proofs::LegLemmas::gateway_among), unfolding(api_types::specs::RouterRows::router_view))]
 fn is_translated(rows: &Rows, router: &RouterRow, out: &PortRow, by: Changed) -> bool
     ensures { result ≡ ((not (leg_of out.now).inside || changed_by_float (changed_of by)) && (router_view rows.now router.now).snat && is_gateway_live (router_view rows.now router.now)) }
 {
@@ -66,7 +66,7 @@ fn is_translated(rows: &Rows, router: &RouterRow, out: &PortRow, by: Changed) ->
 }
 
 // A floating address of this router for the source replaces it; else it may be translated.
-#[tactic(auto, unfolding(plane_types::specs::RouterRows::router_view))]
+#[tactic(auto, unfolding(api_types::specs::RouterRows::router_view))]
 fn sourced_float(
     rows: &Rows,
     router: &RouterRow,
@@ -93,7 +93,7 @@ fn sourced_float(
 /// The packet with the source that it leaves with, or none where no port is left. Only a packet
 /// that came in by an interface, and leaves by the gateway port or had its destination changed, is
 /// looked at.
-#[tactic(auto, unfolding(plane_types::specs::RouterRows::router_view))]
+#[tactic(auto, unfolding(api_types::specs::RouterRows::router_view))]
 pub(crate) fn find_source(
     rows: &Rows,
     router: &RouterRow,

@@ -1,19 +1,18 @@
 ghost use Rattle.std.specs.Prelude.{◌≡◌, IfOk, OnOk, Some, option_to_list, suc};
-ghost use Rattle.plane_types.specs.Holders.{router_of as router_by_rows};
+ghost use Rattle.api_types.specs.Holders.{router_of as router_by_rows};
 ghost use Rattle.plane_types.specs.Meaning.{Onward, Trace as TheTrace, arrived as arrived_at, at_router as at_router_by, ended as ended_with, got as got_by, handed as handed_by, handed_out as handed_out_by, received as received_by, with_fresh, with_path};
-ghost use Rattle.plane_types.specs.RouterRows.{leg_of};
+ghost use Rattle.api_types.specs.RouterRows.{leg_of};
 ghost use Rattle.plane_types.specs.Routing.{RouteSends};
-ghost use Rattle.packet_rules.specs.Parts.{packet_of};
+ghost use Rattle.plane_types.specs.Parts.{packet_of};
 ghost use Rattle.net_meaning.specs.Turns.{fate_of, passed_list, trace_of, turn_by};
 
 use crate::ask::out_of;
 use crate::passage::passage_at;
 use crate::router::{Routed, Sent, route};
-use api_types::{Direction, Id, PortRow, RouterRow, Rows};
+use api_types::{Direction, Id, PortRow, RouterRow, Rows, is_router_port};
 use net_addr::{Mac, OutOfMemory, Seq};
-use packet_rules::Packet;
-use plane_rows::{holder, is_router_port, joined_with, leg, router_of};
-use plane_types::{DropCause, Entry, Outcome, Toward};
+use plane_rows::{holder, joined_with, leg, router_of};
+use plane_types::{DropCause, Entry, Outcome, Packet, Toward};
 use std::alloc::Global;
 
 /// What an event has come to so far: the networks and routers that it passed, and the entries that
@@ -78,7 +77,7 @@ fn handed_out<'r>(rows: &'r Rows, router: &RouterRow, out: &PortRow, sent: &Sent
     ensures { (on : Onward) (t : TheTrace) → turn_by on t result ≡ handed_out_by rows.now on router.now sent.now.hop (packet_of sent.now.packet) (with_fresh t (option_to_list sent.now.made)) (Some out.now) }
 {
     let network = out.network;
-    let held = holder(rows, network, sent.hop);
+    let held = holder(rows, network, &sent.hop);
     let next = match joined_with(rows, &out.host, held) {
         Some(port) => Next::To(
             port,

@@ -1,15 +1,14 @@
 ghost use Rattle.std.specs.Prelude.{◌≡◌, ◌++◌, IfOk, OnOk, Some, find, map, option_map};
 ghost use Rattle.std.specs.List.{filter_map};
 ghost use Rattle.plane_types.specs.Keys.{key_eq};
-ghost use Rattle.plane_types.specs.RouterRows.{gateway_address as gateway_by_rows, has_snat};
+ghost use Rattle.api_types.specs.RouterRows.{gateway_address as gateway_by_rows, has_snat};
 ghost use Rattle.plane_types.specs.Routing.{Use as TheUse, answers as answers_to, is_taken as taken, least_untaken as first_untaken, new_port as new_port_of, uses_by};
-ghost use Rattle.packet_rules.specs.Parts.{packet_of, use_if, use_of};
+ghost use Rattle.plane_types.specs.Parts.{packet_of, use_if, use_of};
 
 use api_types::{Id, RouterRow, Rows};
 use net_addr::{Addr4, OutOfMemory};
-use packet_rules::{Packet, Use, answers, has_choice, is_key, takes, use_of_entry};
 use plane_rows::gateway_address;
-use plane_types::{Entry, Key};
+use plane_types::{Entry, Key, Packet, Use, answers, has_choice, is_key, takes, use_of_entry};
 use std::alloc::Global;
 
 /// Whether the router translates sources.
@@ -41,7 +40,7 @@ fn add_uses(
 
 /// The router's valid translation entries: those with the gateway address of now, where sources are
 /// translated now. Its cost grows with the entries.
-#[tactic(auto, using(packet_rules::proofs::UseLemmas::uses_of_both))]
+#[tactic(auto, using(plane_types::proofs::UseLemmas::uses_of_both))]
 pub(crate) fn valid_uses(
     alloc: Global,
     rows: &Rows,

@@ -1,6 +1,6 @@
 -- The status, the type and the message of each refusal (OpenStack API reference, Networking API v2.0: faults).
 use Rattle.std.specs.Prelude.{ℕ, List, [], ◌∷◌, ◌++◌, Option, Some, None, codes, decimal}
-use Rattle.net_addr.specs.Spelling.{address_text, mac_text}
+use Rattle.net_addr.specs.Spelling.{addr_text, mac_text}
 use Rattle.api_types.specs.Ident.{Ident, ident_text}
 use Rattle.api_types.specs.Titles.{title_of}
 use Rattle.api_types.specs.declared.kind.Kind.{Kind}
@@ -135,7 +135,7 @@ user_text None = codes "."
 user_text (Some by) = codes " by " ++ resource_of by.0 ++ codes " " ++ ident_text by.1 ++ codes "."
 
 abbrev pub value_text : Value → List ℕ
-value_text (Address address) = codes "IP address " ++ address_text address
+value_text (Address address) = codes "IP address " ++ addr_text address
 value_text (Mac mac) = codes "MAC address " ++ mac_text mac
 
 -- the message

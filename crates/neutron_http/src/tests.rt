@@ -1,6 +1,6 @@
 use super::*;
 use api_types::{Id, Kind, Refusal, UseRule, Value};
-use net_addr::{Addr4, OutOfMemory, Text};
+use net_addr::{Addr, Addr4, OutOfMemory, Text};
 use std::alloc::Global;
 use std::test::Fail;
 
@@ -146,7 +146,7 @@ fn faults(rt: HostRuntime) -> Result<(), Fail> {
     let held = fault_of(
         alloc,
         &Refusal::Taken {
-            value: Value::Address(Addr4(0x0a00_0005)),
+            value: Value::Address(Addr::V4(Addr4(0x0a00_0005))),
             network,
         },
     )?;

@@ -16,8 +16,8 @@ use Rattle.api_types.specs.declared.form.FloatingForm.{FloatingForm}
 use Rattle.api_types.specs.declared.form.PolicyForm.{PolicyForm}
 use Rattle.api_types.specs.declared.kind.Kind.{Kind}
 use Rattle.api_types.specs.declared.kind.Kind.TheVariants as kind
-use Rattle.json_values.specs.Grammars.{action_of, address_pairs, device_owner, direction_of, ethertype_of, fixed_addresses, group_ids, group_name, host_routes, ip_version, name_servers, network_type_of, object_type_of, pools, port_number, project_name, protocol_of, router_routes, segment_number, short_text, subnet_prefix, target_name, vnic_type_of}
-use Rattle.json_values.specs.Items.{address_of, card_of, gateway_of, id_of, prefix_said}
+use Rattle.json_values.specs.Grammars.{action_of, address_pairs, device_owner, direction_of, ethertype_of, fixed_addresses, group_ids, group_name, host_routes, ip_version, mode_of, name_servers, network_type_of, object_type_of, pools, port_number, project_name, protocol_of, router_routes, segment_number, short_text, subnet_prefix, target_name, vnic_type_of}
+use Rattle.json_values.specs.Items.{address_of, card_of, four_of, gateway_of, id_of, prefix_said}
 
 abbrev pub is_or_null : {T : Type 0} → Option T → Given T
 is_or_null None = Null
@@ -51,6 +51,8 @@ subnet_form d = record {
   description = given short_text d (codes "description");
   network_id = given id_of d (codes "network_id");
   ip_version = given ip_version d (codes "ip_version");
+  ipv6_address_mode = given mode_of d (codes "ipv6_address_mode");
+  ipv6_ra_mode = given mode_of d (codes "ipv6_ra_mode");
   cidr = given subnet_prefix d (codes "cidr");
   gateway_ip = given address_of d (codes "gateway_ip");
   allocation_pools = given pools d (codes "allocation_pools");
@@ -114,9 +116,9 @@ abbrev pub floating_form : Data → FloatingForm
 floating_form d = record {
   description = given short_text d (codes "description");
   floating_network_id = given id_of d (codes "floating_network_id");
-  floating_ip_address = given address_of d (codes "floating_ip_address");
+  floating_ip_address = given four_of d (codes "floating_ip_address");
   port_id = given id_of d (codes "port_id");
-  fixed_ip_address = given address_of d (codes "fixed_ip_address");
+  fixed_ip_address = given four_of d (codes "fixed_ip_address");
   project_id = given project_name d (codes "project_id");
   tenant_id = given project_name d (codes "tenant_id");
 }

@@ -2,7 +2,7 @@
 use Rattle.std.specs.Prelude.{List, [], ◌∷◌, codes}
 use Rattle.api_types.specs.declared.kind.Kind.{Kind}
 use Rattle.api_types.specs.declared.kind.Kind.TheVariants as kind
-use Rattle.json_values.specs.declared.allowed.GrammarName.TheVariants.{AddressPairs, AllocationPools, AnyAddress, CardMac, ChangeNumber, DeviceOwner, EtherVersion, EventFrame, FixedAddresses, Flag, GatewayInfo, GroupIds, GroupName, HostRoutes, NameServers, NetworkKind, PermittedAction, PolicyObject, PortNumber, ProjectName, ProtocolNumber, RemotePrefix, RouterRoutes, RowId, RuleDirection, SegmentNumber, ShortText, SubnetPrefix, SubnetVersion, TargetName, VirtualCard, WireTag}
+use Rattle.json_values.specs.declared.allowed.GrammarName.TheVariants.{AddressMode, AddressPairs, AllocationPools, AnyAddress, CardMac, ChangeNumber, DeviceOwner, EtherVersion, EventFrame, FixedAddresses, Flag, FourAddress, GatewayInfo, GroupIds, GroupName, HostRoutes, NameServers, NetworkKind, PermittedAction, PolicyObject, PortNumber, ProjectName, ProtocolNumber, RemotePrefix, RouterRoutes, RowId, RuleDirection, SegmentNumber, ShortText, SubnetPrefix, SubnetVersion, TargetName, VirtualCard, WireTag}
 use Rattle.neutron_json.specs.declared.attribute.ReadIn.TheVariants.{Creation, Update, Both}
 use Rattle.neutron_json.specs.declared.attribute.Needs.TheVariants.{Value, ValueOrNull, Required, RequiredOrNull}
 use Rattle.neutron_json.specs.Attributes.{Attribute, attribute}
@@ -30,6 +30,8 @@ subnet_attributes =
     ∷ attribute (codes "gateway_ip") AnyAddress Both ValueOrNull
     ∷ attribute (codes "host_routes") HostRoutes Both Value
     ∷ attribute (codes "ip_version") SubnetVersion Creation Required
+    ∷ attribute (codes "ipv6_address_mode") AddressMode Creation ValueOrNull
+    ∷ attribute (codes "ipv6_ra_mode") AddressMode Creation ValueOrNull
     ∷ attribute (codes "name") ShortText Both Value
     ∷ attribute (codes "network_id") RowId Creation Required ∷ []
 
@@ -83,8 +85,8 @@ router_attributes =
 abbrev pub floating_attributes : List Attribute
 floating_attributes =
     attribute (codes "description") ShortText Both Value
-    ∷ attribute (codes "fixed_ip_address") AnyAddress Both Value
-    ∷ attribute (codes "floating_ip_address") AnyAddress Creation Value
+    ∷ attribute (codes "fixed_ip_address") FourAddress Both Value
+    ∷ attribute (codes "floating_ip_address") FourAddress Creation Value
     ∷ attribute (codes "floating_network_id") RowId Creation Required
     ∷ attribute (codes "port_id") RowId Both ValueOrNull
     ∷ attribute (codes "project_id") ProjectName Creation Value

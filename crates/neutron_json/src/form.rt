@@ -8,11 +8,11 @@ use api_types::{
     RuleForm, SubnetForm,
 };
 use json_values::{
-    AddressPairs, AllocationPools, AnyAddress, CardMac, DeviceOwner, EtherVersion, FixedAddresses,
-    Flag, GatewayInfo, Grammar, GroupIds, GroupName, HostRoutes, NameServers, NetworkKind,
-    PermittedAction, PolicyObject, PortNumber, ProjectName, ProtocolNumber, RemotePrefix,
-    RouterRoutes, RowId, RuleDirection, SegmentNumber, ShortText, SubnetPrefix, SubnetVersion,
-    TargetName, VirtualCard,
+    AddressMode, AddressPairs, AllocationPools, AnyAddress, CardMac, DeviceOwner, EtherVersion,
+    FixedAddresses, Flag, FourAddress, GatewayInfo, Grammar, GroupIds, GroupName, HostRoutes,
+    NameServers, NetworkKind, PermittedAction, PolicyObject, PortNumber, ProjectName,
+    ProtocolNumber, RemotePrefix, RouterRoutes, RowId, RuleDirection, SegmentNumber, ShortText,
+    SubnetPrefix, SubnetVersion, TargetName, VirtualCard,
 };
 use net_addr::OutOfMemory;
 use serde_json::Value;
@@ -64,6 +64,8 @@ fn subnet_form(alloc: Global, object: &Value) -> Result<SubnetForm, OutOfMemory>
         description: given::<ShortText>(alloc, object, "description")?,
         network_id: given::<RowId>(alloc, object, "network_id")?,
         ip_version: given::<SubnetVersion>(alloc, object, "ip_version")?,
+        ipv6_address_mode: given::<AddressMode>(alloc, object, "ipv6_address_mode")?,
+        ipv6_ra_mode: given::<AddressMode>(alloc, object, "ipv6_ra_mode")?,
         cidr: given::<SubnetPrefix>(alloc, object, "cidr")?,
         gateway_ip: given::<AnyAddress>(alloc, object, "gateway_ip")?,
         allocation_pools: given::<AllocationPools>(alloc, object, "allocation_pools")?,
@@ -142,9 +144,9 @@ fn floating_form(alloc: Global, object: &Value) -> Result<FloatingForm, OutOfMem
     Ok(FloatingForm {
         description: given::<ShortText>(alloc, object, "description")?,
         floating_network_id: given::<RowId>(alloc, object, "floating_network_id")?,
-        floating_ip_address: given::<AnyAddress>(alloc, object, "floating_ip_address")?,
+        floating_ip_address: given::<FourAddress>(alloc, object, "floating_ip_address")?,
         port_id: given::<RowId>(alloc, object, "port_id")?,
-        fixed_ip_address: given::<AnyAddress>(alloc, object, "fixed_ip_address")?,
+        fixed_ip_address: given::<FourAddress>(alloc, object, "fixed_ip_address")?,
         project_id: given::<ProjectName>(alloc, object, "project_id")?,
         tenant_id: given::<ProjectName>(alloc, object, "tenant_id")?,
     })

@@ -8,11 +8,11 @@ use crate::attribute::Needs::{Required, RequiredOrNull, Value, ValueOrNull};
 use crate::attribute::ReadIn::{Both, Creation, Update};
 use api_types::Kind;
 use json_values::GrammarName::{
-    AddressPairs, AllocationPools, AnyAddress, CardMac, ChangeNumber, DeviceOwner, EtherVersion,
-    EventFrame, FixedAddresses, Flag, GatewayInfo, GroupIds, GroupName, HostRoutes, NameServers,
-    NetworkKind, PermittedAction, PolicyObject, PortNumber, ProjectName, ProtocolNumber,
-    RemotePrefix, RouterRoutes, RowId, RuleDirection, SegmentNumber, ShortText, SubnetPrefix,
-    SubnetVersion, TargetName, VirtualCard, WireTag,
+    AddressMode, AddressPairs, AllocationPools, AnyAddress, CardMac, ChangeNumber, DeviceOwner,
+    EtherVersion, EventFrame, FixedAddresses, Flag, FourAddress, GatewayInfo, GroupIds, GroupName,
+    HostRoutes, NameServers, NetworkKind, PermittedAction, PolicyObject, PortNumber, ProjectName,
+    ProtocolNumber, RemotePrefix, RouterRoutes, RowId, RuleDirection, SegmentNumber, ShortText,
+    SubnetPrefix, SubnetVersion, TargetName, VirtualCard, WireTag,
 };
 
 const NETWORK: [Attribute; 10] = [
@@ -38,7 +38,7 @@ const NETWORK: [Attribute; 10] = [
     ("tenant_id", ProjectName, Creation, Value),
 ];
 
-const SUBNET: [Attribute; 10] = [
+const SUBNET: [Attribute; 12] = [
     ("allocation_pools", AllocationPools, Both, Value),
     ("cidr", SubnetPrefix, Creation, Required),
     ("description", ShortText, Both, Value),
@@ -47,6 +47,8 @@ const SUBNET: [Attribute; 10] = [
     ("gateway_ip", AnyAddress, Both, ValueOrNull),
     ("host_routes", HostRoutes, Both, Value),
     ("ip_version", SubnetVersion, Creation, Required),
+    ("ipv6_address_mode", AddressMode, Creation, ValueOrNull),
+    ("ipv6_ra_mode", AddressMode, Creation, ValueOrNull),
     ("name", ShortText, Both, Value),
     ("network_id", RowId, Creation, Required),
 ];
@@ -100,8 +102,8 @@ const ROUTER: [Attribute; 7] = [
 
 const FLOATING: [Attribute; 7] = [
     ("description", ShortText, Both, Value),
-    ("fixed_ip_address", AnyAddress, Both, Value),
-    ("floating_ip_address", AnyAddress, Creation, Value),
+    ("fixed_ip_address", FourAddress, Both, Value),
+    ("floating_ip_address", FourAddress, Creation, Value),
     ("floating_network_id", RowId, Creation, Required),
     ("port_id", RowId, Both, ValueOrNull),
     ("project_id", ProjectName, Creation, Value),

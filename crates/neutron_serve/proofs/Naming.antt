@@ -1,11 +1,12 @@
 -- The name of a project is a text of ASCII.
 use Rattle.std.proofs.Common.{◌≡◌, ℕ, zero, suc, ◌<◌, List, [], ◌∷◌, Bool, true, false, refl, arith}
 use Rattle.std.proofs.lemmas.Bool.Decides.{nat_tests}
-use Rattle.std.specs.Prelude.{◌&&◌, ◌||◌, ◌==◌, nat_le, length}
+use Rattle.std.specs.Prelude.{◌&&◌, ◌||◌, ◌==◌, nat_le, length, not}
 use Rattle.std.specs.Int.{is_in_range}
 use Rattle.std.specs.List.{list_all}
 use Rattle.std.specs.Str.{IsAscii, IsUtf8}
 use Rattle.std.proofs.lemmas.Str.{IsUtf8-from_ascii}
+use Rattle.api_types.specs.Lists.{is_empty}
 use Rattle.json_values.specs.Grammars.{is_project_byte, is_project_name}
 
 both : (a b : Bool) → a && b ≡ true → (a ≡ true) × (b ≡ true)
@@ -41,3 +42,11 @@ bytes_ascii (c ∷ text) h (suc i) = bytes_ascii text (both (is_project_byte c) 
 
 pub name_utf8 : (text : List ℕ) → is_project_name text ≡ true → IsUtf8 text
 name_utf8 text h = IsUtf8-from_ascii text (bytes_ascii text (both _ _ (both (nat_le 1 (length text)) _ h).1).1)
+
+-- and it isn't empty
+some_byte : (text : List ℕ) (rest : Bool) → nat_le 1 (length text) && rest ≡ true → not (is_empty text) ≡ true
+some_byte [] rest h = cc
+some_byte (c ∷ text) rest h = refl
+
+pub name_there : (text : List ℕ) → is_project_name text ≡ true → not (is_empty text) ≡ true
+name_there text h = some_byte text (nat_le (length text) 64 && list_all is_project_byte text) h

@@ -22,8 +22,8 @@ use Rattle.neutron_serve.specs.Causes.{cause_in, tells_entries, tells_in}
 use Rattle.neutron_serve.specs.Requests.{request_of}
 use Rattle.http_session.specs.Answers.{MovesBy}
 use Rattle.http_session.specs.declared.handler.Answer.TheVariants as answer
-use Rattle.row_laws.proofs.ListLemmas.{and_both}
-use Rattle.row_laws.proofs.NameLemmas.{not_true}
+use Rattle.api_types.proofs.ListLemmas.{and_both}
+use Rattle.api_types.proofs.NameLemmas.{not_true}
 use Rattle.neutron_serve.specs.Steps.{Steps, fixed_replies, request_outcome}
 use Rattle.neutron_serve.specs.declared.api.Cause.TheVariants.{NoMemory, Step, StoreFault as CauseOfStore}
 use Rattle.plane_types.specs.Hosts.{Host, all_entries, is_named}

@@ -1,6 +1,7 @@
 //! Who asks.
-ghost use Rattle.std.specs.Prelude.{◌≡◌, ◌⊎◌, IfOk, IfErr, None, Some, option_map, option_copied, if◌then◌else◌};
+ghost use Rattle.std.specs.Prelude.{◌≡◌, ◌⊎◌, IfOk, IfErr, IfSome, None, Some, not, true, option_map, option_copied, if◌then◌else◌};
 ghost use Rattle.std.specs.List.{list_all};
+ghost use Rattle.api_types.specs.Lists.{is_empty};
 ghost use Rattle.json_values.specs.Grammars.{is_project_byte, is_project_name};
 ghost use Rattle.neutron_serve.specs.Requests.{caller_of};
 
@@ -29,9 +30,10 @@ fn is_project_name(text: &[u8]) -> bool
 }
 
 // The text of a project's name.
-#[tactic(auto, using(crate::proofs::Naming::name_utf8))]
+#[tactic(auto, using(crate::proofs::Naming::name_utf8, crate::proofs::Naming::name_there))]
 fn project_name(text: &[u8]) -> Option<&str>
-    ensures { option_map (λ t. t.now) result ≡ (if is_project_name text.now then Some text.now else None) }
+    ensures named { IfSome result (λ t. not (is_empty t.now) ≡ true) }
+    ensures text { option_map (λ t. t.now) result ≡ (if is_project_name text.now then Some text.now else None) }
 {
     if !is_project_name(text) {
         return None;
@@ -48,6 +50,7 @@ pub(crate) fn read_caller(
     project: Option<&[u8]>,
     admin: bool,
 ) -> Result<Caller, Refusal>
+    ensures named { IfOk result (λ caller. not (is_empty caller.project) ≡ true) }
     ensures ok { IfOk result (λ caller. caller_of (option_copied project.entry) admin ≡ Some caller) }
     ensures err { IfErr result (λ e. (e ≡ Refusal.OutOfMemory) ⊎ ((e ≡ Refusal.NoCaller) × (caller_of (option_copied project.entry) admin ≡ None))) }
 {

@@ -1,5 +1,6 @@
 //! A request, read from the bytes that begin with it.
-ghost use Rattle.std.specs.Prelude.{◌≡◌, ◌≤◌, Ok, Some, IfOk, IfErr, length, slice_range};
+ghost use Rattle.std.specs.Prelude.{◌≡◌, ◌≤◌, Ok, Some, IfOk, IfErr, length, not, slice_range, true};
+ghost use Rattle.api_types.specs.Lists.{is_empty};
 ghost use Rattle.http_heads.specs.Fields.{is_admin, project_of};
 ghost use Rattle.http_heads.specs.Heads.{Asked};
 ghost use Rattle.http_session.specs.Requests.{IsRequest, BeginsWith};
@@ -27,6 +28,7 @@ fn text(bytes: &[u8], part: Part) -> &[u8]
 // Who asks, by the parts of a request's head.
 fn caller(alloc: Global, bytes: &[u8], request: &Request) -> Result<Caller, Refusal>
     requires { BeginsWith bytes.now request.now }
+    ensures named { IfOk result (λ caller. not (is_empty caller.project) ≡ true) }
     ensures ok { (asked : Asked) → IsRequest bytes.now request.now asked → IfOk result (λ caller. caller_of (project_of asked.head) (is_admin asked.head) ≡ Some caller) }
     ensures err { (asked : Asked) → IsRequest bytes.now request.now asked → IfErr result (IsUnread (request_of asked)) }
 {
@@ -44,7 +46,7 @@ pub(crate) fn read_request(
 ) -> Result<(Caller, Ask), Refusal>
     requires { BeginsWith bytes.now request.now }
     ensures ok { (asked : Asked) → IsRequest bytes.now request.now asked → IfOk result (λ r. request_of asked ≡ Ok (r.0, r.1)) }
-    ensures in_form { IfOk result (λ r. IsAskInForm r.1) }
+    ensures in_form { IfOk result (λ r. IsAskInForm r.0 r.1) }
     ensures err { (asked : Asked) → IsRequest bytes.now request.now asked → IfErr result (IsUnread (request_of asked)) }
 {
     let caller = caller(alloc, bytes, request)?;

@@ -4,6 +4,7 @@ use Rattle.std.specs.Prelude.{length, find, if◌then◌else◌}
 use Rattle.std.proofs.lemmas.List.{length-append}
 use Rattle.plane_laws.proofs.RouterTables.{Lives, routed-lives}
 use Rattle.plane_laws.proofs.MadeLaw.{GivesRouted, routed-gives, gives-one, passage-one}
+use Rattle.net_addr.specs.declared.address.Addr.TheVariants.{V4}
 use Rattle.api_types.specs.Ident.{Ident}
 use Rattle.api_types.specs.Owners.{is_router_port}
 use Rattle.api_types.specs.RowLists.{RowLists}
@@ -14,13 +15,15 @@ use Rattle.api_types.specs.declared.port.PortRow.{PortRow}
 use Rattle.api_types.specs.declared.router.RouterRow.{RouterRow}
 use Rattle.plane_types.specs.Filter.{rules_allow}
 use Rattle.plane_types.specs.Guard.{passes_guard}
-use Rattle.plane_types.specs.Holders.{dhcp_port, holder, port_at, router_of}
-use Rattle.plane_types.specs.Live.{joined_with}
-use Rattle.plane_types.specs.Meaning.{Fate, Trace, arrived, asked, at_router, delivered_by, dropped, ended, from_port, from_sender, from_wire, got, handed, handed_out, handed_to, lease_asked, life_of, may_begin, network_on, none_so_far, on_path, received, rows_fate, rows_passage, sent_on, sent_out, sent_to, wire_ask, wire_lease, wire_packet, with_fresh, with_path}
+use Rattle.api_types.specs.Holders.{dhcp_port, holder, port_at, router_of}
+use Rattle.api_types.specs.Live.{joined_with}
+use Rattle.plane_types.specs.Meaning.{Fate, Trace, arrived, asked, at_router, delivered_by, dropped, ended, from_port, from_sender, from_wire, got, handed, handed_out, handed_to, lease_asked, life_of, may_begin, none_so_far, on_path, received, rows_fate, rows_passage, sent_on, sent_out, sent_to, wire_ask, wire_lease, wire_packet, with_fresh, with_path}
+use Rattle.api_types.specs.Wires.{network_on}
 use Rattle.plane_types.specs.Packets.{Packet, address_ask, ip_frame, is_unsupported, key_of, lease_ask, packet}
 use Rattle.plane_types.specs.Passage.{Passage}
-use Rattle.plane_types.specs.RouterRows.{leg_of, legs_of, router_view}
-use Rattle.plane_types.specs.Routing.{RouteEnds, RouteSends, Routed, RouterView, Use, routed, uses_by}
+use Rattle.api_types.specs.RouterRows.{leg_of, legs_of, router_view}
+use Rattle.plane_types.specs.Routing.{RouteEnds, RouteSends, Routed, Use, routed, uses_by}
+use Rattle.api_types.specs.RouterViews.{RouterView}
 use Rattle.plane_types.specs.Told.{of_nobody, rows_verdict}
 use Rattle.plane_types.specs.declared.entry.Entry.{Entry}
 use Rattle.plane_types.specs.declared.event.Event.{Event}
@@ -143,7 +146,7 @@ module _ (rows : RowLists) (entries : List Entry) where
       go : (o : Option PortRow) → Small (wire_packet rows entries (suc ttl) n (packet src dst from to ttl part) o)
       go None = nothing-small (Dropped Unknown)
       go (Some q) = let w = got-within (suc ttl) q (packet src dst from to ttl part) (on_path n) in (omega (arith, w.path, fits), omega (arith, w.fresh, fits))
-  wire-small (ArpAsk src from to) fits (Some n) = go (holder rows n.id to)
+  wire-small (ArpAsk src from to) fits (Some n) = go (holder rows n.id (V4 to))
     where
       go : (o : Option PortRow) → Small (wire_ask n (address_ask src from to) o)
       go None = nothing-small (Dropped Unknown)

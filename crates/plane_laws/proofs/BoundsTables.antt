@@ -5,6 +5,8 @@ use Rattle.std.specs.Str.{bytes_eq}
 use Rattle.std.proofs.lemmas.List.{length-append}
 use Rattle.plane_laws.proofs.RouterTables.{Lives, routed-lives}
 use Rattle.plane_laws.proofs.MadeLaw.{of_step, step-admits, admits-one}
+use Rattle.net_addr.specs.declared.address.Addr.{Addr}
+use Rattle.net_addr.specs.declared.address.Addr.TheVariants.{V4}
 use Rattle.api_types.specs.Ident.{Ident}
 use Rattle.api_types.specs.declared.group.Direction.TheVariants.{Egress, Ingress}
 use Rattle.plane_types.specs.Fabric.{FabricFate, Run, after_step, at_inward, at_tap, begun, fabric_fate, finished, from_outside, from_tap, moved, network_at, outside, path_at, step_path, steps_for, taken, takes, tunnelled, walk, wired}
@@ -32,7 +34,7 @@ use Rattle.plane_types.specs.declared.table.RouterPort.{RouterPort}
 use Rattle.plane_types.specs.declared.table.RouterTable.{RouterTable}
 use Rattle.plane_types.specs.declared.table.TagRow.{TagRow}
 use Rattle.plane_types.specs.declared.table.TapRow.{TapRow}
-use Rattle.plane_types.specs.declared.table.Wire.{Wire}
+use Rattle.api_types.specs.declared.wire.Wire.{Wire}
 use Rattle.plane_types.specs.declared.tables.HostTables.{HostTables}
 use Rattle.plane_types.specs.declared.verdict.DropCause.{DropCause}
 use Rattle.plane_types.specs.declared.verdict.DropCause.TheVariants.{Egress as EgressFilter, Ingress as IngressFilter, NoHolder, NoLease, Spoof, Unknown, Unsupported}
@@ -121,11 +123,11 @@ module _ (t : HostTables) (inner : Bool) where
   bridge-carries : (f : Frame) (o : Option TagRow) → Carries f (bridge_at_tag t inner f o)
   bridge-carries f None = tt
   bridge-carries (Ip4 src dst from to ttl part) (Some row) = bridged-carries row (TowardMac dst) (Ip4 src dst from to ttl part) Unknown (bridge_at t row.tag (AtMac dst))
-  bridge-carries (ArpAsk src from to) (Some row) = go (neighbour_at t row.tag to)
+  bridge-carries (ArpAsk src from to) (Some row) = go (neighbour_at t row.tag (V4 to))
     where
       go : (o : Option NeighbourRow) → Carries (ArpAsk src from to) (arp_by inner row (address_ask src from to) o)
       go (Some r) = tt
-      go None = wire-carries row.network row.wire (TowardAddress to) (ArpAsk src from to) NoHolder
+      go None = wire-carries row.network row.wire (TowardAddress (V4 to)) (ArpAsk src from to) NoHolder
   bridge-carries (Dhcp src from) (Some row) = bridged-carries row TowardDhcp (Dhcp src from) NoLease (bridge_at t row.tag AtDhcp)
   bridge-carries (Other src dst ethertype) (Some row) = wire-carries row.network row.wire (TowardMac dst) (Other src dst ethertype) Unknown
 
@@ -186,7 +188,7 @@ module _ (h : Host) (entries : List Entry) where
   router-fine port router frame p same None one = (omega arith, omega arith)
   router-fine port router frame p same (Some r) one = leg (tagged_leg r port) one
     where
-      unheld-fine : (made : List Entry) → length made ≤ 1 → (hop : ℕ) (p2 : Packet) → suc p2.ttl ≡ p.ttl → 0 < p2.ttl → (o : Option TagRow) → Fine h (RouterIn port router frame) (unheld hop p2 o) (length made)
+      unheld-fine : (made : List Entry) → length made ≤ 1 → (hop : Addr) (p2 : Packet) → suc p2.ttl ≡ p.ttl → 0 < p2.ttl → (o : Option TagRow) → Fine h (RouterIn port router frame) (unheld hop p2 o) (length made)
       unheld-fine made k hop p2 e more None = (omega arith, omega (arith, k))
       unheld-fine made k hop p2 e more (Some row) = by row.wire
         where
@@ -194,11 +196,11 @@ module _ (h : Host) (entries : List Entry) where
           by None = (omega (arith, e, more, same), omega (arith, k))
           by (Some w) = (omega (arith, e, more, same), omega (arith, k))
 
-      held-fine : (made : List Entry) → length made ≤ 1 → (tag hop : ℕ) (p2 : Packet) → suc p2.ttl ≡ p.ttl → 0 < p2.ttl → (o : Option NeighbourRow) → Fine h (RouterIn port router frame) (sent_by h.tables tag hop p2 o) (length made)
+      held-fine : (made : List Entry) → length made ≤ 1 → (tag : ℕ) (hop : Addr) (p2 : Packet) → suc p2.ttl ≡ p.ttl → 0 < p2.ttl → (o : Option NeighbourRow) → Fine h (RouterIn port router frame) (sent_by h.tables tag hop p2 o) (length made)
       held-fine made k tag hop p2 e more None = unheld-fine made k hop p2 e more (tag_row h.tables tag)
       held-fine made k tag hop p2 e more (Some n) = (omega (arith, e, more, same, one-network (tag_row h.tables tag)), omega (arith, k, e, more, same))
 
-      at-fine : (made : List Entry) → length made ≤ 1 → (hop : ℕ) (p2 : Packet) → suc p2.ttl ≡ p.ttl → 0 < p2.ttl → (o : Option RouterPort) → Fine h (RouterIn port router frame) (sent_at h.tables hop p2 o) (length made)
+      at-fine : (made : List Entry) → length made ≤ 1 → (hop : Addr) (p2 : Packet) → suc p2.ttl ≡ p.ttl → 0 < p2.ttl → (o : Option RouterPort) → Fine h (RouterIn port router frame) (sent_at h.tables hop p2 o) (length made)
       at-fine made k hop p2 e more None = (omega arith, omega (arith, k))
       at-fine made k hop p2 e more (Some x) = held-fine made k x.tag hop p2 e more (neighbour_at h.tables x.tag hop)
 

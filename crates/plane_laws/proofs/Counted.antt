@@ -3,7 +3,7 @@ use Rattle.std.proofs.Common.{◌≡◌, ℕ, zero, suc, subst, ◌≤◌, List,
 use Rattle.std.specs.Prelude.{find, count_by, ◌||◌}
 use Rattle.std.specs.List.{list_any, filter_map, cons_option}
 use Rattle.std.proofs.lemmas.List.Sums.{sum_by-cons}
-use Rattle.row_laws.proofs.ListLemmas.{none_some, some_equal}
+use Rattle.api_types.proofs.ListLemmas.{none_some, some_equal}
 use Rattle.api_types.specs.Lists.{Each}
 use Rattle.plane_laws.proofs.Facts.{AllOf, AtMostOne}
 

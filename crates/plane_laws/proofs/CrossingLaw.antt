@@ -4,11 +4,12 @@ use Rattle.std.specs.Prelude.{find, ◌&&◌, ◌==◌, if◌then◌else◌}
 use Rattle.std.proofs.lemmas.Bool.{and_parts, and_from}
 use Rattle.std.proofs.lemmas.Option.{same_Some}
 use Rattle.std.proofs.lemmas.List.{append-nil}
-use Rattle.row_laws.proofs.NameLemmas.{ident_same, ident_itself}
+use Rattle.api_types.proofs.NameLemmas.{ident_same, ident_itself}
 use Rattle.plane_laws.proofs.ListLemmas.{find-passes, find-only, list_any-found}
 use Rattle.plane_laws.proofs.Neighbours.{holder-at}
 use Rattle.plane_laws.proofs.RouterTables.{Lower, routed-lower}
 use Rattle.plane_laws.proofs.RouterLaw.{joined-found, passes-filter, from-filter}
+use Rattle.net_addr.specs.declared.address.Addr.{Addr}
 use Rattle.api_types.specs.Ident.{Ident}
 use Rattle.api_types.specs.Owners.{device_is, is_router_port}
 use Rattle.api_types.specs.RowLists.{RowLists}
@@ -17,15 +18,16 @@ use Rattle.api_types.specs.declared.group.Direction.TheVariants.{Ingress}
 use Rattle.api_types.specs.declared.port.PortRow.{PortRow}
 use Rattle.api_types.specs.declared.router.RouterRow.{RouterRow}
 use Rattle.plane_types.specs.Crossing.{CrossesFrom, EndsOn, PathCrosses, joins_networks, last_from, leg_on, not_delivered}
-use Rattle.plane_types.specs.Holders.{has_mac, holder, router_named, router_of}
-use Rattle.plane_types.specs.Live.{is_live, joined_with, segment, wire_of}
+use Rattle.api_types.specs.Holders.{has_mac, holder, router_named, router_of}
+use Rattle.api_types.specs.Live.{is_live, joined_with, segment}
+use Rattle.api_types.specs.Wires.{wire_of}
 use Rattle.plane_types.specs.Meaning.{Fate, Trace, at_router, delivered_by, ended, got, handed, handed_out, handed_to, out_or, received, rows_passage, with_fresh, with_path}
 use Rattle.plane_types.specs.Packets.{Packet, ip_frame}
 use Rattle.plane_types.specs.Passage.{Passage}
-use Rattle.plane_types.specs.RouterRows.{is_leg_of, leg_of, legs_of, router_view}
+use Rattle.api_types.specs.RouterRows.{is_leg_of, leg_of, legs_of, router_view}
 use Rattle.plane_types.specs.Routing.{RouteEnds, RouteSends, Routed, routed}
 use Rattle.plane_types.specs.declared.entry.Entry.{Entry}
-use Rattle.plane_types.specs.declared.table.Wire.{Wire}
+use Rattle.api_types.specs.declared.wire.Wire.{Wire}
 use Rattle.plane_types.specs.declared.verdict.DropCause.TheVariants.{Ingress as IngressFilter, NoHolder}
 use Rattle.plane_types.specs.declared.verdict.Outcome.{Outcome}
 use Rattle.plane_types.specs.declared.verdict.Outcome.TheVariants.{Absorbed, Answered, Delivered, Dropped, Out}
@@ -78,7 +80,7 @@ module _ (rows : RowLists) (good : FrameFacts rows) (entries : List Entry) where
       first = list_any-found test (λ (p : PortRow). is_leg_of rows r p && ident_eq q.network p.network) rows.ports q found (and_from (is_leg_of rows r q) (ident_eq q.network q.network) mine (ident_itself q.network))
 
       module _ (many : ℕ) (rest : (test : PortRow → Bool) (q : PortRow) → find test rows.ports ≡ Some q → is_live rows q ≡ true → (p : Packet) (t : Trace) → Goes rows q.network t (got rows entries many q p t)) where
-        onward : (t : Trace) (hop : ℕ) (p : Packet) (port : Ident) (made : List Entry) (o : PortRow) → find (has_id port) (legs_of rows r) ≡ Some o → Goes rows q.network t (handed_out rows (got rows entries many) r hop p (with_fresh t made) (Some o))
+        onward : (t : Trace) (hop : Addr) (p : Packet) (port : Ident) (made : List Entry) (o : PortRow) → find (has_id port) (legs_of rows r) ≡ Some o → Goes rows q.network t (handed_out rows (got rows entries many) r hop p (with_fresh t made) (Some o))
         unfolding legs_of
         onward t hop p port made o leg = go (joined_with rows o.host (holder rows o.network hop)) refl
           where

@@ -2,12 +2,13 @@
 use Rattle.std.proofs.Common.{◌≡◌, ℕ, List, [], ◌∷◌, ◌++◌, Bool, true, false, not, Option, Some, None, refl, sym, subst}
 use Rattle.std.specs.Prelude.{◌<◌, ◌^◌, length, option_and_then, ◌&&◌, ◌==◌, if◌then◌else◌}
 use Rattle.std.proofs.lemmas.Bool.{and_parts}
-use Rattle.row_laws.proofs.NameLemmas.{ident_same}
+use Rattle.api_types.proofs.NameLemmas.{ident_same}
 use Rattle.plane_laws.proofs.ListLemmas.{find-passes}
 use Rattle.plane_laws.proofs.FactsHold.{frame-facts}
 use Rattle.plane_laws.proofs.Theorem.{tables-mean-rows}
 use Rattle.plane_laws.proofs.RouterLaw.{joined-found}
 use Rattle.plane_laws.proofs.CrossingLaw.{FateCrosses, Goes, ends-on, got-goes}
+use Rattle.net_addr.specs.declared.address.Addr.TheVariants.{V4}
 use Rattle.api_types.specs.Consistent.{IsConsistent}
 use Rattle.api_types.specs.Ident.{Ident}
 use Rattle.api_types.specs.RowLists.{RowLists}
@@ -18,10 +19,12 @@ use Rattle.api_types.specs.declared.network.Segment.{Segment}
 use Rattle.api_types.specs.declared.port.PortRow.{PortRow}
 use Rattle.plane_types.specs.Crossing.{CrossesAtRouters, PathCrosses, not_delivered}
 use Rattle.plane_types.specs.Guard.{passes_guard}
-use Rattle.plane_types.specs.Holders.{dhcp_port, has_mac, holder, port_at}
+use Rattle.api_types.specs.Holders.{dhcp_port, has_mac, holder, port_at}
 use Rattle.plane_types.specs.Hosts.{Host, all_entries}
-use Rattle.plane_types.specs.Live.{is_live, joined_with, segment, wire_of}
-use Rattle.plane_types.specs.Meaning.{Fate, answered, asked, asked_by, dropped, ended, from_port, from_sender, from_wire, got, lease_asked, lease_asked_by, lease_for, leased, life_of, may_begin, network_on, none_so_far, out_of, out_or, rows_fate, rows_passage, sent_on, sent_out, sent_to, wire_ask, wire_lease, wire_packet}
+use Rattle.api_types.specs.Live.{is_live, joined_with, segment}
+use Rattle.api_types.specs.Wires.{wire_of, network_on}
+use Rattle.plane_types.specs.Meaning.{Fate, answered, asked, asked_by, dropped, ended, from_port, from_sender, from_wire, got, lease_asked, lease_asked_by, leased, life_of, may_begin, none_so_far, out_of, out_or, rows_fate, rows_passage, sent_on, sent_out, sent_to, wire_ask, wire_lease, wire_packet}
+use Rattle.api_types.specs.Leases.{lease_for}
 use Rattle.plane_types.specs.Packets.{Packet, address_ask, arp_frame, dhcp_frame, ip_frame, is_unsupported, lease_ask, packet}
 use Rattle.plane_types.specs.Passage.{Passage}
 use Rattle.plane_types.specs.Told.{fabric_verdict, rows_verdict}
@@ -30,10 +33,10 @@ use Rattle.plane_types.specs.declared.event.Event.{Event}
 use Rattle.plane_types.specs.declared.event.Event.TheVariants.{FromPort, FromWire}
 use Rattle.plane_types.specs.declared.frame.Frame.{Frame}
 use Rattle.plane_types.specs.declared.frame.Frame.TheVariants.{ArpAsk, Dhcp, Ip4, Other}
-use Rattle.plane_types.specs.declared.table.Wire.{Wire}
+use Rattle.api_types.specs.declared.wire.Wire.{Wire}
 use Rattle.plane_types.specs.declared.verdict.DropCause.{DropCause}
 use Rattle.plane_types.specs.declared.verdict.DropCause.TheVariants.{Dead, Egress as EgressFilter, NoHolder, NoLease, Spoof, Unknown, Unsupported}
-use Rattle.plane_types.specs.declared.verdict.Lease.{Lease}
+use Rattle.api_types.specs.declared.lease.Lease.{Lease}
 use Rattle.plane_types.specs.declared.verdict.Outcome.{Outcome}
 use Rattle.plane_types.specs.declared.verdict.Toward.{Toward}
 use Rattle.plane_types.specs.declared.verdict.Toward.TheVariants.{Address as TowardAddress, Dhcp as TowardDhcp, Mac as TowardMac}
@@ -79,10 +82,10 @@ module _ (rows : RowLists) (good : FrameFacts rows) (entries : List Entry) where
 
       go : (y : Passage) → FateCrosses rows (sent_out rows (got rows entries many) p (packet src dst from to ttl part) (record { path = p.network ∷ []; fresh = [] }) y)
       go y = by y.passes y.made
-  sender p many (ArpAsk src from to) = one p.network [] (asked rows p.network p.host (address_ask src from to)) (go (joined_with rows p.host (holder rows p.network to)))
+  sender p many (ArpAsk src from to) = one p.network [] (asked rows p.network p.host (address_ask src from to)) (go (joined_with rows p.host (holder rows p.network (V4 to))))
     where
       go : (o : Option PortRow) → not_delivered (asked_by rows p.network (address_ask src from to) o) ≡ true
-      go None = out-not (wire_of (segment rows p.network)) p.network (TowardAddress (address_ask src from to).to) (arp_frame (address_ask src from to)) NoHolder
+      go None = out-not (wire_of (segment rows p.network)) p.network (TowardAddress (V4 (address_ask src from to).to)) (arp_frame (address_ask src from to)) NoHolder
       go (Some q) = refl
   sender p many (Dhcp src from) = one p.network [] (lease_asked rows p.network p.host (lease_ask src from)) (go (joined_with rows p.host (dhcp_port rows p.network)))
     where
@@ -108,7 +111,7 @@ module _ (rows : RowLists) (good : FrameFacts rows) (entries : List Entry) where
       go : (o : Option PortRow) → port_at rows n.id (packet src dst from to ttl part).dst ≡ o → FateCrosses rows (wire_packet rows entries many n (packet src dst from to ttl part) o)
       go None e = refl
       go (Some q) e = packet-case n.id [] many (packet src dst from to ttl part) (packet src dst from to ttl part).dst q e
-  wire many (ArpAsk src from to) (Some n) = go (holder rows n.id to)
+  wire many (ArpAsk src from to) (Some n) = go (holder rows n.id (V4 to))
     where
       go : (o : Option PortRow) → FateCrosses rows (wire_ask n (address_ask src from to) o)
       go None = refl
@@ -129,9 +132,9 @@ module _ (rows : RowLists) (good : FrameFacts rows) (entries : List Entry) where
       go true = refl
       go false = wire (life_of frame) frame (network_on rows (record { physical = physical; tag = tag }))
 
-pub by-rows : (rows : RowLists) → IsConsistent rows → length rows.projects < 2 ^ 32 → (entries : List Entry) (e : Event) → CrossesAtRouters rows (rows_verdict rows entries e)
-by-rows rows good few entries e = crosses-law rows (frame-facts rows good few) entries e
+pub by-rows : (rows : RowLists) → IsConsistent rows → (entries : List Entry) (e : Event) → CrossesAtRouters rows (rows_verdict rows entries e)
+by-rows rows good entries e = crosses-law rows (frame-facts rows good) entries e
 
 pub by-tables : (carry : List ℕ → Segment → Bool) (rows : RowLists) (hosts : List Host) → HoldRows carry rows hosts → (e : Event) → CrossesAtRouters rows (fabric_verdict hosts e)
 by-tables carry rows hosts h e =
-    subst (CrossesAtRouters rows) (sym (tables-mean-rows carry rows hosts h e)) (by-rows rows h.consistent h.few (all_entries hosts) e)
+    subst (CrossesAtRouters rows) (sym (tables-mean-rows carry rows hosts h e)) (by-rows rows h.consistent (all_entries hosts) e)

@@ -6,8 +6,8 @@ use Rattle.std.specs.Str.{bytes_eq}
 use Rattle.std.proofs.lemmas.Bool.{and_parts}
 use Rattle.std.proofs.lemmas.List.{append-nil}
 use Rattle.std.proofs.lemmas.List.Folds.{list_any-append}
-use Rattle.row_laws.proofs.ListLemmas.{or_false}
-use Rattle.row_laws.proofs.NameLemmas.{ident_same, ident_itself, bytes_same}
+use Rattle.api_types.proofs.ListLemmas.{or_false}
+use Rattle.api_types.proofs.NameLemmas.{ident_same, ident_itself, bytes_same}
 use Rattle.plane_laws.proofs.ListLemmas.{find-only, any-only, AllOf-more, list_any-none_each}
 use Rattle.api_types.specs.Consistent.Groups.{is_direction}
 use Rattle.api_types.specs.Ident.{Ident}
@@ -21,9 +21,9 @@ use Rattle.api_types.specs.declared.router.RouterRow.{RouterRow}
 use Rattle.plane_types.specs.Entries.{has_flow, is_flow}
 use Rattle.plane_types.specs.Hosts.{Host, all_entries, is_named}
 use Rattle.plane_types.specs.Keys.{key_eq}
-use Rattle.plane_types.specs.Live.{is_live}
+use Rattle.api_types.specs.Live.{is_live, is_at, is_here}
 use Rattle.plane_types.specs.Routing.{uses_at, uses_by}
-use Rattle.plane_types.specs.TableRows.{hosted, is_at, is_here, is_host_of, is_tap}
+use Rattle.plane_types.specs.TableRows.{hosted, is_host_of, is_tap}
 use Rattle.plane_types.specs.declared.entry.Entry.{Entry}
 use Rattle.plane_types.specs.declared.entry.Entry.TheVariants.{Flow, Snat}
 use Rattle.plane_types.specs.declared.frame.Key.{Key}

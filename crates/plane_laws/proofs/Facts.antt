@@ -2,6 +2,9 @@
 use Rattle.std.specs.Prelude.{◌≡◌, ℕ, ◌<◌, ◌≤◌, ◌&&◌, ◌==◌, not, Bool, true, false, List, [], ◌∷◌, map, Option, Some, None, find, is_some, ⊤}
 use Rattle.std.specs.List.{list_any, filter}
 use Rattle.std.specs.Str.{bytes_eq}
+use Rattle.net_addr.specs.Addresses.{addr_eq}
+use Rattle.net_addr.specs.declared.address.Addr.{Addr}
+use Rattle.net_addr.specs.declared.address.Addr.TheVariants.{V4}
 use Rattle.api_types.specs.Consistent.Carried.{is_bound}
 use Rattle.api_types.specs.Ident.{Ident}
 use Rattle.api_types.specs.Owners.{device_is, is_dhcp_of, is_router_port}
@@ -13,9 +16,10 @@ use Rattle.api_types.specs.declared.group.RuleRow.{RuleRow}
 use Rattle.api_types.specs.declared.network.NetworkRow.{NetworkRow}
 use Rattle.api_types.specs.declared.port.PortRow.{PortRow}
 use Rattle.api_types.specs.declared.router.RouterRow.{RouterRow}
-use Rattle.plane_types.specs.Holders.{holds, router_of}
+use Rattle.api_types.specs.Holders.{holds, router_of}
 use Rattle.plane_types.specs.Hosts.{Host}
-use Rattle.plane_types.specs.Live.{is_live, network_of, segment, wire_of}
+use Rattle.api_types.specs.Live.{is_live, network_of, segment}
+use Rattle.api_types.specs.Wires.{wire_of}
 use Rattle.plane_types.specs.TableRows.{bridge_rows, carrier_of, filter_rows, float_rows, hosted, inward_rows, is_hosted, is_tagged, is_tap, lease_rows, neighbour_rows, route_rows, router_rows, set_rows, tap_rows}
 use Rattle.plane_types.specs.TableStep.{carrier_eq}
 use Rattle.plane_types.specs.declared.entry.Entry.{Entry}
@@ -74,7 +78,7 @@ RemoteStands rows (Some g) = list_any (λ (z : GroupRow). ident_eq g z.id) rows.
 -- a floating address's own port is on its network, holds its address and isn't bound
 abbrev pub own_port_stands : FloatingRow → Option PortRow → Bool
 own_port_stands f None = false
-own_port_stands f (Some p) = ident_eq f.network p.network && holds p f.address && not (is_bound p.vif)
+own_port_stands f (Some p) = ident_eq f.network p.network && holds p (V4 f.address) && not (is_bound p.vif)
 
 abbrev pub OwnPortStands : RowLists → FloatingRow → Type 0
 OwnPortStands rows f = own_port_stands f (row_of (λ (p : PortRow). p.id) f.own_port rows.ports) ≡ true
@@ -91,11 +95,11 @@ pub record FrameFacts (rows : RowLists) : Type 0 where
   pub groups_stand : AllOf (λ (r : RuleRow). list_any (λ (g : GroupRow). ident_eq r.group g.id) rows.groups ≡ true) rows.rules
   pub remotes_stand : AllOf (λ (r : RuleRow). RemoteStands rows r.remote_group) rows.rules
   pub macs : (n : Ident) (mac : ℕ) → AtMostOne (λ (p : PortRow). ident_eq n p.network && (p.mac == mac)) rows.ports
-  pub addresses : (n : Ident) (x : ℕ) → AtMostOne (λ (p : PortRow). ident_eq n p.network && holds p x) rows.ports
+  pub addresses : (n : Ident) (x : Addr) → AtMostOne (λ (p : PortRow). ident_eq n p.network && holds p x) rows.ports
   pub segments : (c : Carrier) → AtMostOne (λ (n : NetworkRow). carried_by rows c n.id) rows.networks
   pub dhcp_ports : (n : Ident) → AtMostOne (is_dhcp_of n) rows.ports
   pub router_ports : AllOf (RouterPortStands rows) rows.ports
-  pub floating_addresses : (n : Ident) (x : ℕ) → AtMostOne (λ (f : FloatingRow). ident_eq n f.network && (f.address == x)) rows.floatings
+  pub floating_addresses : (n : Ident) (x : Addr) → AtMostOne (λ (f : FloatingRow). ident_eq n f.network && addr_eq (V4 f.address) x) rows.floatings
   pub own_ports : AllOf (OwnPortStands rows) rows.floatings
 
 -- each entry at a host is of a tap or router there, by the rows

@@ -5,8 +5,12 @@ use Rattle.std.specs.List.{filter_map, cons_option, list_any}
 use Rattle.std.proofs.lemmas.Bool.{and_parts, and_from, eqb-true, or_right}
 use Rattle.std.proofs.lemmas.Bool.Decides.{nat_tests}
 use Rattle.std.proofs.lemmas.List.Folds.{list_any-append}
-use Rattle.row_laws.proofs.NameLemmas.{ident_same, ident_itself}
+use Rattle.api_types.proofs.NameLemmas.{ident_same, ident_itself}
 use Rattle.plane_laws.proofs.ListLemmas.{find-only, any-at, list_any-flat_map, list_any-same, list_any-same_each, list_any-map, list_any-found}
+use Rattle.net_addr.proofs.AddrLemmas.{addr_same, one_address}
+use Rattle.net_addr.specs.Addresses.{addr_eq}
+use Rattle.net_addr.specs.Ordered.{whole_prefix}
+use Rattle.net_addr.specs.declared.address.Addr.{Addr}
 use Rattle.net_addr.specs.Prefixes.{Prefix, contains}
 use Rattle.api_types.specs.Consistent.Groups.{is_direction, prefix_eq}
 use Rattle.api_types.specs.Ident.{Ident}
@@ -19,11 +23,12 @@ use Rattle.api_types.specs.declared.group.RuleRow.{RuleRow}
 use Rattle.api_types.specs.declared.port.Fixed.{Fixed}
 use Rattle.api_types.specs.declared.port.Pair.{Pair}
 use Rattle.api_types.specs.declared.port.PortRow.{PortRow}
-use Rattle.plane_types.specs.Ascending.{ascending, put_in}
-use Rattle.plane_types.specs.Filter.{far_fits, far_of, gives_member, in_pairs, in_range, is_ipv4, is_member, names_group, parts_fit, rule_matches, rules_allow, same_or_none}
-use Rattle.plane_types.specs.Holders.{holds}
+use Rattle.api_types.specs.Ascending.{ascending, put_in, prefix_before}
+use Rattle.plane_types.specs.Filter.{far_fits, far_of, in_range, is_ipv4, parts_fit, rule_matches, rules_allow, same_or_none}
+use Rattle.api_types.specs.Members.{gives_member, in_pairs, is_member, names_group, members, once, prefixes_of}
+use Rattle.api_types.specs.Holders.{holds}
 use Rattle.plane_types.specs.Keys.{protocol_of}
-use Rattle.plane_types.specs.TableRows.{filter_by, filter_of, filter_rows, filters_of, filters_of_group, is_tap, members, names_remote, once, prefix_before, prefixes_of, set_rows, set_rows_of}
+use Rattle.plane_types.specs.TableRows.{filter_by, filter_of, filter_rows, filters_of, filters_of_group, is_tap, names_remote, set_rows, set_rows_of}
 use Rattle.plane_types.specs.TableStep.{in_set, row_fits, tables_allow}
 use Rattle.plane_types.specs.declared.frame.Key.{Key}
 use Rattle.plane_types.specs.declared.table.FilterRow.{FilterRow}
@@ -111,8 +116,8 @@ any-ascending before T (x ∷ xs) = any-put_in before T x (ascending before xs) 
 
 prefix_same : (a b : Prefix) → prefix_eq a b ≡ true → a ≡ b
 prefix_same a b h =
-    let p = and_parts (a.base == b.base) (a.len == b.len) h in
-    ap (λ x. record { base = x; len = a.len }) (eqb-true a.base b.base p.0) ∙ ap (λ x. record { base = b.base; len = x }) (eqb-true a.len b.len p.1)
+    let p = and_parts (addr_eq a.base b.base) (a.len == b.len) h in
+    ap (λ x. record { base = x; len = a.len }) (addr_same a.base b.base p.0) ∙ ap (λ x. record { base = b.base; len = x }) (eqb-true a.len b.len p.1)
 
 any-once : (T : Prefix → Bool) (ps : List Prefix) → list_any T (once ps) ≡ list_any T ps
 unfolding once
@@ -132,22 +137,15 @@ any-once T (p ∷ ps) = go (list_any (prefix_eq p) ps) refl (T p) refl (any-once
     go true h false e rest = rest ∙ sym (ap (λ b. b || list_any T ps) e)
     go false h c e rest = ap (λ b. T p || b) rest
 
-slash32 : (a x : ℕ) → (x / 1 == a / 1) ≡ (a == x)
-slash32 a x = let e : x / 1 ≡ x = omega arith in let f : a / 1 ≡ a = omega arith in grind (arith, nat_tests)
-
-pub one_address : (a x : ℕ) → contains (record { base = a; len = 32 }) x ≡ (a == x)
-unfolding contains
-one_address a x = slash32 a x
-
-module _ (rows : RowLists) (x : ℕ) where
+module _ (rows : RowLists) (x : Addr) where
   member-port : (g : Ident) (p : PortRow) → list_any (λ (y : Prefix). contains y x) (prefixes_of g p) ≡ gives_member g x p
   member-port g p = go (names_group g p.groups)
     where
-      go : (b : Bool) → list_any (λ (y : Prefix). contains y x) (if b then map (λ (f : Fixed). record { base = f.address; len = 32 }) p.fixed ++ map (λ (z : Pair). z.prefix) p.pairs else []) ≡ (b && (holds p x || in_pairs p.pairs x))
+      go : (b : Bool) → list_any (λ (y : Prefix). contains y x) (if b then map (λ (f : Fixed). whole_prefix f.address) p.fixed ++ map (λ (z : Pair). z.prefix) p.pairs else []) ≡ (b && (holds p x || in_pairs p.pairs x))
       go false = refl
       go true =
-          list_any-append (λ (y : Prefix). contains y x) (map (λ (f : Fixed). record { base = f.address; len = 32 }) p.fixed) (map (λ (z : Pair). z.prefix) p.pairs)
-          ∙ ap (λ b. b || list_any (λ (y : Prefix). contains y x) (map (λ (z : Pair). z.prefix) p.pairs)) (list_any-map (λ (y : Prefix). contains y x) (λ (f : Fixed). record { base = f.address; len = 32 }) p.fixed ∙ list_any-same (λ (f : Fixed). contains (record { base = f.address; len = 32 }) x) (λ (f : Fixed). f.address == x) p.fixed (λ f. one_address f.address x))
+          list_any-append (λ (y : Prefix). contains y x) (map (λ (f : Fixed). whole_prefix f.address) p.fixed) (map (λ (z : Pair). z.prefix) p.pairs)
+          ∙ ap (λ b. b || list_any (λ (y : Prefix). contains y x) (map (λ (z : Pair). z.prefix) p.pairs)) (list_any-map (λ (y : Prefix). contains y x) (λ (f : Fixed). whole_prefix f.address) p.fixed ∙ list_any-same (λ (f : Fixed). contains (whole_prefix f.address) x) (λ (f : Fixed). addr_eq f.address x) p.fixed (λ f. one_address f.address x))
           ∙ ap (λ b. holds p x || b) (list_any-map (λ (y : Prefix). contains y x) (λ (z : Pair). z.prefix) p.pairs)
 
   members-is : (g : Ident) → list_any (λ (y : Prefix). contains y x) (members rows g) ≡ is_member rows g x

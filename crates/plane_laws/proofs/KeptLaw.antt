@@ -6,7 +6,7 @@ use Rattle.std.specs.Option.{option_eq}
 use Rattle.std.specs.Str.{bytes_eq}
 use Rattle.std.proofs.lemmas.Bool.Decides.{nat_tests}
 use Rattle.std.proofs.lemmas.List.Sums.{sum_by-cons}
-use Rattle.row_laws.proofs.NameLemmas.{bytes_same, bytes_itself}
+use Rattle.api_types.proofs.NameLemmas.{bytes_same, bytes_itself}
 use Rattle.plane_laws.proofs.ListLemmas.{list_any-map}
 use Rattle.plane_laws.proofs.Counted.{all-of, each-of, once-counted}
 use Rattle.plane_laws.proofs.PlacedLaw.{made_by, with_made, fate-placed}

@@ -2,7 +2,7 @@
 use Rattle.std.proofs.Common.{◌≡◌, ℕ, zero, suc, ◌-◌, ◌<◌, List, [], ◌∷◌, ◌++◌, Bool, true, false, not, Option, Some, None, refl, ap, ◌∙◌, arith}
 use Rattle.std.specs.Prelude.{find, option_and_then, option_map, ◌&&◌, if◌then◌else◌}
 use Rattle.std.proofs.lemmas.Bool.{and_from}
-use Rattle.row_laws.proofs.NameLemmas.{ident_itself}
+use Rattle.api_types.proofs.NameLemmas.{ident_itself}
 use Rattle.plane_laws.proofs.ListLemmas.{find-passes, find-each, find-only}
 use Rattle.plane_laws.proofs.Tagged.{tap-located, tagged}
 use Rattle.plane_laws.proofs.Sent.{trace_of, place_of, walk-on, trace-plain}
@@ -20,15 +20,15 @@ use Rattle.api_types.specs.declared.router.RouterRow.{RouterRow}
 use Rattle.plane_types.specs.Entries.{has_flow, opposite}
 use Rattle.plane_types.specs.Fabric.{Run, meant, taken, walk}
 use Rattle.plane_types.specs.Filter.{rules_allow}
-use Rattle.plane_types.specs.Holders.{router_of}
+use Rattle.api_types.specs.Holders.{router_of}
 use Rattle.plane_types.specs.Hosts.{Host, all_entries, is_named}
 use Rattle.plane_types.specs.Keys.{reversed}
-use Rattle.plane_types.specs.Live.{is_live}
+use Rattle.api_types.specs.Live.{is_live, is_at, is_here}
 use Rattle.plane_types.specs.Meaning.{at_router, delivered_by, ended, got, received, rows_passage, with_fresh}
 use Rattle.plane_types.specs.Packets.{Packet, ip_frame, key_of}
 use Rattle.plane_types.specs.Passage.{Passage, passage}
 use Rattle.plane_types.specs.Places.{TapOut}
-use Rattle.plane_types.specs.TableRows.{is_at, is_here, is_tap, tag_of, tap_of, tap_row, to_router}
+use Rattle.plane_types.specs.TableRows.{is_tap, tag_of, tap_of, tap_row, to_router}
 use Rattle.plane_types.specs.TableStep.{drops, plain, stops, tables_allow, tap_at, tap_delivers, tap_out, tap_passage}
 use Rattle.plane_types.specs.declared.entry.Entry.{Entry}
 use Rattle.plane_types.specs.declared.entry.Entry.TheVariants.{Flow}

@@ -6,7 +6,7 @@ use Rattle.std.specs.Option.{option_or}
 use Rattle.std.specs.Str.{bytes_eq}
 use Rattle.std.proofs.lemmas.Bool.{and_parts, and_from, eqb-true, eq-eqb, or_right, and_right}
 use Rattle.std.proofs.lemmas.List.Folds.{find-append}
-use Rattle.row_laws.proofs.NameLemmas.{ident_same, bytes_same}
+use Rattle.api_types.proofs.NameLemmas.{ident_same, bytes_same}
 use Rattle.plane_laws.proofs.ListLemmas.{find-passes, find-each, some_of, AtMostOne-less, find-filter_map, find-none_filter_map, find-ascending, AllOf-more, find-same_each, find-none_each}
 use Rattle.plane_laws.proofs.Located.{and_true, tag-row, tag-apart, bridge_apart}
 use Rattle.plane_laws.proofs.Tagged.{tagged, inward-located, inward-none}
@@ -22,13 +22,15 @@ use Rattle.api_types.specs.declared.network.Segment.{Segment}
 use Rattle.api_types.specs.declared.network.Segment.TheVariants.{Flat, Local, Vlan, Vxlan}
 use Rattle.api_types.specs.declared.port.PortRow.{PortRow}
 use Rattle.plane_types.specs.Fabric.{Run, after_step, meant, moved, step_path, taken, takes, takes_at, takes_to, tunnelled, walk, wired}
-use Rattle.plane_types.specs.Holders.{dhcp_port, has_mac, is_live_dhcp_of, port_at, router_of}
+use Rattle.api_types.specs.Holders.{dhcp_port, has_mac, is_live_dhcp_of, port_at, router_of}
 use Rattle.plane_types.specs.Hosts.{Host, bridge_before, bridge_key_eq, is_named}
-use Rattle.plane_types.specs.Live.{is_joined, is_live, is_local, joined_with, network_of, segment, wire_of}
-use Rattle.plane_types.specs.Meaning.{answered, ended, lease_asked, lease_asked_by, lease_for, leased, out_of, out_or}
+use Rattle.api_types.specs.Live.{is_joined, is_live, is_local, joined_with, network_of, segment, is_at}
+use Rattle.api_types.specs.Wires.{wire_of}
+use Rattle.plane_types.specs.Meaning.{answered, ended, lease_asked, lease_asked_by, leased, out_of, out_or}
+use Rattle.api_types.specs.Leases.{lease_for}
 use Rattle.plane_types.specs.Packets.{LeaseAsk, dhcp_frame}
 use Rattle.plane_types.specs.Places.{Bridge, DhcpIn, Next, Place, Step, ToTunnel, ToWire, TunnelIn, WireIn}
-use Rattle.plane_types.specs.TableRows.{bridge_by, bridge_row, bridge_rows, carrier_of, dhcp_row, end_of, is_at, is_tagged, lease_row, lease_row_by, lease_rows, mac_row, tag_of, to_here, to_router, to_there}
+use Rattle.plane_types.specs.TableRows.{bridge_by, bridge_row, bridge_rows, carrier_of, dhcp_row, end_of, is_tagged, lease_row, lease_row_by, lease_rows, mac_row, tag_of, to_here, to_router, to_there}
 use Rattle.plane_types.specs.TableStep.{bridge_at, bridge_at_tag, bridge_step, bridged_by, carrier_eq, drops, inward_at, inward_step, lease_answer, lease_at, plain, stops, table_step, wire_or}
 use Rattle.plane_types.specs.declared.table.BridgeKey.TheVariants.{Dhcp as AtDhcp, Mac as AtMac}
 use Rattle.plane_types.specs.declared.table.BridgeRow.{BridgeRow}
@@ -37,11 +39,11 @@ use Rattle.plane_types.specs.declared.table.BridgeTo.TheVariants.{Tunnel as ToHo
 use Rattle.plane_types.specs.declared.table.Carrier.{Carrier}
 use Rattle.plane_types.specs.declared.table.Carrier.TheVariants.{Tunnel as ByTunnel, Wire as ByWire}
 use Rattle.plane_types.specs.declared.table.LeaseRow.{LeaseRow}
-use Rattle.plane_types.specs.declared.table.Wire.{Wire}
+use Rattle.api_types.specs.declared.wire.Wire.{Wire}
 use Rattle.plane_types.specs.declared.tables.HostTables.{HostTables}
 use Rattle.plane_types.specs.declared.verdict.AskAnswer.TheVariants.{Lease as LeaseAnswer}
 use Rattle.plane_types.specs.declared.verdict.DropCause.TheVariants.{NoLease}
-use Rattle.plane_types.specs.declared.verdict.Lease.{Lease}
+use Rattle.api_types.specs.declared.lease.Lease.{Lease}
 use Rattle.plane_types.specs.declared.verdict.Outcome.TheVariants.{Answered, Dropped, Out}
 use Rattle.plane_types.specs.declared.verdict.Toward.TheVariants.{Dhcp as TowardDhcp}
 use Rattle.plane_laws.proofs.Facts.{AllOf, FrameFacts, HostFacts, SyncedFacts}

@@ -6,8 +6,8 @@ use Rattle.std.specs.Str.{bytes_eq}
 use Rattle.std.proofs.lemmas.Bool.{and_parts}
 use Rattle.std.proofs.lemmas.List.{append-nil}
 use Rattle.std.proofs.lemmas.List.Folds.{list_any-append}
-use Rattle.row_laws.proofs.ListLemmas.{any-weaker, none_some, or_false, some_equal}
-use Rattle.row_laws.proofs.NameLemmas.{ident_same, bytes_same}
+use Rattle.api_types.proofs.ListLemmas.{any-weaker, none_some, or_false, some_equal}
+use Rattle.api_types.proofs.NameLemmas.{ident_same, bytes_same}
 use Rattle.plane_laws.proofs.ListLemmas.{find-passes, find-each, find-some, any-only, find-map, AtMostOne-map, AllOf-more}
 use Rattle.plane_laws.proofs.Counted.{all-of}
 use Rattle.plane_laws.proofs.CrossingTop.{by-tables}
@@ -33,12 +33,12 @@ use Rattle.plane_types.specs.Entries.{has_flow, is_flow}
 use Rattle.plane_types.specs.Fabric.{fabric_fate}
 use Rattle.plane_types.specs.Hosts.{Host, all_entries, is_named}
 use Rattle.plane_types.specs.Keys.{key_eq}
-use Rattle.plane_types.specs.Live.{is_live}
+use Rattle.api_types.specs.Live.{is_live, is_at, is_here}
 use Rattle.plane_types.specs.Meaning.{Fate, rows_fate}
 use Rattle.plane_types.specs.Placed.{IsPlaced}
 use Rattle.plane_types.specs.Realises.{Realises}
 use Rattle.plane_types.specs.Routing.{Use, uses_at}
-use Rattle.plane_types.specs.TableRows.{hosted, is_at, is_here, is_host_of, is_tap}
+use Rattle.plane_types.specs.TableRows.{hosted, is_host_of, is_tap}
 use Rattle.plane_types.specs.Told.{entries_made, fabric_verdict, fabric_verdicts, hosts_after, hosts_after_all, of_nobody, rows_verdict, rows_verdicts, told_by_rows, without_hosts}
 use Rattle.plane_types.specs.declared.entry.Entry.{Entry}
 use Rattle.plane_types.specs.declared.entry.Entry.TheVariants.{Flow, Snat}
@@ -173,7 +173,7 @@ module _ (rows : RowLists) (good : FrameFacts rows) where
 -- the entries after an event: kept at the hosts, or joined behind all others, it is the same for each port and router
 module _ (carry : List ℕ → Segment → Bool) (rows : RowLists) (hosts : List Host) (held : HoldRows carry rows hosts) (event : Event) where
   facts : FrameFacts rows
-  facts = frame-facts rows held.consistent held.few
+  facts = frame-facts rows held.consistent
 
   stand : SyncedFacts rows hosts
   stand = synced-facts carry rows hosts held.carried held.synced
@@ -224,7 +224,7 @@ module _ (carry : List ℕ → Segment → Bool) (rows : RowLists) (hosts : List
   entries-kept = record { flows = flows-kept; uses = uses-kept }
 
   pub held-after : HoldRows carry rows (hosts_after hosts event)
-  held-after = record { consistent = held.consistent; few = held.few; carried = held.carried; synced = stay-synced carry rows hosts held.synced event }
+  held-after = record { consistent = held.consistent; carried = held.carried; synced = stay-synced carry rows hosts held.synced event }
 
 -- lists
 made-of-nobody : (es : List Entry) → entries_made (map of_nobody es) ≡ es
@@ -251,7 +251,7 @@ lists-mean-rows carry rows hosts held [] = refl
 lists-mean-rows carry rows hosts held (e ∷ events) =
     let one = tables-mean-rows carry rows hosts held e in
     let fresh : entries_made (rows_verdict rows (all_entries hosts) e).fresh ≡ (fabric_fate hosts e).run.fresh =
-    made-of-nobody (rows_fate rows (all_entries hosts) e).fresh ∙ ap (λ (f : Fate). f.fresh) (sym (fates-same rows hosts (frame-facts rows held.consistent held.few) (synced-facts carry rows hosts held.carried held.synced) e)) in
+    made-of-nobody (rows_fate rows (all_entries hosts) e).fresh ∙ ap (λ (f : Fate). f.fresh) (sym (fates-same rows hosts (frame-facts rows held.consistent) (synced-facts carry rows hosts held.carried held.synced) e)) in
     ap (λ v. v ∷ map without_hosts (fabric_verdicts (hosts_after hosts e) events)) one
     ∙ ap (λ vs. rows_verdict rows (all_entries hosts) e ∷ vs)
     (lists-mean-rows carry rows (hosts_after hosts e) (held-after carry rows hosts held e) events

@@ -6,8 +6,8 @@ use Rattle.std.specs.Option.{option_or}
 use Rattle.std.proofs.lemmas.List.Folds.{find-append, list_any-append}
 use Rattle.std.proofs.lemmas.Bool.{or_right}
 use Rattle.std.proofs.lemmas.List.{append-nil}
-use Rattle.row_laws.proofs.ListLemmas.{or_false}
-use Rattle.plane_types.specs.Ascending.{ascending, put_in}
+use Rattle.api_types.proofs.ListLemmas.{or_false}
+use Rattle.api_types.specs.Ascending.{ascending, put_in}
 use Rattle.plane_laws.proofs.Facts.{AllOf, AtMostOne}
 
 -- equal tests find alike

@@ -7,16 +7,17 @@ use Rattle.std.proofs.lemmas.Bool.{and_parts, eqb-true, eq-eqb, false_from_ne_tr
 use Rattle.std.proofs.lemmas.Option.{same_Some}
 use Rattle.std.proofs.lemmas.Bool.Decides.{nat_tests}
 use Rattle.std.proofs.lemmas.List.Folds.{find-append}
-use Rattle.row_laws.proofs.NameLemmas.{ident_same, ident_itself}
+use Rattle.api_types.proofs.NameLemmas.{ident_same, ident_itself}
 use Rattle.plane_laws.proofs.ListLemmas.{find-passes, find-each, find-only, AtMostOne-less, find-none_filter_map, option_or-none, find-filter_map, find-ascending}
 use Rattle.api_types.specs.Ident.{Ident}
 use Rattle.api_types.specs.Owners.{is_dhcp}
 use Rattle.api_types.specs.RowLists.{RowLists}
 use Rattle.api_types.specs.Table.{ident_eq}
 use Rattle.api_types.specs.declared.port.PortRow.{PortRow}
-use Rattle.plane_types.specs.Holders.{has_mac, port_at}
+use Rattle.api_types.specs.Holders.{has_mac, port_at}
 use Rattle.plane_types.specs.Hosts.{bridge_before, bridge_key_eq, key_place, pair_before}
-use Rattle.plane_types.specs.Live.{is_live, segment, wire_of}
+use Rattle.api_types.specs.Live.{is_live, segment}
+use Rattle.api_types.specs.Wires.{wire_of}
 use Rattle.plane_types.specs.TableRows.{bridge_by, bridge_rows, dhcp_row, end_of, mac_row, tag_of}
 use Rattle.plane_types.specs.TableStep.{bridge_at}
 use Rattle.plane_types.specs.declared.table.BridgeKey.{BridgeKey}

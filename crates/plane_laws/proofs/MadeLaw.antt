@@ -4,8 +4,10 @@ use Rattle.std.specs.Prelude.{length, find, ◌&&◌, ◌||◌, ◌==◌, if◌t
 use Rattle.std.specs.List.{list_any}
 use Rattle.std.specs.Option.{unwrap_or}
 use Rattle.std.proofs.lemmas.Bool.{and_parts}
-use Rattle.row_laws.proofs.NameLemmas.{ident_itself}
+use Rattle.api_types.proofs.NameLemmas.{ident_itself}
 use Rattle.plane_laws.proofs.ListLemmas.{find-some, list_any-found}
+use Rattle.net_addr.specs.declared.address.Addr.TheVariants.{V4}
+use Rattle.net_addr.specs.declared.address.Addr.{Addr}
 use Rattle.api_types.specs.Ident.{Ident}
 use Rattle.api_types.specs.Table.{ident_eq}
 use Rattle.api_types.specs.declared.group.Direction.{Direction}
@@ -16,7 +18,8 @@ use Rattle.plane_types.specs.Packets.{Packet, is_unsupported, key_of, packet}
 use Rattle.plane_types.specs.Passage.{Passage, new_flow, passage}
 use Rattle.plane_types.specs.Placed.{is_placed, meets, translates}
 use Rattle.plane_types.specs.Places.{Bridge, DhcpIn, Next, Place, RouterIn, TapIn, TapOut, TunnelIn, WireIn}
-use Rattle.plane_types.specs.Routing.{Changed, Destined, Float, Leg, RouteEnds, RouteSends, Routed, RouterView, Sourced, Use, Way, best_way, by_any, by_float, destined, has_choice, is_gateway_live, is_own, is_taken, kept_source, least_untaken, new_port, routed, routed_out, routed_to, routed_way, sent, sourced, sourced_float, sourced_gateway, sourced_new, sourced_use, uses_at, uses_by}
+use Rattle.plane_types.specs.Routing.{Changed, Destined, RouteEnds, RouteSends, Routed, Sourced, Use, best_way, by_any, by_float, destined, has_choice, is_gateway_live, is_own, is_taken, kept_source, least_untaken, new_port, routed, routed_out, routed_to, routed_way, sent, sourced, sourced_float, sourced_gateway, sourced_new, sourced_use, uses_at, uses_by}
+use Rattle.api_types.specs.RouterViews.{Float, Leg, RouterView, Way}
 use Rattle.plane_types.specs.TableStep.{Stepped, drops, leg_at, plain, router_at, router_by_leg, router_by_row, stops, table_routed, table_step, table_view, tables_allow, tagged_leg, tap_at, tap_guards, tap_in, tap_out, tap_passage, tap_sends}
 use Rattle.plane_types.specs.declared.entry.Entry.{Entry}
 use Rattle.plane_types.specs.declared.entry.Entry.TheVariants.{Flow, Snat}
@@ -92,25 +95,25 @@ module _ (v : RouterView) (uses : List Use) where
       start false = tt
       start true = floated (find (λ (f : Float). f.fixed == p.from) v.floats)
 
-  sent-gives : (out : Leg) (hop : ℕ) (o : Option Sourced) → GivesSourced v uses o → GivesRouted v uses (sent out hop o)
+  sent-gives : (out : Leg) (hop : Addr) (o : Option Sourced) → GivesSourced v uses o → GivesRouted v uses (sent out hop o)
   sent-gives out hop None g = tt
   sent-gives out hop (Some s) g = g
 
   to-gives : (way_in : Leg) (d : Destined) → GivesRouted v uses (routed_to v uses way_in d)
-  to-gives way_in d = go (is_own v d.packet.to) (nat_le d.packet.ttl 1)
+  to-gives way_in d = go (is_own v (V4 d.packet.to)) (nat_le d.packet.ttl 1)
     where
-      out : (hop : ℕ) (o : Option Leg) → GivesRouted v uses (routed_out v uses way_in d.by (record (d.packet) { ttl = d.packet.ttl - 1 }) hop o)
+      out : (hop : Addr) (o : Option Leg) → GivesRouted v uses (routed_out v uses way_in d.by (record (d.packet) { ttl = d.packet.ttl - 1 }) hop o)
       out hop None = tt
       out hop (Some l) = sent-gives l hop (sourced v uses way_in l d.by (record (d.packet) { ttl = d.packet.ttl - 1 })) (sourced-gives way_in l d.by (record (d.packet) { ttl = d.packet.ttl - 1 }))
 
       way : (o : Option Way) → GivesRouted v uses (routed_way v uses way_in d.by (record (d.packet) { ttl = d.packet.ttl - 1 }) o)
       way None = tt
-      way (Some w) = out (unwrap_or w.next d.packet.to) (find (λ (l : Leg). ident_eq w.port l.port) v.legs)
+      way (Some w) = out (unwrap_or w.next (V4 d.packet.to)) (find (λ (l : Leg). ident_eq w.port l.port) v.legs)
 
-      go : (own low : Bool) → GivesRouted v uses (if own then RouteEnds (Absorbed v.id) else if low then RouteEnds (Dropped Expired) else routed_way v uses way_in d.by (record (d.packet) { ttl = d.packet.ttl - 1 }) (best_way d.packet.to v.ways))
+      go : (own low : Bool) → GivesRouted v uses (if own then RouteEnds (Absorbed v.id) else if low then RouteEnds (Dropped Expired) else routed_way v uses way_in d.by (record (d.packet) { ttl = d.packet.ttl - 1 }) (best_way (V4 d.packet.to) v.ways))
       go true low = tt
       go false true = tt
-      go false false = way (best_way d.packet.to v.ways)
+      go false false = way (best_way (V4 d.packet.to) v.ways)
 
 pub routed-gives : (v : RouterView) (entries : List Entry) (way_in : Leg) (p : Packet) → GivesRouted v (uses_by v.snat v.gateway v.id entries) (routed v entries way_in p)
 unfolding routed

@@ -1,14 +1,20 @@
 -- The neighbours row of an address is its joined holder's.
-use Rattle.std.proofs.Common.{◌≡◌, ℕ, List, [], ◌∷◌, ◌++◌, map, Bool, true, false, cond, not, Option, Some, None, refl, ap, sym, subst, ◌∙◌}
+use Rattle.std.proofs.Common.{◌≡◌, ℕ, nat_lt, List, [], ◌∷◌, ◌++◌, map, Bool, true, false, cond, not, Option, Some, None, refl, ap, sym, subst, ◌∙◌, arith}
 use Rattle.std.specs.Prelude.{find, flat_map, option_and_then, option_map, ◌&&◌, ◌||◌, ◌==◌, if◌then◌else◌}
 use Rattle.std.specs.List.{filter_map, list_any}
 use Rattle.std.specs.Option.{option_or}
 use Rattle.std.proofs.lemmas.Bool.{and_parts, and_from, eqb-true, eq-eqb, false_from_ne_true}
 use Rattle.std.proofs.lemmas.Option.{same_Some}
 use Rattle.std.proofs.lemmas.List.Folds.{find-append}
-use Rattle.row_laws.proofs.NameLemmas.{ident_same}
+use Rattle.api_types.proofs.NameLemmas.{ident_same}
 use Rattle.plane_laws.proofs.ListLemmas.{find-passes, find-each, find-only, AtMostOne-less, find-filter_map, find-flat_map, find-ascending}
-use Rattle.plane_laws.proofs.Located.{and_true, tag-apart, before_differs}
+use Rattle.plane_laws.proofs.Located.{and_true, tag-apart}
+use Rattle.net_addr.proofs.AddrLemmas.{addr_same, addr_itself, before_differs as addr_apart}
+use Rattle.net_addr.specs.Ordered.{addr_before}
+use Rattle.std.proofs.lemmas.Bool.Decides.{nat_tests}
+use Rattle.net_addr.specs.Addresses.{addr_eq}
+use Rattle.net_addr.specs.declared.address.Addr.{Addr}
+use Rattle.net_addr.specs.declared.address.Addr.TheVariants.{V4}
 use Rattle.api_types.specs.Consistent.Carried.{is_bound}
 use Rattle.api_types.specs.Ident.{Ident}
 use Rattle.api_types.specs.Lists.{stands}
@@ -19,40 +25,49 @@ use Rattle.api_types.specs.declared.port.Fixed.{Fixed}
 use Rattle.api_types.specs.declared.port.PortRow.{PortRow}
 use Rattle.api_types.specs.declared.router.Gateway.{Gateway}
 use Rattle.api_types.specs.declared.router.RouterRow.{RouterRow}
-use Rattle.plane_types.specs.Holders.{floating_holder, floats_at, gateway_port, gateway_port_of, has_mac, held_by_floating, holder, holds, holds_live, live_on, port_at, target_router}
+use Rattle.api_types.specs.Holders.{floating_holder, floats_at, gateway_port, gateway_port_of, has_mac, held_by_floating, holder, holds, holds_live, live_on, port_at, target_router}
 use Rattle.plane_types.specs.Hosts.{neighbour_before}
-use Rattle.plane_types.specs.Live.{is_joined, is_live, joined_with, network_of, network_up}
+use Rattle.api_types.specs.Live.{is_joined, is_live, joined_with, network_of, network_up}
 use Rattle.plane_types.specs.TableRows.{floating_neighbour, floating_neighbour_by, neighbour_rows, neighbours_by, neighbours_of, tag_of}
 use Rattle.plane_types.specs.TableStep.{neighbour_at}
 use Rattle.plane_types.specs.declared.table.NeighbourRow.{NeighbourRow}
 use Rattle.plane_types.specs.declared.tables.HostTables.{HostTables}
 use Rattle.plane_laws.proofs.Facts.{AtMostOne, FrameFacts, HostFacts, OwnPortStands, own_port_stands}
 
-abbrev pub row_at : ℕ → ℕ → PortRow → NeighbourRow
+abbrev pub row_at : ℕ → Addr → PortRow → NeighbourRow
 row_at tag x q = record { tag = tag; address = x; mac = q.mac }
 
-abbrev pub at_key : ℕ → ℕ → NeighbourRow → Bool
-at_key tag x r = (r.tag == tag) && (r.address == x)
+abbrev pub at_key : ℕ → Addr → NeighbourRow → Bool
+at_key tag x r = (r.tag == tag) && addr_eq r.address x
 
-neighbours_hit : (q : PortRow) (other tag x : ℕ) (fs : List Fixed) → find (at_key tag x) (map (λ (f : Fixed). record { tag = other; address = f.address; mac = q.mac }) fs) ≡ cond ((other == tag) && list_any (λ (f : Fixed). f.address == x) fs) (Some (row_at tag x q)) None
+neighbours_hit : (q : PortRow) (other tag : ℕ) (x : Addr) (fs : List Fixed) → find (at_key tag x) (map (λ (f : Fixed). record { tag = other; address = f.address; mac = q.mac }) fs) ≡ cond ((other == tag) && list_any (λ (f : Fixed). addr_eq f.address x) fs) (Some (row_at tag x q)) None
 neighbours_hit q other tag x [] = none (other == tag)
   where
     none : (b : Bool) → None ≡ cond (b && false) (Some (row_at tag x q)) None
     none true = refl
     none false = refl
-neighbours_hit q other tag x (f ∷ fs) = go (other == tag) (f.address == x) refl refl (neighbours_hit q other tag x fs)
+neighbours_hit q other tag x (f ∷ fs) = go (other == tag) (addr_eq f.address x) refl refl (neighbours_hit q other tag x fs)
   where
-    go : (a b : Bool) → (other == tag) ≡ a → (f.address == x) ≡ b → find (at_key tag x) (map (λ (f : Fixed). record { tag = other; address = f.address; mac = q.mac }) fs) ≡ cond ((other == tag) && list_any (λ (f : Fixed). f.address == x) fs) (Some (row_at tag x q)) None
-        → cond (a && b) (Some (record { tag = other; address = f.address; mac = q.mac })) (find (at_key tag x) (map (λ (f : Fixed). record { tag = other; address = f.address; mac = q.mac }) fs)) ≡ cond (a && (b || list_any (λ (f : Fixed). f.address == x) fs)) (Some (row_at tag x q)) None
-    go true true e k rest = ap (λ t. Some (record { tag = t; address = f.address; mac = q.mac })) (eqb-true other tag e) ∙ ap (λ y. Some (record { tag = tag; address = y; mac = q.mac })) (eqb-true f.address x k)
-    go true false e k rest = rest ∙ ap (λ b. cond (b && list_any (λ (f : Fixed). f.address == x) fs) (Some (row_at tag x q)) None) e
-    go false b e k rest = rest ∙ ap (λ b. cond (b && list_any (λ (f : Fixed). f.address == x) fs) (Some (row_at tag x q)) None) e
+    go : (a b : Bool) → (other == tag) ≡ a → addr_eq f.address x ≡ b → find (at_key tag x) (map (λ (f : Fixed). record { tag = other; address = f.address; mac = q.mac }) fs) ≡ cond ((other == tag) && list_any (λ (f : Fixed). addr_eq f.address x) fs) (Some (row_at tag x q)) None
+        → cond (a && b) (Some (record { tag = other; address = f.address; mac = q.mac })) (find (at_key tag x) (map (λ (f : Fixed). record { tag = other; address = f.address; mac = q.mac }) fs)) ≡ cond (a && (b || list_any (λ (f : Fixed). addr_eq f.address x) fs)) (Some (row_at tag x q)) None
+    go true true e k rest = ap (λ t. Some (record { tag = t; address = f.address; mac = q.mac })) (eqb-true other tag e) ∙ ap (λ y. Some (record { tag = tag; address = y; mac = q.mac })) (addr_same f.address x k)
+    go true false e k rest = rest ∙ ap (λ b. cond (b && list_any (λ (f : Fixed). addr_eq f.address x) fs) (Some (row_at tag x q)) None) e
+    go false b e k rest = rest ∙ ap (λ b. cond (b && list_any (λ (f : Fixed). addr_eq f.address x) fs) (Some (row_at tag x q)) None) e
 
-neighbour_apart : (tag x : ℕ) (r s : NeighbourRow) → neighbour_before s r ≡ true → at_key tag x r ≡ true → at_key tag x s ≡ false
+not_before : (a b : ℕ) (x y : Addr) → (nat_lt a b || ((a == b) && addr_before x y)) ≡ true → a ≡ b → x ≡ y → ⊥
+not_before a b x y h e f =
+    let tags : nat_lt a b ≡ false = grind (arith, nat_tests) in
+    let both : ((a == b) && addr_before x y) ≡ true = ap (λ c. c || ((a == b) && addr_before x y)) (sym tags) ∙ h in
+    let apart : addr_eq x y ≡ false = addr_apart x y (and_parts (a == b) (addr_before x y) both).1 in
+    let same : addr_eq x y ≡ true = ap (addr_eq x) (sym f) ∙ addr_itself x in
+    let bad : true ≡ false = sym same ∙ apart in
+    cc
+
+neighbour_apart : (tag : ℕ) (x : Addr) (r s : NeighbourRow) → neighbour_before s r ≡ true → at_key tag x r ≡ true → at_key tag x s ≡ false
 neighbour_apart tag x r s before here = false_from_ne_true (at_key tag x s) (λ there.
-    let p = and_parts (r.tag == tag) (r.address == x) here in
-    let q = and_parts (s.tag == tag) (s.address == x) there in
-    before_differs s.tag s.address r.tag r.address before (eqb-true s.tag tag q.0 ∙ sym (eqb-true r.tag tag p.0)) (eqb-true s.address x q.1 ∙ sym (eqb-true r.address x p.1)))
+    let p = and_parts (r.tag == tag) (addr_eq r.address x) here in
+    let q = and_parts (s.tag == tag) (addr_eq s.address x) there in
+    not_before s.tag r.tag s.address r.address before (eqb-true s.tag tag q.0 ∙ sym (eqb-true r.tag tag p.0)) (addr_same s.address x q.1 ∙ sym (addr_same r.address x p.1)))
 
 cond_same : {A : Type 0} (b : Bool) (y : A) → y ≡ cond b y y
 cond_same true y = refl
@@ -63,17 +78,17 @@ and_false true = refl
 and_false false = refl
 
 -- an address that a live port holds is no floating address of the network
-held-apart : (rows : RowLists) → FrameFacts rows → (n : Ident) (x : ℕ) (q : PortRow) → find (holds_live rows n x) rows.ports ≡ Some q → held_by_floating rows n x ≡ None
+held-apart : (rows : RowLists) → FrameFacts rows → (n : Ident) (x : Addr) (q : PortRow) → find (holds_live rows n x) rows.ports ≡ Some q → held_by_floating rows n x ≡ None
 unfolding is_live
 held-apart rows good n x q found = go (find (floats_at n x) rows.floatings) refl
   where
     by : (f : FloatingRow) → floats_at n x f ≡ true → (o : Option PortRow) → row_of (λ (p : PortRow). p.id) f.own_port rows.ports ≡ o → own_port_stands f o ≡ true → option_and_then (floating_holder rows) (Some f) ≡ None
     by f at None e stands = cc
     by f at (Some p) e stands =
-        let own = and_parts (ident_eq f.network p.network && holds p f.address) (not (is_bound p.vif)) stands in
-        let place = and_parts (ident_eq n f.network) (f.address == x) at in
+        let own = and_parts (ident_eq f.network p.network && holds p (V4 f.address)) (not (is_bound p.vif)) stands in
+        let place = and_parts (ident_eq n f.network) (addr_eq (V4 f.address) x) at in
         let here : (ident_eq n p.network && holds p x) ≡ true =
-        ap (λ i. ident_eq i p.network && holds p x) (ident_same n f.network place.0) ∙ ap (λ y. ident_eq f.network p.network && holds p y) (sym (eqb-true f.address x place.1)) ∙ own.0 in
+        ap (λ i. ident_eq i p.network && holds p x) (ident_same n f.network place.0) ∙ ap (λ y. ident_eq f.network p.network && holds p y) (sym (addr_same (V4 f.address) x place.1)) ∙ own.0 in
         let pass = and_parts (ident_eq n q.network && holds q x) (is_live rows q) (find-passes (holds_live rows n x) rows.ports q found) in
         let mine = find-only (λ (z : PortRow). ident_eq f.own_port z.id) (λ (z : PortRow). ident_eq n z.network && holds z x) rows.ports p (good.addresses n x) e here in
         let its = find-only (holds_live rows n x) (λ (z : PortRow). ident_eq n z.network && holds z x) rows.ports q (good.addresses n x) found pass.0 in
@@ -87,7 +102,7 @@ held-apart rows good n x q found = go (find (floats_at n x) rows.floatings) refl
     go None e = refl
     go (Some f) e = by f (find-passes (floats_at n x) rows.floatings f e) (row_of (λ (p : PortRow). p.id) f.own_port rows.ports) refl (find-each (OwnPortStands rows) (floats_at n x) rows.floatings f good.own_ports e)
 
-module _ (rows : RowLists) (host : List ℕ) (t : HostTables) (real : HostFacts rows host t) (good : FrameFacts rows) (n : Ident) (tag : ℕ) (tagged : tag_of t.tags n ≡ Some tag) (x : ℕ) where
+module _ (rows : RowLists) (host : List ℕ) (t : HostTables) (real : HostFacts rows host t) (good : FrameFacts rows) (n : Ident) (tag : ℕ) (tagged : tag_of t.tags n ≡ Some tag) (x : Addr) where
   of-port : (q : PortRow) → find (at_key tag x) (neighbours_of rows host t.tags q) ≡ cond (holds_live rows n x q) (option_map (row_at tag x) (joined_with rows host (Some q))) None
   of-port q = go (is_live rows q) (is_joined rows q host) (tag_of t.tags q.network) (ident_eq n q.network) refl refl
     where
@@ -115,12 +130,12 @@ module _ (rows : RowLists) (host : List ℕ) (t : HostTables) (real : HostFacts 
   floating_hit : (f : FloatingRow) (r : NeighbourRow) → floating_neighbour rows host t.tags f ≡ Some r → at_key tag x r ≡ floats_at n x f
   floating_hit f r h = go (floating_holder rows f) h
     where
-      by : (q : PortRow) (b : Bool) (o : Option ℕ) → tag_of t.tags f.network ≡ o → (if b then option_map (λ tag. record { tag = tag; address = f.address; mac = q.mac }) o else None) ≡ Some r → at_key tag x r ≡ floats_at n x f
+      by : (q : PortRow) (b : Bool) (o : Option ℕ) → tag_of t.tags f.network ≡ o → (if b then option_map (λ tag. record { tag = tag; address = V4 f.address; mac = q.mac }) o else None) ≡ Some r → at_key tag x r ≡ floats_at n x f
       by q false o e h = cc
       by q true None e h = cc
       by q true (Some other) e h =
-          let is : record { tag = other; address = f.address; mac = q.mac } ≡ r = cc in
-          subst (λ (s : NeighbourRow). at_key tag x s ≡ floats_at n x f) is (ap (λ b. b && (f.address == x)) (tag-apart rows host t.tags real.tags n f.network tag other tagged e))
+          let is : record { tag = other; address = V4 f.address; mac = q.mac } ≡ r = cc in
+          subst (λ (s : NeighbourRow). at_key tag x s ≡ floats_at n x f) is (ap (λ b. b && addr_eq (V4 f.address) x) (tag-apart rows host t.tags real.tags n f.network tag other tagged e))
 
       go : (o : Option PortRow) → floating_neighbour_by rows host t.tags f o ≡ Some r → at_key tag x r ≡ floats_at n x f
       go None h = cc
@@ -133,11 +148,11 @@ module _ (rows : RowLists) (host : List ℕ) (t : HostTables) (real : HostFacts 
       by f e None = refl
       by f e (Some q) = joined (is_joined rows q host)
         where
-          joined : (b : Bool) → (if b then option_map (λ tag. record { tag = tag; address = f.address; mac = q.mac }) (tag_of t.tags f.network) else None) ≡ option_map (row_at tag x) (if b then Some q else None)
+          joined : (b : Bool) → (if b then option_map (λ tag. record { tag = tag; address = V4 f.address; mac = q.mac }) (tag_of t.tags f.network) else None) ≡ option_map (row_at tag x) (if b then Some q else None)
           joined false = refl
           joined true =
-              let p = and_parts (ident_eq n f.network) (f.address == x) e in
-              ap (option_map (λ tag. record { tag = tag; address = f.address; mac = q.mac })) (ap (tag_of t.tags) (sym (ident_same n f.network p.0)) ∙ tagged) ∙ ap (λ y. Some (record { tag = tag; address = y; mac = q.mac })) (eqb-true f.address x p.1)
+              let p = and_parts (ident_eq n f.network) (addr_eq (V4 f.address) x) e in
+              ap (option_map (λ tag. record { tag = tag; address = V4 f.address; mac = q.mac })) (ap (tag_of t.tags) (sym (ident_same n f.network p.0)) ∙ tagged) ∙ ap (λ y. Some (record { tag = tag; address = y; mac = q.mac })) (addr_same (V4 f.address) x p.1)
 
       go : (o : Option FloatingRow) → find (floats_at n x) rows.floatings ≡ o → option_and_then (floating_neighbour rows host t.tags) o ≡ option_map (row_at tag x) (joined_with rows host (option_and_then (floating_holder rows) o))
       go None e = refl
@@ -162,7 +177,7 @@ module _ (rows : RowLists) (host : List ℕ) (t : HostTables) (real : HostFacts 
       go (Some q) e = ap (λ h. option_or (option_map (row_at tag x) (joined_with rows host (Some q))) (option_map (row_at tag x) (joined_with rows host h))) (held-apart rows good n x q e) ∙ none q (is_joined rows q host)
 
 -- the holder of an address is the port with its MAC
-pub holder-at : (rows : RowLists) → FrameFacts rows → (n : Ident) (x : ℕ) (q : PortRow) → holder rows n x ≡ Some q → port_at rows n q.mac ≡ Some q
+pub holder-at : (rows : RowLists) → FrameFacts rows → (n : Ident) (x : Addr) (q : PortRow) → holder rows n x ≡ Some q → port_at rows n q.mac ≡ Some q
 unfolding floating_holder
 holder-at rows good n x q h = go (find (holds_live rows n x) rows.ports) refl h
   where
@@ -193,7 +208,7 @@ holder-at rows good n x q h = go (find (holds_live rows n x) rows.ports) refl h
 
     by_floating : (o : Option FloatingRow) → find (floats_at n x) rows.floatings ≡ o → option_and_then (floating_holder rows) o ≡ Some q → port_at rows n q.mac ≡ Some q
     by_floating None e k = cc
-    by_floating (Some f) e k = by_router f (and_parts (ident_eq n f.network) (f.address == x) (find-passes (floats_at n x) rows.floatings f e)).0 (target_router rows f.target) k
+    by_floating (Some f) e k = by_router f (and_parts (ident_eq n f.network) (addr_eq (V4 f.address) x) (find-passes (floats_at n x) rows.floatings f e)).0 (target_router rows f.target) k
 
     go : (o : Option PortRow) → find (holds_live rows n x) rows.ports ≡ o → option_or o (held_by_floating rows n x) ≡ Some q → port_at rows n q.mac ≡ Some q
     go None e k = by_floating (find (floats_at n x) rows.floatings) refl k

@@ -6,8 +6,8 @@ use Rattle.std.specs.Str.{bytes_eq}
 use Rattle.std.proofs.lemmas.Bool.{eqb-true}
 use Rattle.std.proofs.lemmas.List.{append-nil}
 use Rattle.std.proofs.lemmas.List.Folds.{list_any-append}
-use Rattle.row_laws.proofs.ListLemmas.{and_both, or_none, none-any, count-none, once-push, each-push, some_equal}
-use Rattle.row_laws.proofs.NameLemmas.{ident_same, bytes_same, bytes_itself}
+use Rattle.api_types.proofs.ListLemmas.{and_both, or_none, none-any, count-none, once-push, each-push, some_equal}
+use Rattle.api_types.proofs.NameLemmas.{ident_same, bytes_same, bytes_itself}
 use Rattle.plane_laws.proofs.ListLemmas.{find-only, AllOf-more, each-found}
 use Rattle.plane_laws.proofs.MadeLaw.{Admits, IsApart, step-admits}
 use Rattle.api_types.specs.Ident.{Ident}
@@ -28,7 +28,7 @@ use Rattle.plane_types.specs.declared.frame.Frame.{Frame}
 use Rattle.plane_types.specs.declared.frame.Key.{Key}
 use Rattle.plane_types.specs.declared.frame.KeyKind.{KeyKind}
 use Rattle.plane_types.specs.declared.table.Carrier.TheVariants.{Wire as ByWire}
-use Rattle.plane_types.specs.declared.table.Wire.{Wire}
+use Rattle.api_types.specs.declared.wire.Wire.{Wire}
 use Rattle.plane_types.specs.declared.tables.HostTables.{HostTables}
 use Rattle.plane_types.specs.declared.verdict.DropCause.TheVariants.{Unsupported}
 use Rattle.plane_types.specs.declared.verdict.Outcome.TheVariants.{Dropped}

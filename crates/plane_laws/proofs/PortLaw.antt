@@ -3,7 +3,7 @@ use Rattle.std.proofs.Common.{◌≡◌, ℕ, suc, ◌+◌, ◌-◌, ◌*◌, �
 use Rattle.std.specs.Prelude.{find, option_and_then, option_map, ◌&&◌, ◌||◌, if◌then◌else◌, is_some}
 use Rattle.std.specs.Str.{bytes_eq}
 use Rattle.std.proofs.lemmas.Bool.{and_from, and_right}
-use Rattle.row_laws.proofs.NameLemmas.{ident_same, bytes_same}
+use Rattle.api_types.proofs.NameLemmas.{ident_same, bytes_same}
 use Rattle.plane_laws.proofs.ListLemmas.{find-passes, find-each, some_of, find-none_each, find-same_each, AllOf-more}
 use Rattle.plane_laws.proofs.Located.{tag-row}
 use Rattle.plane_laws.proofs.Tagged.{tap-located, tagged}
@@ -21,12 +21,12 @@ use Rattle.api_types.specs.declared.port.PortRow.{PortRow}
 use Rattle.plane_types.specs.Fabric.{Run, after_step, at_tap, begun, fabric_fate, from_tap, meant, network_at, steps_for, taken, walk}
 use Rattle.plane_types.specs.Guard.{passes_guard}
 use Rattle.plane_types.specs.Hosts.{Host, all_entries, is_named}
-use Rattle.plane_types.specs.Live.{is_live, network_of}
+use Rattle.api_types.specs.Live.{is_live, network_of, is_at}
 use Rattle.plane_types.specs.Meaning.{asked, dropped, ended, from_live, from_port, from_sender, got, lease_asked, life_of, may_begin, none_so_far, rows_fate, rows_passage, sent_on, sent_out, with_fresh}
 use Rattle.plane_types.specs.Packets.{LeaseAsk, Packet, address_ask, arp_frame, dhcp_frame, ip_frame, is_unsupported, lease_ask, packet}
 use Rattle.plane_types.specs.Passage.{Passage}
 use Rattle.plane_types.specs.Places.{Bridge, Next, TapIn}
-use Rattle.plane_types.specs.TableRows.{is_at, tag_of, tap_of, tap_row}
+use Rattle.plane_types.specs.TableRows.{tag_of, tap_of, tap_row}
 use Rattle.plane_types.specs.TableStep.{drops, plain, tap_at, tap_filtered, tap_in, tap_sends}
 use Rattle.plane_types.specs.declared.entry.Entry.{Entry}
 use Rattle.plane_types.specs.declared.event.Event.TheVariants.{FromPort}

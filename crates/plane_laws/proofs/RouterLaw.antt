@@ -4,7 +4,7 @@ use Rattle.std.specs.Prelude.{find, option_and_then, option_map, ◌&&◌, if◌
 use Rattle.std.specs.List.{filter}
 use Rattle.std.proofs.lemmas.Bool.{and_from}
 use Rattle.std.proofs.lemmas.List.{append-nil}
-use Rattle.row_laws.proofs.NameLemmas.{ident_itself, bytes_same}
+use Rattle.api_types.proofs.NameLemmas.{ident_itself, bytes_same}
 use Rattle.plane_laws.proofs.ListLemmas.{find-passes, find-each, find-only, some_of, find-filter}
 use Rattle.plane_laws.proofs.Located.{tag-row}
 use Rattle.plane_laws.proofs.Sent.{trace_of, walk-on, trace-plain}
@@ -13,6 +13,7 @@ use Rattle.plane_laws.proofs.EntriesLaw.{uses-located}
 use Rattle.plane_laws.proofs.Neighbours.{row_at, neighbour-located, holder-at}
 use Rattle.plane_laws.proofs.RouterTables.{Lower, routed-lower, routed-same}
 use Rattle.plane_laws.proofs.RouterView.{router-located, view-located, leg-located, leg-here, leg-tagged}
+use Rattle.net_addr.specs.declared.address.Addr.{Addr}
 use Rattle.api_types.specs.Ident.{Ident}
 use Rattle.api_types.specs.Owners.{device_is, is_router_port}
 use Rattle.api_types.specs.RowLists.{RowLists}
@@ -20,18 +21,20 @@ use Rattle.api_types.specs.declared.network.NetworkRow.{NetworkRow}
 use Rattle.api_types.specs.declared.port.PortRow.{PortRow}
 use Rattle.api_types.specs.declared.router.RouterRow.{RouterRow}
 use Rattle.plane_types.specs.Fabric.{Run, after_step, meant, network_at, step_path, taken, walk}
-use Rattle.plane_types.specs.Holders.{holder, port_at, router_of}
+use Rattle.api_types.specs.Holders.{holder, port_at, router_of}
 use Rattle.plane_types.specs.Hosts.{Host, all_entries, is_named}
-use Rattle.plane_types.specs.Live.{is_joined, is_live, joined_with, network_of, segment, wire_of}
+use Rattle.api_types.specs.Live.{is_joined, is_live, joined_with, network_of, segment}
+use Rattle.api_types.specs.Wires.{wire_of}
 use Rattle.plane_types.specs.Meaning.{Trace, ended, got, handed, handed_out, handed_to, out_or, sent_to, with_fresh, with_path}
 use Rattle.plane_types.specs.Packets.{Packet, ip_frame}
 use Rattle.plane_types.specs.Places.{Bridge, End, Next, Place, RouterIn}
-use Rattle.plane_types.specs.RouterRows.{gateway_address, has_snat, is_leg_of, leg_of, legs_of, router_view}
-use Rattle.plane_types.specs.Routing.{Leg, RouteEnds, RouteSends, Routed, routed, uses_by}
+use Rattle.api_types.specs.RouterRows.{gateway_address, has_snat, is_leg_of, leg_of, legs_of, router_view}
+use Rattle.plane_types.specs.Routing.{RouteEnds, RouteSends, Routed, routed, uses_by}
+use Rattle.api_types.specs.RouterViews.{Leg}
 use Rattle.plane_types.specs.TableRows.{hosted, is_hosted, router_port, router_row, tag_of, tagged_by}
 use Rattle.plane_types.specs.TableStep.{Stepped, router_by_leg, router_by_row, sent_at, sent_by, table_routed, table_step, tag_row, unheld}
 use Rattle.plane_types.specs.declared.entry.Entry.{Entry}
-use Rattle.plane_types.specs.declared.table.Wire.{Wire}
+use Rattle.api_types.specs.declared.wire.Wire.{Wire}
 use Rattle.plane_types.specs.declared.verdict.DropCause.TheVariants.{NoHolder, Unknown}
 use Rattle.plane_types.specs.declared.verdict.Outcome.{Outcome}
 use Rattle.plane_types.specs.declared.verdict.Outcome.TheVariants.{Dropped, Out}
@@ -115,7 +118,7 @@ module _ (rows : RowLists) (hosts : List Host) (good : FrameFacts rows) (synced 
     ended-by : (made : List Entry) (o : Outcome) (way : Option Ident) (ids : List Ident) → step_path h (RouterIn q.id r.id (ip_frame p)) (End o way) ≡ ids → meant (taken hosts (walk hosts (steps - 1)) h (RouterIn q.id r.id (ip_frame p)) run (record { step = End o way; made = made })) ≡ ended (with_path (with_fresh (trace_of run) made) ids) o
     ended-by made o way ids e = ap (λ t. ended t o) (trace-step h (RouterIn q.id r.id (ip_frame p)) (record { step = End o way; made = made }) run ids e)
 
-    module _ (made : List Entry) (out : Leg) (hop : ℕ) (p2 : Packet) (lower : p2.ttl < p.ttl) where
+    module _ (made : List Entry) (out : Leg) (hop : Addr) (p2 : Packet) (lower : p2.ttl < p.ttl) where
       no-leg : find (has_id out.port) (legs_of rows r) ≡ None → meant (taken hosts (walk hosts (steps - 1)) h (RouterIn q.id r.id (ip_frame p)) run (table_routed h.tables (router_row rows h.tables.tags r) (RouteSends made out hop p2))) ≡ handed rows (got rows (all_entries hosts) many) r (trace_of run) (RouteSends made out hop p2)
       no-leg e =
           ap (λ o. meant (taken hosts (walk hosts (steps - 1)) h (RouterIn q.id r.id (ip_frame p)) run (record { step = sent_at h.tables hop p2 o; made = made }))) (leg-located rows h.name h.tables real good of_device r router_is here out.port ∙ ap (option_and_then (tagged_by rows h.tables.tags)) e)

@@ -3,11 +3,14 @@ use Rattle.std.proofs.Common.{◌≡◌, ℕ, suc, ◌-◌, ◌<◌, List, [], B
 use Rattle.std.specs.Prelude.{find, ◌&&◌, ◌||◌, ◌==◌, nat_le, ⊤, if◌then◌else◌}
 use Rattle.std.specs.Option.{unwrap_or}
 use Rattle.std.proofs.lemmas.Bool.{leb-false}
+use Rattle.net_addr.specs.declared.address.Addr.TheVariants.{V4}
+use Rattle.net_addr.specs.declared.address.Addr.{Addr}
 use Rattle.api_types.specs.Table.{ident_eq}
 use Rattle.plane_types.specs.Crossing.{not_delivered}
 use Rattle.plane_types.specs.Keys.{key_eq}
 use Rattle.plane_types.specs.Packets.{Packet, key_of}
-use Rattle.plane_types.specs.Routing.{Changed, Destined, Float, Leg, RouteEnds, RouteSends, Routed, RouterView, Sourced, Use, Way, answers, best_way, by_any, by_float, destined, destined_entry, destined_float, is_gateway_live, is_own, kept_source, new_port, routed, routed_out, routed_to, routed_way, sent, sourced, sourced_float, sourced_gateway, sourced_new, sourced_use, uses_by}
+use Rattle.plane_types.specs.Routing.{Changed, Destined, RouteEnds, RouteSends, Routed, Sourced, Use, answers, best_way, by_any, by_float, destined, destined_entry, destined_float, is_gateway_live, is_own, kept_source, new_port, routed, routed_out, routed_to, routed_way, sent, sourced, sourced_float, sourced_gateway, sourced_new, sourced_use, uses_by}
+use Rattle.api_types.specs.RouterViews.{Float, Leg, RouterView, Way}
 use Rattle.plane_types.specs.declared.entry.Entry.{Entry}
 use Rattle.plane_types.specs.declared.verdict.DropCause.TheVariants.{Expired, RouterDown}
 use Rattle.plane_types.specs.declared.verdict.Outcome.TheVariants.{Absorbed, Dropped}
@@ -61,28 +64,28 @@ module _ (v : RouterView) (uses : List Use) where
           floated (Some f) = refl
           floated None = float None ((not out.inside || by_float by) && v.snat && is_gateway_live v)
 
-  sent-ttl : (out : Leg) (hop n m : ℕ) (o : Option Sourced) → n < m → Keeps n o → Lower m (sent out hop o)
+  sent-ttl : (out : Leg) (hop : Addr) (n m : ℕ) (o : Option Sourced) → n < m → Keeps n o → Lower m (sent out hop o)
   sent-ttl out hop n m None lt k = refl
   sent-ttl out hop n m (Some s) lt k = omega arith
 
   to-ttl : (way_in : Leg) (d : Destined) (n : ℕ) → d.packet.ttl ≡ n → Lower n (routed_to v uses way_in d)
-  to-ttl way_in d n e = go (is_own v d.packet.to) (nat_le d.packet.ttl 1) refl
+  to-ttl way_in d n e = go (is_own v (V4 d.packet.to)) (nat_le d.packet.ttl 1) refl
     where
       p : Packet
       p = record (d.packet) { ttl = d.packet.ttl - 1 }
 
-      out : (hop : ℕ) (o : Option Leg) → 0 < d.packet.ttl → Lower n (routed_out v uses way_in d.by (record (d.packet) { ttl = d.packet.ttl - 1 }) hop o)
+      out : (hop : Addr) (o : Option Leg) → 0 < d.packet.ttl → Lower n (routed_out v uses way_in d.by (record (d.packet) { ttl = d.packet.ttl - 1 }) hop o)
       out hop None lt = refl
       out hop (Some l) lt = sent-ttl l hop (d.packet.ttl - 1) n (sourced v uses way_in l d.by (record (d.packet) { ttl = d.packet.ttl - 1 })) (omega arith) (sourced-ttl way_in l d.by (record (d.packet) { ttl = d.packet.ttl - 1 }))
 
       way : (o : Option Way) → 0 < d.packet.ttl → Lower n (routed_way v uses way_in d.by (record (d.packet) { ttl = d.packet.ttl - 1 }) o)
       way None lt = refl
-      way (Some w) lt = out (unwrap_or w.next d.packet.to) (find (λ (l : Leg). ident_eq w.port l.port) v.legs) lt
+      way (Some w) lt = out (unwrap_or w.next (V4 d.packet.to)) (find (λ (l : Leg). ident_eq w.port l.port) v.legs) lt
 
-      go : (own low : Bool) → nat_le d.packet.ttl 1 ≡ low → Lower n (if own then RouteEnds (Absorbed v.id) else if low then RouteEnds (Dropped Expired) else routed_way v uses way_in d.by (record (d.packet) { ttl = d.packet.ttl - 1 }) (best_way d.packet.to v.ways))
+      go : (own low : Bool) → nat_le d.packet.ttl 1 ≡ low → Lower n (if own then RouteEnds (Absorbed v.id) else if low then RouteEnds (Dropped Expired) else routed_way v uses way_in d.by (record (d.packet) { ttl = d.packet.ttl - 1 }) (best_way (V4 d.packet.to) v.ways))
       go true low f = refl
       go false true f = refl
-      go false false f = let above : 1 < d.packet.ttl = leb-false d.packet.ttl 1 f in way (best_way d.packet.to v.ways) (omega arith)
+      go false false f = let above : 1 < d.packet.ttl = leb-false d.packet.ttl 1 f in way (best_way (V4 d.packet.to) v.ways) (omega arith)
 
 pub routed-lower : (v : RouterView) (entries : List Entry) (way_in : Leg) (p : Packet) → Lower p.ttl (routed v entries way_in p)
 unfolding routed
@@ -98,25 +101,25 @@ Lives n (RouteEnds o) = ⊤
 Lives n (RouteSends made out hop p) = (suc p.ttl ≡ n) × (0 < p.ttl)
 
 module _ (v : RouterView) (uses : List Use) where
-  sent-lives : (out : Leg) (hop n m : ℕ) (o : Option Sourced) → suc n ≡ m → 0 < n → Keeps n o → Lives m (sent out hop o)
+  sent-lives : (out : Leg) (hop : Addr) (n m : ℕ) (o : Option Sourced) → suc n ≡ m → 0 < n → Keeps n o → Lives m (sent out hop o)
   sent-lives out hop n m None e more k = tt
   sent-lives out hop n m (Some s) e more k = (ap suc k ∙ e, omega (arith, more, k))
 
   to-lives : (way_in : Leg) (d : Destined) (n : ℕ) → d.packet.ttl ≡ n → Lives n (routed_to v uses way_in d)
-  to-lives way_in d n e = go (is_own v d.packet.to) (nat_le d.packet.ttl 1) refl
+  to-lives way_in d n e = go (is_own v (V4 d.packet.to)) (nat_le d.packet.ttl 1) refl
     where
-      out : (hop : ℕ) (o : Option Leg) → 1 < d.packet.ttl → Lives n (routed_out v uses way_in d.by (record (d.packet) { ttl = d.packet.ttl - 1 }) hop o)
+      out : (hop : Addr) (o : Option Leg) → 1 < d.packet.ttl → Lives n (routed_out v uses way_in d.by (record (d.packet) { ttl = d.packet.ttl - 1 }) hop o)
       out hop None lt = tt
       out hop (Some l) lt = sent-lives l hop (d.packet.ttl - 1) n (sourced v uses way_in l d.by (record (d.packet) { ttl = d.packet.ttl - 1 })) (omega (arith, lt, e)) (omega (arith, lt)) (sourced-ttl v uses way_in l d.by (record (d.packet) { ttl = d.packet.ttl - 1 }))
 
       way : (o : Option Way) → 1 < d.packet.ttl → Lives n (routed_way v uses way_in d.by (record (d.packet) { ttl = d.packet.ttl - 1 }) o)
       way None lt = tt
-      way (Some w) lt = out (unwrap_or w.next d.packet.to) (find (λ (l : Leg). ident_eq w.port l.port) v.legs) lt
+      way (Some w) lt = out (unwrap_or w.next (V4 d.packet.to)) (find (λ (l : Leg). ident_eq w.port l.port) v.legs) lt
 
-      go : (own low : Bool) → nat_le d.packet.ttl 1 ≡ low → Lives n (if own then RouteEnds (Absorbed v.id) else if low then RouteEnds (Dropped Expired) else routed_way v uses way_in d.by (record (d.packet) { ttl = d.packet.ttl - 1 }) (best_way d.packet.to v.ways))
+      go : (own low : Bool) → nat_le d.packet.ttl 1 ≡ low → Lives n (if own then RouteEnds (Absorbed v.id) else if low then RouteEnds (Dropped Expired) else routed_way v uses way_in d.by (record (d.packet) { ttl = d.packet.ttl - 1 }) (best_way (V4 d.packet.to) v.ways))
       go true low f = tt
       go false true f = tt
-      go false false f = way (best_way d.packet.to v.ways) (leb-false d.packet.ttl 1 f)
+      go false false f = way (best_way (V4 d.packet.to) v.ways) (leb-false d.packet.ttl 1 f)
 
 pub routed-lives : (v : RouterView) (entries : List Entry) (way_in : Leg) (p : Packet) → Lives p.ttl (routed v entries way_in p)
 unfolding routed

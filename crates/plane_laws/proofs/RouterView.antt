@@ -4,7 +4,7 @@ use Rattle.std.specs.Prelude.{find, option_and_then, option_map, ◌&&◌, if◌
 use Rattle.std.specs.List.{filter_map, cons_option}
 use Rattle.std.specs.Str.{bytes_eq}
 use Rattle.std.proofs.lemmas.Bool.{and_parts, and_from}
-use Rattle.row_laws.proofs.NameLemmas.{ident_same, ident_itself, bytes_same, bytes_itself}
+use Rattle.api_types.proofs.NameLemmas.{ident_same, ident_itself, bytes_same, bytes_itself}
 use Rattle.plane_laws.proofs.ListLemmas.{find-each, find-only, find-filter_map, AtMostOne-filter, each-found, AllOf-filter, filter_map-one}
 use Rattle.plane_laws.proofs.Tagged.{tagged}
 use Rattle.api_types.specs.Ident.{Ident}
@@ -15,11 +15,11 @@ use Rattle.api_types.specs.declared.floating.FloatingRow.{FloatingRow}
 use Rattle.api_types.specs.declared.floating.Target.{Target}
 use Rattle.api_types.specs.declared.port.PortRow.{PortRow}
 use Rattle.api_types.specs.declared.router.RouterRow.{RouterRow}
-use Rattle.plane_types.specs.Holders.{router_named, router_of}
-use Rattle.plane_types.specs.Live.{is_live}
-use Rattle.plane_types.specs.RouterRows.{float_by, floats_of, gateway_address, has_snat, is_leg_of, leg_of, legs_of, router_view, ways_of}
-use Rattle.plane_types.specs.Routing.{Way}
-use Rattle.plane_types.specs.TableRows.{float_row_by, float_rows, hosted, is_at, is_host_of, is_hosted, route_row, route_rows, router_port, router_row, router_rows, tag_of, tagged_by}
+use Rattle.api_types.specs.Holders.{router_named, router_of}
+use Rattle.api_types.specs.Live.{is_live, is_at}
+use Rattle.api_types.specs.RouterRows.{float_by, floats_of, gateway_address, has_snat, is_leg_of, leg_of, legs_of, router_view, ways_of}
+use Rattle.api_types.specs.RouterViews.{Way}
+use Rattle.plane_types.specs.TableRows.{float_row_by, float_rows, hosted, is_host_of, is_hosted, route_row, route_rows, router_port, router_row, router_rows, tag_of, tagged_by}
 use Rattle.plane_types.specs.TableStep.{floats_at_router, leg_at, router_at, table_view, tagged_leg, way_at, ways_at}
 use Rattle.plane_types.specs.declared.table.FloatRow.{FloatRow}
 use Rattle.plane_types.specs.declared.table.RouteRow.{RouteRow}

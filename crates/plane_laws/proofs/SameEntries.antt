@@ -18,10 +18,11 @@ use Rattle.api_types.specs.declared.router.RouterRow.{RouterRow}
 use Rattle.plane_types.specs.Entries.{has_flow, is_flow}
 use Rattle.plane_types.specs.Filter.{rules_allow}
 use Rattle.plane_types.specs.Guard.{passes_guard}
-use Rattle.plane_types.specs.Holders.{port_at, router_of}
-use Rattle.plane_types.specs.Meaning.{Onward, Trace, arrived, at_router, delivered_by, dropped, from_port, from_sender, from_wire, got, handed, life_of, may_begin, network_on, none_so_far, on_path, received, rows_fate, rows_passage, sent_out, wire_packet}
+use Rattle.api_types.specs.Holders.{port_at, router_of}
+use Rattle.plane_types.specs.Meaning.{Onward, Trace, arrived, at_router, delivered_by, dropped, from_port, from_sender, from_wire, got, handed, life_of, may_begin, none_so_far, on_path, received, rows_fate, rows_passage, sent_out, wire_packet}
+use Rattle.api_types.specs.Wires.{network_on}
 use Rattle.plane_types.specs.Packets.{Packet, is_unsupported, key_of, packet}
-use Rattle.plane_types.specs.RouterRows.{leg_of, router_view}
+use Rattle.api_types.specs.RouterRows.{leg_of, router_view}
 use Rattle.plane_types.specs.Routing.{uses_at, uses_by}
 use Rattle.plane_types.specs.declared.entry.Entry.{Entry}
 use Rattle.plane_types.specs.declared.event.Event.{Event}

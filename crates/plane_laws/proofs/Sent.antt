@@ -3,7 +3,7 @@ use Rattle.std.proofs.Common.{◌≡◌, ℕ, zero, suc, ◌-◌, ◌<◌, List,
 use Rattle.std.specs.Prelude.{find, option_and_then, ◌&&◌, ◌==◌, if◌then◌else◌}
 use Rattle.std.proofs.lemmas.Bool.{and_parts, eqb-true, and_from}
 use Rattle.std.proofs.lemmas.List.{append-nil}
-use Rattle.row_laws.proofs.NameLemmas.{ident_same}
+use Rattle.api_types.proofs.NameLemmas.{ident_same}
 use Rattle.plane_laws.proofs.ListLemmas.{find-passes, find-each}
 use Rattle.plane_laws.proofs.Located.{tag-row, bridge-located}
 use Rattle.plane_laws.proofs.Tagged.{tagged, inward-located}
@@ -14,13 +14,14 @@ use Rattle.api_types.specs.Table.{ident_eq}
 use Rattle.api_types.specs.declared.port.PortRow.{PortRow}
 use Rattle.api_types.specs.declared.router.RouterRow.{RouterRow}
 use Rattle.plane_types.specs.Fabric.{Run, after_step, step_path, taken, walk}
-use Rattle.plane_types.specs.Holders.{has_mac, port_at, router_of}
+use Rattle.api_types.specs.Holders.{has_mac, port_at, router_of}
 use Rattle.plane_types.specs.Hosts.{Host}
-use Rattle.plane_types.specs.Live.{is_live, segment, wire_of}
+use Rattle.api_types.specs.Live.{is_live, segment, is_at}
+use Rattle.api_types.specs.Wires.{wire_of}
 use Rattle.plane_types.specs.Meaning.{Trace}
 use Rattle.plane_types.specs.Packets.{Packet, ip_frame}
 use Rattle.plane_types.specs.Places.{Next, Place, RouterIn, Step, TapOut, TunnelIn}
-use Rattle.plane_types.specs.TableRows.{bridge_by, carrier_of, end_of, is_at, is_hosted, mac_row, tag_of, to_here, to_router, to_there}
+use Rattle.plane_types.specs.TableRows.{bridge_by, carrier_of, end_of, is_hosted, mac_row, tag_of, to_here, to_router, to_there}
 use Rattle.plane_types.specs.TableStep.{bridge_at, bridge_at_tag, bridge_step, bridged_by, carrier_eq, inward_at, inward_step, led, plain, table_step}
 use Rattle.plane_types.specs.declared.table.BridgeKey.TheVariants.{Mac as AtMac}
 use Rattle.plane_types.specs.declared.table.BridgeTo.{BridgeTo}

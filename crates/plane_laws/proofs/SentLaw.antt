@@ -3,7 +3,7 @@ use Rattle.std.proofs.Common.{◌≡◌, ℕ, ◌+◌, ◌-◌, ◌*◌, ◌<◌
 use Rattle.std.specs.Prelude.{find, option_and_then, ◌&&◌, ◌||◌, ◌==◌, if◌then◌else◌, is_some}
 use Rattle.std.specs.Str.{bytes_eq}
 use Rattle.std.proofs.lemmas.Bool.{and_parts, eq-eqb, and_from, or_right, and_right}
-use Rattle.row_laws.proofs.NameLemmas.{ident_same, bytes_same, bytes_itself}
+use Rattle.api_types.proofs.NameLemmas.{ident_same, bytes_same, bytes_itself}
 use Rattle.plane_laws.proofs.ListLemmas.{find-passes, find-each, some_of, AllOf-more, find-same_each, find-none_each}
 use Rattle.plane_laws.proofs.Located.{tag-row, bridge-located}
 use Rattle.plane_laws.proofs.Tagged.{tagged, inward-located, inward-none}
@@ -16,13 +16,14 @@ use Rattle.api_types.specs.declared.network.Segment.{Segment}
 use Rattle.api_types.specs.declared.network.Segment.TheVariants.{Flat, Local, Vlan, Vxlan}
 use Rattle.api_types.specs.declared.port.PortRow.{PortRow}
 use Rattle.plane_types.specs.Fabric.{Run, after_step, finished, meant, moved, step_path, taken, takes, takes_at, takes_to, tunnelled, walk, wired}
-use Rattle.plane_types.specs.Holders.{has_mac, port_at}
+use Rattle.api_types.specs.Holders.{has_mac, port_at}
 use Rattle.plane_types.specs.Hosts.{Host, all_entries, is_named}
-use Rattle.plane_types.specs.Live.{is_joined, is_live, is_local, joined_with, network_of, segment, tag_eq, wire_eq, wire_of}
+use Rattle.api_types.specs.Live.{is_joined, is_live, is_local, joined_with, network_of, segment, is_at}
+use Rattle.api_types.specs.Wires.{tag_eq, wire_eq, wire_of}
 use Rattle.plane_types.specs.Meaning.{ended, got, out_of, out_or, sent_on, sent_to}
 use Rattle.plane_types.specs.Packets.{Packet, ip_frame}
 use Rattle.plane_types.specs.Places.{Bridge, End, Next, Place, Step, ToTunnel, ToWire, TunnelIn, WireIn}
-use Rattle.plane_types.specs.TableRows.{bridge_by, carrier_of, is_at, mac_row, tag_of, to_here, to_there}
+use Rattle.plane_types.specs.TableRows.{bridge_by, carrier_of, mac_row, tag_of, to_here, to_there}
 use Rattle.plane_types.specs.TableStep.{bridge_at, bridge_at_tag, bridge_step, bridged_by, carrier_eq, inward_at, inward_step, plain, table_step, wire_or}
 use Rattle.plane_types.specs.declared.frame.KeyPart.TheVariants.{Proto}
 use Rattle.plane_types.specs.declared.table.BridgeKey.TheVariants.{Mac as AtMac}
@@ -31,7 +32,7 @@ use Rattle.plane_types.specs.declared.table.BridgeTo.TheVariants.{Tunnel as ToHo
 use Rattle.plane_types.specs.declared.table.Carrier.{Carrier}
 use Rattle.plane_types.specs.declared.table.Carrier.TheVariants.{Tunnel as ByTunnel, Wire as ByWire}
 use Rattle.plane_types.specs.declared.table.TagRow.{TagRow}
-use Rattle.plane_types.specs.declared.table.Wire.{Wire}
+use Rattle.api_types.specs.declared.wire.Wire.{Wire}
 use Rattle.plane_types.specs.declared.verdict.DropCause.TheVariants.{Unknown}
 use Rattle.plane_types.specs.declared.verdict.Outcome.{Outcome}
 use Rattle.plane_types.specs.declared.verdict.Outcome.TheVariants.{Dropped, Out}

@@ -3,7 +3,7 @@ use Rattle.std.proofs.Common.{◌≡◌, ℕ, List, Bool, true, false, not, Opti
 use Rattle.std.specs.Prelude.{find, is_some, ◌&&◌, ◌||◌, ◌==◌, option_map, if◌then◌else◌}
 use Rattle.std.specs.List.{list_any}
 use Rattle.std.specs.Str.{bytes_eq}
-use Rattle.row_laws.proofs.ListLemmas.{and_both, both_and, any-at}
+use Rattle.api_types.proofs.ListLemmas.{and_both, both_and, any-at}
 use Rattle.plane_laws.proofs.ListLemmas.{find-some, AllOf-more}
 use Rattle.plane_laws.proofs.Counted.{all-of, once-counted, any-made}
 use Rattle.plane_laws.proofs.FactsHold.{unless-passes}
@@ -16,7 +16,7 @@ use Rattle.api_types.specs.declared.network.Segment.{Segment}
 use Rattle.api_types.specs.declared.port.PortRow.{PortRow}
 use Rattle.api_types.specs.declared.router.RouterRow.{RouterRow}
 use Rattle.plane_types.specs.Hosts.{Host, is_named}
-use Rattle.plane_types.specs.Live.{is_live, network_of, network_up}
+use Rattle.api_types.specs.Live.{is_live, network_of, network_up}
 use Rattle.plane_types.specs.Placed.{is_placed}
 use Rattle.plane_types.specs.Realises.{Realises, TagStands}
 use Rattle.plane_types.specs.Synced.{AreSynced}

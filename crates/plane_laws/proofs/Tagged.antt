@@ -4,7 +4,7 @@ use Rattle.std.specs.Prelude.{find, option_and_then, option_map, ◌&&◌, ◌==
 use Rattle.std.specs.List.{filter, list_any}
 use Rattle.std.proofs.lemmas.Option.{same_Some}
 use Rattle.std.proofs.lemmas.Bool.{and_from}
-use Rattle.row_laws.proofs.NameLemmas.{ident_same, ident_itself}
+use Rattle.api_types.proofs.NameLemmas.{ident_same, ident_itself}
 use Rattle.plane_laws.proofs.ListLemmas.{find-passes, find-each, find-only, find-filter_map, AtMostOne-map, AtMostOne-from_map, AtMostOne-filter, list_any-filter, find-some, list_any-found, list_any-map, list_any-kept, some_of}
 use Rattle.plane_laws.proofs.Located.{tag-row}
 use Rattle.api_types.specs.Ident.{Ident}
@@ -12,8 +12,9 @@ use Rattle.api_types.specs.RowLists.{RowLists}
 use Rattle.api_types.specs.Table.{ident_eq}
 use Rattle.api_types.specs.declared.network.NetworkRow.{NetworkRow}
 use Rattle.api_types.specs.declared.port.PortRow.{PortRow}
-use Rattle.plane_types.specs.Live.{network_of, segment, wire_of}
-use Rattle.plane_types.specs.TableRows.{carrier_of, inward_row, inward_rows, is_here, is_tagged, is_tap, tag_of, tap_of, tap_row, tap_rows}
+use Rattle.api_types.specs.Live.{network_of, segment, is_here}
+use Rattle.api_types.specs.Wires.{wire_of}
+use Rattle.plane_types.specs.TableRows.{carrier_of, inward_row, inward_rows, is_tagged, is_tap, tag_of, tap_of, tap_row, tap_rows}
 use Rattle.plane_types.specs.TableStep.{carrier_eq, inward_at, tap_at}
 use Rattle.plane_types.specs.declared.table.Carrier.{Carrier}
 use Rattle.plane_types.specs.declared.table.InwardRow.{InwardRow}

@@ -33,4 +33,4 @@ told-without hosts f = ap (λ es. record { outcome = f.outcome; path = f.run.pat
 pub tables-mean-rows : (carry : List ℕ → Segment → Bool) (rows : RowLists) (hosts : List Host) → HoldRows carry rows hosts → (event : Event) → without_hosts (fabric_verdict hosts event) ≡ rows_verdict rows (all_entries hosts) event
 tables-mean-rows carry rows hosts h event =
     told-without hosts (fabric_fate hosts event)
-    ∙ ap told_by_rows (fates-same rows hosts (frame-facts rows h.consistent h.few) (synced-facts carry rows hosts h.carried h.synced) event)
+    ∙ ap told_by_rows (fates-same rows hosts (frame-facts rows h.consistent) (synced-facts carry rows hosts h.carried h.synced) event)

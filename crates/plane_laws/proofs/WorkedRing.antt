@@ -8,11 +8,11 @@ use Rattle.api_types.specs.RowLists.{RowLists}
 use Rattle.api_types.specs.declared.network.Segment.TheVariants.{Vxlan}
 use Rattle.api_types.specs.declared.router.RouterRow.{RouterRow}
 use Rattle.plane_types.proofs.WorkedRows.{c1, drawn_mac, held, hop, id, interface, ip, local_mac, network, no_rows, open_port, prefix, router, subnet, tcp}
-use Rattle.plane_types.specs.Ascending.{ascending, put_in}
-use Rattle.plane_types.specs.Holders.{floating_holder}
-use Rattle.plane_types.specs.Live.{is_live, segment}
+use Rattle.api_types.specs.Ascending.{ascending, put_in}
+use Rattle.api_types.specs.Holders.{floating_holder}
+use Rattle.api_types.specs.Live.{is_live, segment}
 use Rattle.plane_types.specs.Meaning.{got, rows_fate}
-use Rattle.plane_types.specs.RouterRows.{connected_ways, extra_ways, floats_of, legs_of, router_view, ways_of}
+use Rattle.api_types.specs.RouterRows.{connected_ways, extra_ways, floats_of, legs_of, router_view, ways_of}
 use Rattle.plane_types.specs.Routing.{best_way, routed}
 use Rattle.plane_types.specs.Told.{rows_verdict}
 use Rattle.plane_types.specs.declared.event.Event.{Event}

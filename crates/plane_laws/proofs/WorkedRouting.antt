@@ -1,6 +1,7 @@
 -- Worked frames through routers: routes, floating addresses, translation, and what ends in a router.
 use Rattle.std.specs.Prelude.{◌≡◌, ℕ, Bool, true, false, List, [], ◌∷◌, map, Option, Some, None, codes, refl}
 use Rattle.uuid.specs.Text.{by_index}
+use Rattle.net_addr.specs.declared.address.Addr.TheVariants.{V4}
 use Rattle.net_addr.specs.Prefixes.{contains}
 use Rattle.api_types.specs.Ident.{Ident, ident_text, uuid_bytes, uuid_number}
 use Rattle.api_types.specs.Owners.{device_is, is_dhcp, is_gateway, is_interface}
@@ -12,16 +13,17 @@ use Rattle.api_types.specs.declared.network.Segment.TheVariants.{Flat, Vxlan}
 use Rattle.api_types.specs.declared.router.RouterRow.{RouterRow}
 use Rattle.api_types.specs.declared.subnet.Hop.{Hop}
 use Rattle.plane_types.proofs.WorkedRows.{c1, c2, drawn_mac, flow, gateway_on, group, guarded, held, hop, host, id, interface, ip, leasing, local_mac, network, no_rows, open_port, physnet1, prefix, router, rule, subnet, tag, tcp, tcp_key}
-use Rattle.plane_types.specs.Ascending.{ascending, put_in}
+use Rattle.api_types.specs.Ascending.{ascending, put_in}
 use Rattle.plane_types.specs.Fabric.{fabric_fate, steps_for, walk}
-use Rattle.plane_types.specs.Filter.{is_member, rule_matches, rules_allow}
-use Rattle.plane_types.specs.Holders.{floating_holder}
+use Rattle.plane_types.specs.Filter.{rule_matches, rules_allow}
+use Rattle.api_types.specs.Members.{is_member, members, once}
+use Rattle.api_types.specs.Holders.{floating_holder}
 use Rattle.plane_types.specs.Hosts.{Host}
-use Rattle.plane_types.specs.Live.{is_live, segment}
+use Rattle.api_types.specs.Live.{is_live, segment}
 use Rattle.plane_types.specs.Meaning.{got, rows_fate}
-use Rattle.plane_types.specs.RouterRows.{connected_ways, extra_ways, floats_of, legs_of, router_view, ways_of}
+use Rattle.api_types.specs.RouterRows.{connected_ways, extra_ways, floats_of, legs_of, router_view, ways_of}
 use Rattle.plane_types.specs.Routing.{best_way, least_untaken, new_port, routed}
-use Rattle.plane_types.specs.TableRows.{bridge_rows, filter_rows, float_rows, inward_rows, lease_rows, members, neighbour_rows, once, route_rows, router_rows, set_rows, tap_rows}
+use Rattle.plane_types.specs.TableRows.{bridge_rows, filter_rows, float_rows, inward_rows, lease_rows, neighbour_rows, route_rows, router_rows, set_rows, tap_rows}
 use Rattle.plane_types.specs.TableStep.{tables_allow}
 use Rattle.plane_types.specs.Told.{fabric_verdict, fabric_verdicts, of_nobody, rows_verdict, rows_verdicts, without_hosts}
 use Rattle.plane_types.specs.declared.entry.Entry.{Entry}
@@ -33,7 +35,7 @@ use Rattle.plane_types.specs.declared.frame.Frame.TheVariants.{ArpAsk, Dhcp, Ip4
 use Rattle.plane_types.specs.declared.frame.Key.{Key}
 use Rattle.plane_types.specs.declared.frame.KeyKind.TheVariants.{EchoAsk as AskKey, Proto as ProtoKey}
 use Rattle.plane_types.specs.declared.frame.KeyPart.TheVariants.{EchoAsk, EchoReply, Proto}
-use Rattle.plane_types.specs.declared.table.Wire.{Wire}
+use Rattle.api_types.specs.declared.wire.Wire.{Wire}
 use Rattle.plane_types.specs.declared.verdict.AskAnswer.TheVariants.{Arp as ArpAnswer, Lease as LeaseAnswer}
 use Rattle.plane_types.specs.declared.verdict.DropCause.TheVariants.{Expired, NoHolder, NoRoute, RouterDown, TranslationFull}
 use Rattle.plane_types.specs.declared.verdict.Made.{Made}
@@ -162,7 +164,7 @@ abbrev returns_to : ℕ → Event
 returns_to dport = FromWire physnet1 None (tcp (local_mac 77) (drawn_mac 0) far 80 outer dport 64)
 
 abbrev left_as : ℕ → Outcome
-left_as sport = Out (id 30) (TowardAddress (ip 203 0 113 1)) (tcp (drawn_mac 0) 0 outer sport far 80 63)
+left_as sport = Out (id 30) (TowardAddress (V4 (ip 203 0 113 1))) (tcp (drawn_mac 0) 0 outer sport far 80 63)
 
 abbrev returned_to : ℕ → ℕ → ℕ → Outcome
 returned_to port mac to = Delivered (id port) (tcp (drawn_mac 1) (local_mac mac) far 80 to 40000 63)
@@ -291,13 +293,13 @@ day_events =
 
 abbrev day_outcomes : List Outcome
 day_outcomes =
-    Answered (LeaseAnswer (record { address = ip 10 0 0 6; length = 24; gateway = Some (ip 10 0 0 1); name_servers = []; host_routes = [] })) ∷
-    Answered (ArpAnswer (ip 10 0 0 1) (drawn_mac 1)) ∷
+    Answered (LeaseAnswer (record { address = V4 (ip 10 0 0 6); length = 24; gateway = Some (V4 (ip 10 0 0 1)); name_servers = []; host_routes = [] })) ∷
+    Answered (ArpAnswer (V4 (ip 10 0 0 1)) (drawn_mac 1)) ∷
     Delivered (id 9) (Ip4 (local_mac 5) (local_mac 6) (ip 10 0 0 5) (ip 10 0 0 6) 64 (EchoAsk 3)) ∷
     Delivered (id 8) (Ip4 (local_mac 6) (local_mac 5) (ip 10 0 0 6) (ip 10 0 0 5) 64 (EchoReply 3)) ∷
     Delivered (id 8) (tcp (drawn_mac 1) (local_mac 5) far 50000 (ip 10 0 0 5) 22 63) ∷
-    Out (id 30) (TowardAddress (ip 203 0 113 1)) (tcp (drawn_mac 0) 0 floating 22 far 50000 63) ∷
-    Answered (ArpAnswer floating (drawn_mac 0)) ∷ []
+    Out (id 30) (TowardAddress (V4 (ip 203 0 113 1))) (tcp (drawn_mac 0) 0 floating 22 far 50000 63) ∷
+    Answered (ArpAnswer (V4 floating) (drawn_mac 0)) ∷ []
 
 abbrev outcome_of : ToldVerdict → Outcome
 outcome_of v = v.outcome

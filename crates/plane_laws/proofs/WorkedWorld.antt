@@ -5,8 +5,8 @@ use Rattle.std.specs.List.{filter}
 use Rattle.std.specs.Str.{bytes_eq}
 use Rattle.std.proofs.lemmas.List.Sums.{sum_by-cons}
 use Rattle.row_laws.specs.NewRows.{with_network, with_port, IsNewPort}
-use Rattle.row_laws.proofs.ListLemmas.{none_some}
-use Rattle.row_laws.proofs.NameLemmas.{bytes_same}
+use Rattle.api_types.proofs.ListLemmas.{none_some}
+use Rattle.api_types.proofs.NameLemmas.{bytes_same}
 use Rattle.row_laws.proofs.NetworkCreated.{network_created}
 use Rattle.row_laws.proofs.PortPushed.{port_pushed}
 use Rattle.plane_laws.proofs.Counted.{each-of}
@@ -23,7 +23,7 @@ use Rattle.api_types.specs.declared.network.Segment.TheVariants.{Vxlan}
 use Rattle.api_types.specs.declared.port.PortRow.{PortRow}
 use Rattle.plane_types.proofs.WorkedRows.{c1, c2, host, id, local_mac, network, no_rows, open_port, tables_of, tag}
 use Rattle.plane_types.specs.Hosts.{Host, all_entries, is_named}
-use Rattle.plane_types.specs.Live.{is_live, segment}
+use Rattle.api_types.specs.Live.{is_live, segment}
 use Rattle.plane_types.specs.Placed.{IsPlaced}
 use Rattle.plane_types.specs.Realises.{Realises, RealisesTags, TagStands}
 use Rattle.plane_types.specs.TableRows.{is_tagged}
@@ -39,7 +39,7 @@ nothing-there P k r at = none_some r (P r) at
 none-consistent : IsConsistent no_rows
 none-consistent = record {
   numbered = record {
-    projects = record { ordered = λ k p at. none_some p _ at; names = λ name. omega arith };
+    projects = record { ordered = λ k p at. none_some p _ at; names = λ name. omega arith; named = nothing-there _; few = omega arith };
     ids = λ i. omega arith;
     drawn = record { networks = nothing-there _; subnets = nothing-there _; ports = nothing-there _; groups = nothing-there _; rules = nothing-there _; routers = nothing-there _; floatings = nothing-there _; policies = nothing-there _ };
   };
@@ -86,7 +86,7 @@ abbrev world : RowLists
 world = with_port (with_port with_one here) there
 
 one-consistent : IsConsistent with_one
-one-consistent = network_created no_rows (codes "a") 3 drawn (network (id 6) (Vxlan 1)) none-consistent (omega arith) (omega arith) refl
+one-consistent = network_created no_rows (codes "a") 3 drawn (network (id 6) (Vxlan 1)) none-consistent refl (omega arith) (omega arith) refl
     (record { id = refl; project = refl; segment = refl; alone = λ s h. refl; few = omega arith })
 
 here-new : IsNewPort with_one here
@@ -195,7 +195,6 @@ all-there false false h = h
 world-held : HoldRows carry world world_hosts
 world-held = record {
   consistent = world-consistent;
-  few = omega arith;
   carried = record { at_host = each-of _ world.ports (refl, (refl, tt)) };
   synced = record {
     realise = each-of (λ (h : Host). Realises world h.name h.tables) world_hosts (realised c1 5 (omega arith) (omega arith) tags-here, (realised c2 1 (omega arith) (omega arith) tags-there, tt));

@@ -1,5 +1,5 @@
 -- Hosts hold consistent rows: what the laws of frames suppose.
-use Rattle.std.specs.Prelude.{ℕ, ◌<◌, ◌^◌, Bool, List, length}
+use Rattle.std.specs.Prelude.{ℕ, Bool, List}
 use Rattle.api_types.specs.Consistent.{IsConsistent}
 use Rattle.api_types.specs.Consistent.Carried.{AreCarried}
 use Rattle.api_types.specs.RowLists.{RowLists}
@@ -7,9 +7,8 @@ use Rattle.api_types.specs.declared.network.Segment.{Segment}
 use Rattle.plane_types.specs.Hosts.{Host}
 use Rattle.plane_types.specs.Synced.{AreSynced}
 
--- `carries` tells which segments a host, by its name, can carry; ordinals of projects have 32 bits
+-- `carries` tells which segments a host, by its name, can carry
 pub record HoldRows (carries : List ℕ → Segment → Bool) (rows : RowLists) (hosts : List Host) : Type 0 where
   pub consistent : IsConsistent rows
-  pub few : length rows.projects < 2 ^ 32
   pub carried : AreCarried carries rows.networks rows.ports
   pub synced : AreSynced carries rows hosts

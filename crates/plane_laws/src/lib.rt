@@ -5,7 +5,7 @@
 //! definitions, so nothing is proved twice.
 #![tactic(auto)]
 
-ghost use Rattle.std.specs.Prelude.{◌≡◌, ◌<◌, ◌≤◌, ◌^◌, ℕ, Bool, true, false, List, count_by, length, map};
+ghost use Rattle.std.specs.Prelude.{◌≡◌, ◌≤◌, ℕ, Bool, true, false, List, count_by, map};
 ghost use Rattle.api_types.specs.Consistent.{IsConsistent};
 ghost use Rattle.api_types.specs.Consistent.Named.{is_own_port};
 ghost use Rattle.api_types.specs.Lists.{Each};
@@ -13,7 +13,7 @@ ghost use Rattle.api_types.specs.RowLists.{RowLists};
 ghost use Rattle.api_types.specs.declared.network.Segment.{Segment};
 ghost use Rattle.plane_types.specs.Crossing.{CrossesAtRouters};
 ghost use Rattle.plane_types.specs.Hosts.{Host, all_entries, is_named};
-ghost use Rattle.plane_types.specs.Live.{is_live};
+ghost use Rattle.api_types.specs.Live.{is_live};
 ghost use Rattle.plane_types.specs.Placed.{IsPlaced};
 ghost use Rattle.plane_types.specs.Told.{fabric_verdict, fabric_verdicts, hosts_after, hosts_after_all, rows_verdict, rows_verdicts, without_hosts};
 ghost use Rattle.plane_types.specs.declared.entry.Entry.{Entry};
@@ -44,7 +44,7 @@ pub fn entries_stay_placed()
 /// A frame crosses between networks only at routers that have live ports on both, and is delivered
 /// to a port of the last network of its path; so does each of frames one after the other.
 pub fn paths_cross_at_routers()
-    ensures by_rows { (rows : RowLists) → IsConsistent rows → length rows.projects < 2 ^ 32 → (entries : List Entry) (event : Event) → CrossesAtRouters rows (rows_verdict rows entries event) }
+    ensures by_rows { (rows : RowLists) → IsConsistent rows → (entries : List Entry) (event : Event) → CrossesAtRouters rows (rows_verdict rows entries event) }
     ensures by_tables { (carries : List ℕ → Segment → Bool) (rows : RowLists) (hosts : List Host) → HoldRows carries rows hosts → (event : Event) → CrossesAtRouters rows (fabric_verdict hosts event) }
     ensures by_lists { (carries : List ℕ → Segment → Bool) (rows : RowLists) (hosts : List Host) → HoldRows carries rows hosts → (events : List Event) → Each (CrossesAtRouters rows) (fabric_verdicts hosts events) }
 {}
@@ -52,7 +52,7 @@ pub fn paths_cross_at_routers()
 /// The port that holds a floating address is never live, so it needs no case of its own among
 /// senders.
 pub fn floating_ports_are_down()
-    ensures { (rows : RowLists) → IsConsistent rows → length rows.projects < 2 ^ 32 → Each (λ p. is_own_port rows.floatings p.id ≡ true → is_live rows p ≡ false) rows.ports }
+    ensures { (rows : RowLists) → IsConsistent rows → Each (λ p. is_own_port rows.floatings p.id ≡ true → is_live rows p ≡ false) rows.ports }
 {}
 
 /// A packet passes at most 254 routers and makes at most 256 entries, by any rows and by any tables.

@@ -3,8 +3,8 @@ use Rattle.std.specs.Prelude.{List, [], Option, Some, None, option_and_then}
 use Rattle.api_types.specs.RowLists.{RowLists}
 use Rattle.api_types.specs.declared.port.Fixed.{Fixed}
 use Rattle.api_types.specs.declared.port.PortRow.{PortRow}
-use Rattle.plane_types.specs.RouterRows.{default_by, first_fixed, subnet_named}
-use Rattle.plane_types.specs.Routing.{Way as TheWay}
+use Rattle.api_types.specs.RouterRows.{default_by, first_fixed, subnet_named}
+use Rattle.api_types.specs.RouterViews.{Way as TheWay}
 use Rattle.plane_rows.specs.declared.ways.Way.{Way}
 
 abbrev pub way_of : Way → TheWay

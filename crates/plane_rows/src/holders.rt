@@ -1,28 +1,9 @@
 ghost use Rattle.std.specs.Prelude.{◌≡◌, find, option_copied};
-ghost use Rattle.plane_types.specs.Filter.{names_group as group_named};
-ghost use Rattle.plane_types.specs.Holders.{dhcp_port as dhcp_by_rows, floating_holder as holder_by_floating, floats_at, gateway_port as gateway_by_rows, has_mac as has_mac_by_rows, held_by_floating as held_by_any_floating, holder as holder_by_rows, holds as holds_address, holds_live as holds_live_by_rows, is_live_dhcp_of, live_on as live_port_on, port_at as port_by_mac, router_named, router_of as router_by_rows, target_router as target_by_rows};
+ghost use Rattle.api_types.specs.Holders.{dhcp_port as dhcp_by_rows, floating_holder as holder_by_floating, floats_at, gateway_port as gateway_by_rows, has_mac as has_mac_by_rows, held_by_floating as held_by_any_floating, holder as holder_by_rows, holds_live as holds_live_by_rows, is_live_dhcp_of, live_on as live_port_on, port_at as port_by_mac, router_named, router_of as router_by_rows, target_router as target_by_rows};
 
 use crate::live::is_live;
-use crate::owners::{device_is, is_dhcp};
-use api_types::{FloatingRow, Id, PortRow, RouterRow, Rows, Target};
-use net_addr::{Addr4, Mac};
-
-/// Whether a port names the security group. Its cost grows with the port's groups.
-pub fn names_group(port: &PortRow, group: Id) -> bool
-    ensures { result ≡ group_named group port.now.groups }
-{
-    port.groups.as_slice().iter().any(|named| group == *named)
-}
-
-/// Whether a port holds the address. Its cost grows with the port's addresses.
-pub fn holds(port: &PortRow, address: Addr4) -> bool
-    ensures { result ≡ holds_address port.now address }
-{
-    port.fixed
-        .as_slice()
-        .iter()
-        .any(|fixed| fixed.address == address)
-}
+use api_types::{FloatingRow, Id, PortRow, RouterRow, Rows, Target, device_is, holds, is_dhcp};
+use net_addr::{Addr, Mac};
 
 fn has_mac(rows: &Rows, network: Id, mac: Mac, port: &PortRow) -> bool
     ensures { result ≡ has_mac_by_rows rows.now network mac port.now }
@@ -42,14 +23,14 @@ pub fn port_at(rows: &Rows, network: Id, mac: Mac) -> Option<&PortRow>
     None
 }
 
-fn holds_live(rows: &Rows, network: Id, address: Addr4, port: &PortRow) -> bool
-    ensures { result ≡ holds_live_by_rows rows.now network address port.now }
+fn holds_live(rows: &Rows, network: Id, address: &Addr, port: &PortRow) -> bool
+    ensures { result ≡ holds_live_by_rows rows.now network address.now port.now }
 {
     network == port.network && holds(port, address) && is_live(rows, port)
 }
 
-fn fixed_holder(rows: &Rows, network: Id, address: Addr4) -> Option<&PortRow>
-    ensures { option_copied result ≡ find (holds_live_by_rows rows.now network address) rows.now.ports }
+fn fixed_holder<'r>(rows: &'r Rows, network: Id, address: &Addr) -> Option<&'r PortRow>
+    ensures { option_copied result ≡ find (holds_live_by_rows rows.now network address.now) rows.now.ports }
 {
     for port in rows.ports().rows() {
         if holds_live(rows, network, address, port) {
@@ -105,7 +86,7 @@ fn live_on<'r>(rows: &Rows, network: Id, port: Option<&'r PortRow>) -> Option<&'
 }
 
 /// The live gateway port, on the floating address's network, of the router that it names.
-#[tactic(auto, unfolding(plane_types::specs::Holders::floating_holder))]
+#[tactic(auto, unfolding(api_types::specs::Holders::floating_holder))]
 pub fn floating_holder<'r>(rows: &'r Rows, floating: &FloatingRow) -> Option<&'r PortRow>
     ensures { option_copied result ≡ holder_by_floating rows.now floating.now }
 {
@@ -116,11 +97,11 @@ pub fn floating_holder<'r>(rows: &'r Rows, floating: &FloatingRow) -> Option<&'r
     live_on(rows, floating.network, port)
 }
 
-fn held_by_floating(rows: &Rows, network: Id, address: Addr4) -> Option<&PortRow>
-    ensures { option_copied result ≡ held_by_any_floating rows.now network address }
+fn held_by_floating<'r>(rows: &'r Rows, network: Id, address: &Addr) -> Option<&'r PortRow>
+    ensures { option_copied result ≡ held_by_any_floating rows.now network address.now }
 {
     for floating in rows.floatings().rows() {
-        if network == floating.network && floating.address == address {
+        if network == floating.network && Addr::V4(floating.address) == *address {
             return floating_holder(rows, floating);
         }
     }
@@ -130,8 +111,8 @@ fn held_by_floating(rows: &Rows, network: Id, address: Addr4) -> Option<&PortRow
 /// Who holds an address on a network: the live port with that fixed address, or for an associated
 /// floating address of the network the live gateway port there of the router that it names. Its
 /// cost grows with the ports and the floating addresses.
-pub fn holder(rows: &Rows, network: Id, address: Addr4) -> Option<&PortRow>
-    ensures { option_copied result ≡ holder_by_rows rows.now network address }
+pub fn holder<'r>(rows: &'r Rows, network: Id, address: &Addr) -> Option<&'r PortRow>
+    ensures { option_copied result ≡ holder_by_rows rows.now network address.now }
 {
     match fixed_holder(rows, network, address) {
         Some(port) => Some(port),

@@ -1,13 +1,12 @@
-ghost use Rattle.std.specs.Prelude.{◌≡◌, IfOk, find};
+ghost use Rattle.std.specs.Prelude.{◌≡◌, ◌&&◌, IfOk, find};
+ghost use Rattle.net_addr.specs.Addresses.{is_v4};
 ghost use Rattle.api_types.specs.Owners.{holds_in as held_in};
 ghost use Rattle.api_types.specs.declared.port.Fixed.{Fixed as TheFixed};
-ghost use Rattle.plane_types.specs.Meaning.{lease_for as lease_of_port, lease_in as lease_by, lease_of as lease_from};
+ghost use Rattle.api_types.specs.Leases.{lease_for as lease_of_port, lease_in as lease_by, lease_of as lease_from};
 
-use crate::owners::holds_in;
 use crate::ways::named_subnet;
-use api_types::{Fixed, PortRow, Rows, SubnetRow};
+use api_types::{Fixed, Lease, PortRow, Rows, SubnetRow, holds_in};
 use net_addr::{Copies, OutOfMemory};
-use plane_types::Lease;
 use std::alloc::Global;
 
 // What a subnet gives beside the address.
@@ -34,10 +33,10 @@ fn lease_in(alloc: Global, rows: &Rows, fixed: Fixed) -> Result<Option<Lease>, O
 
 // The first address of a port in a subnet in which the DHCP port holds one.
 fn fixed_leased(dhcp: &PortRow, port: &PortRow) -> Option<Fixed>
-    ensures { result ≡ find (λ (f : TheFixed). held_in f.subnet dhcp.now) port.now.fixed }
+    ensures { result ≡ find (λ (f : TheFixed). is_v4 f.address && held_in f.subnet dhcp.now) port.now.fixed }
 {
     for fixed in port.fixed.as_slice() {
-        if holds_in(fixed.subnet, dhcp) {
+        if fixed.address.is_v4() && holds_in(fixed.subnet, dhcp) {
             return Some(*fixed);
         }
     }

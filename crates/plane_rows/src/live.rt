@@ -1,13 +1,13 @@
 ghost use Rattle.std.specs.Prelude.{◌≡◌, is_some, option_copied, option_map};
 ghost use Rattle.api_types.specs.declared.network.NetworkRow.{NetworkRow as TheNetwork};
-ghost use Rattle.plane_types.specs.Live.{is_joined as joined_by_rows, is_live as live_by_rows, is_local as local_of, joined_with as joined_of, network_of, segment as segment_by_rows, wire_of as wire_by_segment};
-ghost use Rattle.plane_types.specs.Meaning.{is_wire, network_on as network_on_wire};
+ghost use Rattle.api_types.specs.Live.{is_joined as joined_by_rows, is_live as live_by_rows, is_local as local_of, joined_with as joined_of, network_of, segment as segment_by_rows};
+ghost use Rattle.api_types.specs.Wires.{wire_of as wire_by_segment, is_wire, network_on as network_on_wire};
 
 use api_types::{Id, NetworkRow, PortRow, Rows, Segment, Vif};
 use net_addr::Text;
 
 /// Whether a port is live: it and its network are up, and Open vSwitch carries it.
-#[tactic(auto, unfolding(plane_types::specs::Live::is_live))]
+#[tactic(auto, unfolding(api_types::specs::Live::is_live))]
 pub fn is_live(rows: &Rows, port: &PortRow) -> bool
     ensures { result ≡ live_by_rows rows.now port.now }
 {
@@ -35,7 +35,7 @@ pub fn segment_of(rows: &Rows, network: Id) -> Option<&Segment>
 }
 
 // Whether the network's frames stay on their host.
-#[tactic(auto, unfolding(plane_types::specs::Live::segment))]
+#[tactic(auto, unfolding(api_types::specs::Live::segment))]
 fn is_local(rows: &Rows, network: Id) -> bool
     ensures { result ≡ local_of (segment_by_rows rows.now network) }
 {
@@ -46,7 +46,7 @@ fn is_local(rows: &Rows, network: Id) -> bool
 }
 
 /// Whether a physical network carries the network, which is flat or vlan then.
-#[tactic(auto, unfolding(plane_types::specs::Live::segment))]
+#[tactic(auto, unfolding(api_types::specs::Live::segment))]
 pub fn has_wire(rows: &Rows, network: Id) -> bool
     ensures { result ≡ is_some (wire_by_segment (segment_by_rows rows.now network)) }
 {

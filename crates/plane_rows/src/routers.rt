@@ -1,18 +1,20 @@
 ghost use Rattle.std.specs.Prelude.{◌≡◌, ◌==◌, find, not, option_copied, option_map};
 ghost use Rattle.std.specs.List.{list_any};
+ghost use Rattle.net_addr.specs.Ordered.{four as number_of_four};
 ghost use Rattle.api_types.specs.Owners.{is_interface as interface_of};
 ghost use Rattle.api_types.specs.Table.{ident_eq};
 ghost use Rattle.api_types.specs.declared.port.Fixed.{Fixed as TheFixed};
 ghost use Rattle.api_types.specs.declared.port.PortRow.{PortRow as ThePort};
-ghost use Rattle.plane_types.specs.Holders.{holds as holds_address};
-ghost use Rattle.plane_types.specs.RouterRows.{first_fixed as first_of, float_by, floats_of, gateway_address as gateway_by_rows, is_leg_of, legs_of};
-ghost use Rattle.plane_types.specs.Routing.{Float};
+ghost use Rattle.api_types.specs.Holders.{holds as holds_address};
+ghost use Rattle.api_types.specs.RouterRows.{first_fixed as first_of, float_by, floats_of, gateway_address as gateway_by_rows, is_leg_of, legs_of};
+ghost use Rattle.api_types.specs.RouterViews.{Float};
 
-use crate::holders::{gateway_port, holds};
+use crate::holders::gateway_port;
 use crate::live::is_live;
-use crate::owners::{is_interface, is_port_of};
-use api_types::{Fixed, FloatingRow, Id, PortRow, RouterRow, Rows};
-use net_addr::Addr4;
+use api_types::{
+    Fixed, FloatingRow, Id, PortRow, RouterRow, Rows, holds, is_interface, is_port_of,
+};
+use net_addr::{Addr, Addr4};
 
 /// Whether a port is a live port of the router.
 pub fn is_leg(rows: &Rows, router: &RouterRow, port: &PortRow) -> bool
@@ -22,7 +24,7 @@ pub fn is_leg(rows: &Rows, router: &RouterRow, port: &PortRow) -> bool
 }
 
 /// The live port of the router with this id. Its cost grows with the ports.
-#[tactic(auto, unfolding(plane_types::specs::RouterRows::legs_of))]
+#[tactic(auto, unfolding(api_types::specs::RouterRows::legs_of))]
 pub fn leg<'r>(rows: &'r Rows, router: &RouterRow, id: Id) -> Option<&'r PortRow>
     ensures { option_copied result ≡ find (λ (p : ThePort). ident_eq id p.id) (legs_of rows.now router.now) }
 {
@@ -36,9 +38,9 @@ pub fn leg<'r>(rows: &'r Rows, router: &RouterRow, id: Id) -> Option<&'r PortRow
 
 /// Whether a live port of the router holds the address. Its cost grows with the ports and their
 /// addresses.
-#[tactic(auto, unfolding(plane_types::specs::RouterRows::legs_of))]
-pub fn is_own_address(rows: &Rows, router: &RouterRow, address: Addr4) -> bool
-    ensures { result ≡ list_any (λ (p : ThePort). holds_address p address) (legs_of rows.now router.now) }
+#[tactic(auto, unfolding(api_types::specs::RouterRows::legs_of))]
+pub fn is_own_address(rows: &Rows, router: &RouterRow, address: &Addr) -> bool
+    ensures { result ≡ list_any (λ (p : ThePort). holds_address p address.now) (legs_of rows.now router.now) }
 {
     for port in rows.ports().rows() {
         if is_leg(rows, router, port) && holds(port, address) {
@@ -50,7 +52,7 @@ pub fn is_own_address(rows: &Rows, router: &RouterRow, address: Addr4) -> bool
 
 /// Whether a live port of the router is no interface, but its gateway port. Its cost grows with the
 /// ports.
-#[tactic(auto, unfolding(plane_types::specs::RouterRows::legs_of))]
+#[tactic(auto, unfolding(api_types::specs::RouterRows::legs_of))]
 pub fn has_live_gateway(rows: &Rows, router: &RouterRow) -> bool
     ensures { result ≡ list_any (λ (p : ThePort). not (interface_of p.owner)) (legs_of rows.now router.now) }
 {
@@ -69,13 +71,23 @@ pub fn first_fixed(port: &PortRow) -> Option<Fixed>
     port.fixed.as_slice().first().copied()
 }
 
+// The address, where it is of version 4.
+fn four(address: &Addr) -> Option<Addr4>
+    ensures { result ≡ number_of_four address.now }
+{
+    match address {
+        Addr::V4(x) => Some(*x),
+        Addr::V6(_) => None,
+    }
+}
+
 /// The first address of the router's gateway port, whether or not that is live.
 pub fn gateway_address(rows: &Rows, router: &RouterRow) -> Option<Addr4>
     ensures { result ≡ gateway_by_rows rows.now router.now }
 {
     match gateway_port(rows, router) {
         Some(port) => match first_fixed(port) {
-            Some(fixed) => Some(fixed.address),
+            Some(fixed) => four(&fixed.address),
             None => None,
         },
         None => None,
@@ -94,7 +106,7 @@ fn fixed_by(floating: &FloatingRow, router: Id) -> Option<Addr4>
 
 /// The fixed address for which a floating address, that names the router, stands. Its cost grows
 /// with the floating addresses.
-#[tactic(auto, unfolding(plane_types::specs::RouterRows::floats_of))]
+#[tactic(auto, unfolding(api_types::specs::RouterRows::floats_of))]
 pub fn fixed_behind(rows: &Rows, router: &RouterRow, floating: Addr4) -> Option<Addr4>
     ensures { result ≡ option_map (λ (f : Float). f.fixed) (find (λ (f : Float). f.floating == floating) (floats_of rows.now router.now)) }
 {
@@ -110,7 +122,7 @@ pub fn fixed_behind(rows: &Rows, router: &RouterRow, floating: Addr4) -> Option<
 
 /// The floating address that stands for a fixed address, of those that name the router. Its cost
 /// grows with the floating addresses.
-#[tactic(auto, unfolding(plane_types::specs::RouterRows::floats_of))]
+#[tactic(auto, unfolding(api_types::specs::RouterRows::floats_of))]
 pub fn floating_for(rows: &Rows, router: &RouterRow, fixed: Addr4) -> Option<Addr4>
     ensures { result ≡ option_map (λ (f : Float). f.floating) (find (λ (f : Float). f.fixed == fixed) (floats_of rows.now router.now)) }
 {

@@ -1,46 +1,32 @@
 ghost use Rattle.std.specs.Prelude.{◌≡◌, ◌++◌, List, IfOk, OnOk, Some, find, flat_map, map, option_copied, option_map, option_to_list};
 ghost use Rattle.std.specs.List.{filter_map};
+ghost use Rattle.net_addr.specs.Addresses.{renumbered};
 ghost use Rattle.api_types.specs.Owners.{holds_in as held_in};
 ghost use Rattle.api_types.specs.declared.port.Fixed.{Fixed as TheFixed};
 ghost use Rattle.api_types.specs.declared.port.PortRow.{PortRow as ThePort};
 ghost use Rattle.api_types.specs.declared.subnet.SubnetRow.{SubnetRow as TheSubnet};
-ghost use Rattle.plane_types.specs.Ascending.{ascending as in_order};
-ghost use Rattle.plane_types.specs.Holders.{gateway_port as gateway_by_rows};
-ghost use Rattle.plane_types.specs.RouterRows.{by_address, connected_by, connected_ways as connected_by_rows, default_of as default_by_rows, extra_way as extra_by_rows, extra_ways as extras_by_rows, default_by, holds_next as holds_next_hop, legs_of, subnet_named, way_by as way_by_port, ways_of as ways_by_rows};
+ghost use Rattle.api_types.specs.Ascending.{ascending as in_order};
+ghost use Rattle.api_types.specs.Holders.{gateway_port as gateway_by_rows};
+ghost use Rattle.api_types.specs.RouterRows.{by_address, connected_by, connected_ways as connected_by_rows, default_of as default_by_rows, extra_way as extra_by_rows, extra_ways as extras_by_rows, default_by, holds_next as holds_next_hop, legs_of, subnet_named, way_by as way_by_port, ways_of as ways_by_rows};
 ghost use Rattle.plane_rows.specs.Ways.{default_of_port, way_of};
 
 use crate::holders::gateway_port;
 use crate::live::is_live;
-use crate::order::{Ordered, ascending};
-use crate::owners::holds_in;
 use crate::routers::{first_fixed, is_leg};
-use api_types::{Fixed, Hop, Id, PortRow, RouterRow, Rows, SubnetRow};
-use net_addr::{Addr4, OutOfMemory, Prefix4};
-use plane_types::RouteRank;
+use api_types::{
+    Fixed, Hop, Id, PortRow, RouteRank, RouterRow, Rows, SubnetRow, ascending, holds_in,
+};
+use net_addr::{Addr, Addr4, Addr6, OutOfMemory, Prefix};
 use std::alloc::Global;
 
 /// A route of a router: packets for its prefix go to the next hop, or where there is none to their
 /// destination, by the port.
 #[derive(Clone, Copy)]
 pub struct Way {
-    pub prefix: Prefix4,
+    pub prefix: Prefix,
     pub rank: RouteRank,
-    pub next: Option<Addr4>,
+    pub next: Option<Addr>,
     pub port: Id,
-}
-
-impl Ordered for Fixed {
-    ghost use Rattle.std.proofs.Common.{arith};
-    ghost use Rattle.std.proofs.lemmas.Bool.Decides.{nat_tests};
-    ghost use Rattle.plane_types.specs.RouterRows.{by_address};
-
-    ghost before = { by_address };
-
-    ghost order = { record { one_way = λ x y h. Prim.grind (arith, nat_tests); chain = λ x y z h k. Prim.grind (arith, nat_tests) } };
-
-    fn is_before(&self, other: &Fixed) -> bool {
-        self.address < other.address
-    }
 }
 
 // The first of these ports with an address in the subnet.
@@ -59,9 +45,9 @@ fn leg_in<'r>(legs: &[&'r PortRow], subnet: Id) -> Option<&'r PortRow>
 fn way_by(
     legs: &[&PortRow],
     subnet: Id,
-    prefix: Prefix4,
+    prefix: Prefix,
     rank: RouteRank,
-    next: Option<Addr4>,
+    next: Option<Addr>,
 ) -> Option<Way>
     ensures { option_map way_of result ≡ way_by_port (map (λ p. p.now) legs.now) subnet prefix rank next }
 {
@@ -113,7 +99,7 @@ fn add_connected_of(
 }
 
 // Adds the routes to the subnets of all these ports of the router.
-#[tactic(auto, unfolding(plane_types::specs::RouterRows::connected_ways))]
+#[tactic(auto, unfolding(api_types::specs::RouterRows::connected_ways))]
 fn add_connected(
     alloc: Global,
     rows: &Rows,
@@ -129,15 +115,15 @@ fn add_connected(
 }
 
 // Whether the address lies in the subnet of a held one.
-fn holds_next(rows: &Rows, address: Addr4, fixed: Fixed) -> bool
-    ensures { result ≡ holds_next_hop rows.now address fixed }
+fn holds_next(rows: &Rows, address: &Addr, fixed: Fixed) -> bool
+    ensures { result ≡ holds_next_hop rows.now address.now fixed }
 {
     rows.subnets().rows().iter().any(|subnet| fixed.subnet == subnet.id
-        && subnet.prefix.contains(address))
+        && subnet.prefix.contains(*address))
 }
 
-fn fixed_of_port(rows: &Rows, port: &PortRow, address: Addr4) -> Option<Fixed>
-    ensures { result ≡ find (holds_next_hop rows.now address) port.now.fixed }
+fn fixed_of_port(rows: &Rows, port: &PortRow, address: &Addr) -> Option<Fixed>
+    ensures { result ≡ find (holds_next_hop rows.now address.now) port.now.fixed }
 {
     for fixed in port.fixed.as_slice() {
         if holds_next(rows, address, *fixed) {
@@ -148,8 +134,8 @@ fn fixed_of_port(rows: &Rows, port: &PortRow, address: Addr4) -> Option<Fixed>
 }
 
 // The first address of these ports in whose subnet the address lies.
-fn fixed_toward(rows: &Rows, legs: &[&PortRow], address: Addr4) -> Option<Fixed>
-    ensures { result ≡ find (holds_next_hop rows.now address) (flat_map (λ (p : ThePort). p.fixed) (map (λ p. p.now) legs.now)) }
+fn fixed_toward(rows: &Rows, legs: &[&PortRow], address: &Addr) -> Option<Fixed>
+    ensures { result ≡ find (holds_next_hop rows.now address.now) (flat_map (λ (p : ThePort). p.fixed) (map (λ p. p.now) legs.now)) }
 {
     for port in legs {
         if let Some(fixed) = fixed_of_port(rows, port, address) {
@@ -162,7 +148,7 @@ fn fixed_toward(rows: &Rows, legs: &[&PortRow], address: Addr4) -> Option<Fixed>
 fn extra_way(rows: &Rows, legs: &[&PortRow], hop: Hop) -> Option<Way>
     ensures { option_map way_of result ≡ extra_by_rows rows.now (map (λ p. p.now) legs.now) hop }
 {
-    let fixed = fixed_toward(rows, legs, hop.next)?;
+    let fixed = fixed_toward(rows, legs, &hop.next)?;
     way_by(
         legs,
         fixed.subnet,
@@ -173,7 +159,7 @@ fn extra_way(rows: &Rows, legs: &[&PortRow], hop: Hop) -> Option<Way>
 }
 
 // Adds the router's own routes that lead somewhere.
-#[tactic(auto, unfolding(plane_types::specs::RouterRows::extra_ways))]
+#[tactic(auto, unfolding(api_types::specs::RouterRows::extra_ways))]
 fn add_extra(
     rows: &Rows,
     legs: &[&PortRow],
@@ -190,13 +176,19 @@ fn add_extra(
     Ok(())
 }
 
-// 0.0.0.0/0.
-fn everything() -> Prefix4
-    ensures { result ≡ record { base = 0; len = 0 } }
+// 0.0.0.0/0, or ::/0 in version 6.
+fn everything(gateway: &Addr) -> Prefix
+    ensures { result ≡ record { base = renumbered gateway.now 0; len = 0 } }
 {
-    Prefix4 {
-        base: Addr4(0),
-        len: 0,
+    match gateway {
+        Addr::V4(_) => Prefix {
+            base: Addr::V4(Addr4(0)),
+            len: 0,
+        },
+        Addr::V6(_) => Prefix {
+            base: Addr::V6(Addr6(0)),
+            len: 0,
+        },
     }
 }
 
@@ -207,7 +199,7 @@ fn default_in(legs: &[&PortRow], subnet: &SubnetRow) -> Option<Way>
     way_by(
         legs,
         subnet.id,
-        everything(),
+        everything(&gateway),
         RouteRank::Default,
         Some(gateway),
     )
@@ -249,7 +241,7 @@ fn add_default(
 }
 
 // The live ports of a router, in order of creation.
-#[tactic(auto, unfolding(plane_types::specs::RouterRows::legs_of))]
+#[tactic(auto, unfolding(api_types::specs::RouterRows::legs_of))]
 fn legs<'r>(
     alloc: Global,
     rows: &'r Rows,
@@ -260,7 +252,7 @@ fn legs<'r>(
     let mut legs = Vec::new(alloc);
     for port in rows.ports().rows() {
         if is_leg(rows, router, port) {
-            legs.push(port)?;
+            legs.push(port.get())?;
         }
     }
     Ok(legs)
@@ -270,7 +262,7 @@ fn legs<'r>(
 /// one. Its cost grows with the ports; with the addresses and routes of the router times its ports;
 /// with its routes times its addresses and the subnets; and with the addresses of a port and the
 /// logarithm of their number.
-#[tactic(auto, unfolding(plane_types::specs::RouterRows::ways_of))]
+#[tactic(auto, unfolding(api_types::specs::RouterRows::ways_of))]
 pub fn ways_of(alloc: Global, rows: &Rows, router: &RouterRow) -> Result<Vec<Way>, OutOfMemory>
     ensures { IfOk result (λ v. map way_of v.items ≡ ways_by_rows rows.now router.now) }
 {

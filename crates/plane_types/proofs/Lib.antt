@@ -1,2 +1,9 @@
 pub mod WorkedRows
 pub mod WorkedBridging
+pub mod NumberLemmas
+pub mod TagLemmas
+pub mod RetaggedLaw
+pub mod PlacedLemmas
+pub mod RealisedTags
+pub mod RouteLemmas
+pub mod UseLemmas

@@ -8,15 +8,16 @@ use Rattle.api_types.specs.declared.group.RuleRow.{RuleRow}
 use Rattle.api_types.specs.declared.network.Segment.{Segment}
 use Rattle.api_types.specs.declared.network.Segment.TheVariants.{Local, Vlan, Vxlan}
 use Rattle.plane_types.proofs.WorkedRows.{c1, c2, flow, group, guarded, held, host, id, ip, local_mac, network, no_rows, open_port, physnet1, prefix, rule, subnet, tables_of, tag, tcp, tcp_key}
-use Rattle.plane_types.specs.Ascending.{ascending, put_in}
+use Rattle.api_types.specs.Ascending.{ascending, put_in}
 use Rattle.plane_types.specs.Fabric.{fabric_fate, steps_for, walk}
-use Rattle.plane_types.specs.Filter.{is_member, rule_matches, rules_allow}
-use Rattle.plane_types.specs.Holders.{floating_holder}
+use Rattle.plane_types.specs.Filter.{rule_matches, rules_allow}
+use Rattle.api_types.specs.Members.{is_member, members, once}
+use Rattle.api_types.specs.Holders.{floating_holder}
 use Rattle.plane_types.specs.Hosts.{Host}
-use Rattle.plane_types.specs.Live.{is_live, segment}
+use Rattle.api_types.specs.Live.{is_live, segment}
 use Rattle.plane_types.specs.Meaning.{got, rows_fate}
 use Rattle.plane_types.specs.Places.{TunnelIn}
-use Rattle.plane_types.specs.TableRows.{bridge_rows, filter_rows, float_rows, inward_rows, lease_rows, members, neighbour_rows, once, route_rows, router_rows, set_rows, tap_rows}
+use Rattle.plane_types.specs.TableRows.{bridge_rows, filter_rows, float_rows, inward_rows, lease_rows, neighbour_rows, route_rows, router_rows, set_rows, tap_rows}
 use Rattle.plane_types.specs.TableStep.{drops, plain, table_step, tables_allow}
 use Rattle.plane_types.specs.Told.{fabric_verdict, fabric_verdicts, of_nobody, rows_verdict, rows_verdicts, without_hosts}
 use Rattle.plane_types.specs.declared.event.Event.{Event}

@@ -1,5 +1,6 @@
 -- Short ways to write down rows and frames for worked examples.
-use Rattle.std.specs.Prelude.{ℕ, ◌+◌, ◌*◌, ◌^◌, Bool, true, false, List, [], Option, Some, None, codes}
+use Rattle.std.specs.Prelude.{option_map, ℕ, ◌+◌, ◌*◌, ◌^◌, Bool, true, false, List, [], Option, Some, None, codes}
+use Rattle.net_addr.specs.declared.address.Addr.TheVariants.{V4}
 use Rattle.net_addr.specs.Prefixes.{Prefix}
 use Rattle.api_types.specs.Ident.{Ident}
 use Rattle.api_types.specs.RowLists.{RowLists}
@@ -26,7 +27,7 @@ use Rattle.plane_types.specs.declared.frame.Key.{Key}
 use Rattle.plane_types.specs.declared.frame.KeyKind.TheVariants.{Tcp as TcpKey}
 use Rattle.plane_types.specs.declared.frame.KeyPart.TheVariants.{Tcp}
 use Rattle.plane_types.specs.declared.table.TagRow.{TagRow}
-use Rattle.plane_types.specs.declared.table.Wire.{Wire}
+use Rattle.api_types.specs.declared.wire.Wire.{Wire}
 use Rattle.plane_types.specs.declared.tables.HostTables.{HostTables}
 
 abbrev pub ip : ℕ → ℕ → ℕ → ℕ → ℕ
@@ -40,7 +41,7 @@ abbrev pub local_mac : ℕ → ℕ
 local_mac n = 2 * 2 ^ 40 + n
 
 abbrev pub prefix : ℕ → ℕ → Prefix
-prefix base len = record { base = base; len = len }
+prefix base len = record { base = V4 base; len = len }
 
 abbrev pub id : ℕ → Ident
 id n = record { ordinal = 1; count = n }
@@ -58,10 +59,10 @@ abbrev pub network : Ident → Segment → NetworkRow
 network i s = record { id = i; project = codes "a"; name = []; description = []; up = true; segment = s }
 
 abbrev pub subnet : Ident → Ident → Prefix → Option ℕ → Bool → SubnetRow
-subnet i n p gateway dhcp = record { id = i; project = codes "a"; network = n; name = []; description = []; prefix = p; gateway = gateway; pools = []; dhcp = dhcp; dns = []; host_routes = [] }
+subnet i n p gateway dhcp = record { id = i; project = codes "a"; network = n; name = []; description = []; prefix = p; gateway = option_map V4 gateway; pools = []; dhcp = dhcp; address_mode = None; ra_mode = None; dns = []; host_routes = [] }
 
 abbrev pub held : Ident → ℕ → Fixed
-held s x = record { subnet = s; address = x }
+held s x = record { subnet = s; address = V4 x }
 
 -- a port of an instance without port security
 abbrev pub open_port : Ident → Ident → List ℕ → ℕ → List Fixed → PortRow
@@ -123,7 +124,7 @@ abbrev pub router : Ident → Option Gateway → List Hop → RouterRow
 router i gateway routes = record { id = i; project = codes "a"; name = []; description = []; up = true; host = Some c1; gateway = gateway; routes = routes }
 
 abbrev pub hop : Prefix → ℕ → Hop
-hop destination next = record { destination = destination; next = next }
+hop destination next = record { destination = destination; next = V4 next }
 
 abbrev pub no_rows : RowLists
 no_rows = record { projects = []; networks = []; subnets = []; ports = []; groups = []; rules = []; routers = []; floatings = []; policies = [] }

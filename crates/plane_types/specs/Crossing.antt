@@ -6,8 +6,8 @@ use Rattle.api_types.specs.RowLists.{RowLists}
 use Rattle.api_types.specs.Table.{ident_eq, row_of}
 use Rattle.api_types.specs.declared.port.PortRow.{PortRow}
 use Rattle.api_types.specs.declared.router.RouterRow.{RouterRow}
-use Rattle.plane_types.specs.Holders.{router_named}
-use Rattle.plane_types.specs.RouterRows.{is_leg_of}
+use Rattle.api_types.specs.Holders.{router_named}
+use Rattle.api_types.specs.RouterRows.{is_leg_of}
 use Rattle.plane_types.specs.declared.verdict.Outcome.{Outcome}
 use Rattle.plane_types.specs.declared.verdict.Outcome.TheVariants.{Absorbed, Answered, Delivered, Dropped, Out}
 use Rattle.plane_types.specs.declared.verdict.Verdict.{Verdict as ToldVerdict}

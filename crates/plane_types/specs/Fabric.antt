@@ -1,6 +1,7 @@
 -- The run of a frame through the tables of all hosts.
 use Rattle.std.specs.Prelude.{ℕ, zero, suc, ◌+◌, ◌*◌, Bool, true, false, not, ◌&&◌, List, [], ◌∷◌, ◌++◌, map, Option, Some, None, find, is_some, if◌then◌else◌}
 use Rattle.std.specs.Str.{bytes_eq}
+use Rattle.net_addr.specs.declared.address.Addr.TheVariants.{V4}
 use Rattle.api_types.specs.Ident.{Ident}
 use Rattle.plane_types.specs.Hosts.{Host, is_named}
 use Rattle.plane_types.specs.Meaning.{Fate, life_of}
@@ -19,7 +20,7 @@ use Rattle.plane_types.specs.declared.table.Carrier.TheVariants.{Tunnel as ByTun
 use Rattle.plane_types.specs.declared.table.InwardRow.{InwardRow}
 use Rattle.plane_types.specs.declared.table.TagRow.{TagRow}
 use Rattle.plane_types.specs.declared.table.TapRow.{TapRow}
-use Rattle.plane_types.specs.declared.table.Wire.{Wire}
+use Rattle.api_types.specs.declared.wire.Wire.{Wire}
 use Rattle.plane_types.specs.declared.tables.HostTables.{HostTables}
 use Rattle.plane_types.specs.declared.verdict.DropCause.TheVariants.{Dead, Unknown, Unsupported}
 use Rattle.plane_types.specs.declared.verdict.Outcome.{Outcome}
@@ -51,7 +52,7 @@ takes_to (Some r) = elim r.to [ ToTap p ↦ true | ToRouter r p ↦ true | ToHos
 abbrev pub takes_at : HostTables → Frame → Option InwardRow → Bool
 takes_at t frame None = false
 takes_at t (Ip4 src dst from to ttl part) (Some r) = takes_to (bridge_at t r.tag (AtMac dst))
-takes_at t (ArpAsk src from to) (Some r) = is_some (neighbour_at t r.tag to)
+takes_at t (ArpAsk src from to) (Some r) = is_some (neighbour_at t r.tag (V4 to))
 takes_at t (Dhcp src from) (Some r) = takes_to (bridge_at t r.tag AtDhcp)
 takes_at t (Other s d y) (Some r) = false
 

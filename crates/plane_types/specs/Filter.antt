@@ -1,23 +1,23 @@
 -- Which packets the rules of a port's security groups allow (Networking API v2.0, security group rules).
-use Rattle.std.specs.Prelude.{ℕ, ◌&&◌, ◌||◌, ◌==◌, nat_le, Bool, true, false, List, Option, Some, None, if◌then◌else◌}
+use Rattle.std.specs.Prelude.{ℕ, ◌&&◌, ◌||◌, ◌==◌, nat_le, Bool, true, false, Option, Some, None, if◌then◌else◌}
 use Rattle.std.specs.List.{list_any}
+use Rattle.net_addr.specs.declared.address.Addr.{Addr}
+use Rattle.net_addr.specs.declared.address.Addr.TheVariants.{V4}
 use Rattle.net_addr.specs.Prefixes.{Prefix, contains}
 use Rattle.api_types.specs.Consistent.Groups.{is_direction}
 use Rattle.api_types.specs.Ident.{Ident}
 use Rattle.api_types.specs.RowLists.{RowLists}
-use Rattle.api_types.specs.Table.{ident_eq}
 use Rattle.api_types.specs.declared.group.Direction.{Direction}
 use Rattle.api_types.specs.declared.group.Direction.TheVariants.{Egress, Ingress}
 use Rattle.api_types.specs.declared.group.Ethertype.{Ethertype}
 use Rattle.api_types.specs.declared.group.Ethertype.TheVariants.{Ipv4, Ipv6}
 use Rattle.api_types.specs.declared.group.RuleRow.{RuleRow}
-use Rattle.api_types.specs.declared.port.Pair.{Pair}
 use Rattle.api_types.specs.declared.port.PortRow.{PortRow}
-use Rattle.plane_types.specs.Holders.{holds}
 use Rattle.plane_types.specs.Keys.{protocol_of}
 use Rattle.plane_types.specs.declared.frame.Key.{Key}
 use Rattle.plane_types.specs.declared.frame.KeyKind.{KeyKind}
 use Rattle.plane_types.specs.declared.frame.KeyKind.TheVariants.{EchoAsk as AskKey, Proto as ProtoKey, EchoReply as ReplyKey, Tcp as TcpKey, Udp as UdpKey}
+use Rattle.api_types.specs.Members.{names_group, is_member}
 
 -- what a rule and a filter row say alike
 
@@ -47,34 +47,21 @@ in_range low high UdpKey port = at_least low port && at_most high port
 in_range low high (ProtoKey n) port = if n == 1 then is_none_of low && is_none_of high else at_least low port && at_most high port
 
 -- the far address is the source for ingress, the destination for egress
-abbrev pub far_of : Direction → Key → ℕ
-far_of Ingress k = k.from
-far_of Egress k = k.to
+abbrev pub far_of : Direction → Key → Addr
+far_of Ingress k = V4 k.from
+far_of Egress k = V4 k.to
 
 -- it is in the remote prefix, or a member's of the remote group, or both are null
-abbrev pub far_fits : (Ident → ℕ → Bool) → Option Prefix → Option Ident → ℕ → Bool
+abbrev pub far_fits : (Ident → Addr → Bool) → Option Prefix → Option Ident → Addr → Bool
 far_fits is_in None None x = true
 far_fits is_in (Some p) None x = contains p x
 far_fits is_in None (Some g) x = is_in g x
 far_fits is_in (Some p) (Some g) x = contains p x || is_in g x
 
-abbrev pub parts_fit : (Ident → ℕ → Bool) → Direction → Option ℕ → Option ℕ → Option ℕ → Option Prefix → Option Ident → Direction → Key → Bool
+abbrev pub parts_fit : (Ident → Addr → Bool) → Direction → Option ℕ → Option ℕ → Option ℕ → Option Prefix → Option Ident → Direction → Key → Bool
 parts_fit is_in own protocol low high prefix group direction key = is_direction own direction && same_or_none protocol (protocol_of key.kind) && in_range low high key.kind key.dport && far_fits is_in prefix group (far_of direction key)
 
 -- rules
-
-abbrev pub names_group : Ident → List Ident → Bool
-names_group g groups = list_any (ident_eq g) groups
-
-abbrev pub in_pairs : List Pair → ℕ → Bool
-in_pairs pairs x = list_any (λ (y : Pair). contains y.prefix x) pairs
-
--- a group's members are the fixed addresses and pair prefixes of all ports that name it
-abbrev pub gives_member : Ident → ℕ → PortRow → Bool
-gives_member g x p = names_group g p.groups && (holds p x || in_pairs p.pairs x)
-
-unfoldable pub is_member : RowLists → Ident → ℕ → Bool
-is_member rows g x = list_any (gives_member g x) rows.ports
 
 abbrev pub is_ipv4 : Ethertype → Bool
 is_ipv4 Ipv4 = true

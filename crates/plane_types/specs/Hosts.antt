@@ -1,6 +1,7 @@
 -- Hosts with their tables and tracked entries, and the order of the keys of the two maps.
 use Rattle.std.specs.Prelude.{ℕ, ◌+◌, ◌&&◌, ◌||◌, ◌==◌, nat_lt, Bool, true, false, List, flat_map}
 use Rattle.std.specs.Str.{bytes_eq}
+use Rattle.net_addr.specs.Ordered.{addr_before}
 use Rattle.plane_types.specs.declared.entry.Entry.{Entry}
 use Rattle.plane_types.specs.declared.table.BridgeKey.{BridgeKey}
 use Rattle.plane_types.specs.declared.table.BridgeKey.TheVariants.{Dhcp as AtDhcp, Mac as AtMac}
@@ -37,4 +38,4 @@ abbrev pub bridge_before : BridgeRow → BridgeRow → Bool
 bridge_before r s = pair_before r.tag (key_place r.key) s.tag (key_place s.key)
 
 abbrev pub neighbour_before : NeighbourRow → NeighbourRow → Bool
-neighbour_before r s = pair_before r.tag r.address s.tag s.address
+neighbour_before r s = nat_lt r.tag s.tag || ((r.tag == s.tag) && addr_before r.address s.address)

@@ -1,39 +1,41 @@
 -- What a frame does, by the rows of the API alone: one function by cases, in which each find is a search over all rows. A host is
 -- asked only as an attribute of a port, to tell which ports of a local network hear each other.
-use Rattle.std.specs.Prelude.{ℕ, zero, suc, Bool, false, not, ◌&&◌, List, [], ◌∷◌, ◌++◌, Option, Some, None, find, option_and_then, if◌then◌else◌}
+use Rattle.std.specs.Prelude.{ℕ, zero, suc, Bool, not, ◌&&◌, List, [], ◌∷◌, ◌++◌, Option, Some, None, find, option_and_then, if◌then◌else◌}
+use Rattle.net_addr.specs.declared.address.Addr.{Addr}
+use Rattle.net_addr.specs.declared.address.Addr.TheVariants.{V4}
 use Rattle.api_types.specs.Ident.{Ident}
-use Rattle.api_types.specs.Owners.{holds_in, is_router_port}
+use Rattle.api_types.specs.Owners.{is_router_port}
 use Rattle.api_types.specs.RowLists.{RowLists}
 use Rattle.api_types.specs.Table.{ident_eq, row_of}
 use Rattle.api_types.specs.declared.group.Direction.{Direction}
 use Rattle.api_types.specs.declared.group.Direction.TheVariants.{Egress, Ingress}
 use Rattle.api_types.specs.declared.network.NetworkRow.{NetworkRow}
-use Rattle.api_types.specs.declared.port.Fixed.{Fixed}
 use Rattle.api_types.specs.declared.port.PortRow.{PortRow}
 use Rattle.api_types.specs.declared.router.RouterRow.{RouterRow}
-use Rattle.api_types.specs.declared.subnet.SubnetRow.{SubnetRow}
 use Rattle.plane_types.specs.Filter.{rules_allow}
 use Rattle.plane_types.specs.Guard.{passes_guard}
-use Rattle.plane_types.specs.Holders.{dhcp_port, holder, port_at, router_of}
-use Rattle.plane_types.specs.Live.{is_live, joined_with, segment, wire_eq, wire_of}
+use Rattle.api_types.specs.Holders.{dhcp_port, holder, port_at, router_of}
+use Rattle.api_types.specs.Live.{is_live, joined_with, segment}
+use Rattle.api_types.specs.Wires.{wire_of, network_on}
 use Rattle.plane_types.specs.Packets.{AddressAsk, LeaseAsk, Packet, address_ask, arp_frame, dhcp_frame, ip_frame, is_unsupported, key_of, lease_ask, packet}
 use Rattle.plane_types.specs.Passage.{Passage, passage}
-use Rattle.plane_types.specs.RouterRows.{leg_of, legs_of, router_view, subnet_named}
+use Rattle.api_types.specs.RouterRows.{leg_of, legs_of, router_view}
 use Rattle.plane_types.specs.Routing.{RouteEnds, RouteSends, Routed, routed}
 use Rattle.plane_types.specs.declared.entry.Entry.{Entry}
 use Rattle.plane_types.specs.declared.event.Event.{Event}
 use Rattle.plane_types.specs.declared.event.Event.TheVariants.{FromPort, FromWire}
 use Rattle.plane_types.specs.declared.frame.Frame.{Frame}
 use Rattle.plane_types.specs.declared.frame.Frame.TheVariants.{ArpAsk, Dhcp, Ip4, Other}
-use Rattle.plane_types.specs.declared.table.Wire.{Wire}
+use Rattle.api_types.specs.declared.wire.Wire.{Wire}
 use Rattle.plane_types.specs.declared.verdict.AskAnswer.TheVariants.{Arp as ArpAnswer, Lease as LeaseAnswer}
 use Rattle.plane_types.specs.declared.verdict.DropCause.{DropCause}
 use Rattle.plane_types.specs.declared.verdict.DropCause.TheVariants.{Dead, Egress as EgressFilter, Ingress as IngressFilter, NoHolder, NoLease, Spoof, Unknown, Unsupported}
-use Rattle.plane_types.specs.declared.verdict.Lease.{Lease}
+use Rattle.api_types.specs.declared.lease.Lease.{Lease}
 use Rattle.plane_types.specs.declared.verdict.Outcome.{Outcome}
 use Rattle.plane_types.specs.declared.verdict.Outcome.TheVariants.{Answered, Delivered, Dropped, Out}
 use Rattle.plane_types.specs.declared.verdict.Toward.{Toward}
 use Rattle.plane_types.specs.declared.verdict.Toward.TheVariants.{Address as TowardAddress, Dhcp as TowardDhcp, Mac as TowardMac}
+use Rattle.api_types.specs.Leases.{lease_for}
 
 -- what an event has come to so far
 pub record Trace : Type 0 where
@@ -82,11 +84,11 @@ received rows entries q p t = delivered_by q p t (rows_passage rows (entries ++ 
 
 -- a router's port hands it to the router; router and network of the way out are added to the path, and the joined holder of the
 -- next hop gets the packet
-abbrev pub handed_to : RowLists → Onward → Ident → ℕ → Packet → Trace → Option PortRow → Fate
+abbrev pub handed_to : RowLists → Onward → Ident → Addr → Packet → Trace → Option PortRow → Fate
 handed_to rows on n hop p t (Some q) = on q (record p { dst = q.mac }) t
 handed_to rows on n hop p t None = ended t (out_of rows n (TowardAddress hop) (ip_frame (record p { dst = 0 })) NoHolder)
 
-abbrev pub handed_out : RowLists → Onward → RouterRow → ℕ → Packet → Trace → Option PortRow → Fate
+abbrev pub handed_out : RowLists → Onward → RouterRow → Addr → Packet → Trace → Option PortRow → Fate
 handed_out rows on r hop p t None = dropped t Unknown
 handed_out rows on r hop p t (Some out) = handed_to rows on out.network hop p (with_path t (r.id ∷ out.network ∷ [])) (joined_with rows out.host (holder rows out.network hop))
 
@@ -116,22 +118,11 @@ sent_on rows on n host p t = sent_to rows on n p t (joined_with rows host (port_
 
 -- an ask for an address (RFC 826) is answered by its holder, where that is joined with the asker
 abbrev pub asked_by : RowLists → Ident → AddressAsk → Option PortRow → Outcome
-asked_by rows n a (Some q) = Answered (ArpAnswer a.to q.mac)
-asked_by rows n a None = out_of rows n (TowardAddress a.to) (arp_frame a) NoHolder
+asked_by rows n a (Some q) = Answered (ArpAnswer (V4 a.to) q.mac)
+asked_by rows n a None = out_of rows n (TowardAddress (V4 a.to)) (arp_frame a) NoHolder
 
 abbrev pub asked : RowLists → Ident → List ℕ → AddressAsk → Outcome
-asked rows n host a = asked_by rows n a (joined_with rows host (holder rows n a.to))
-
-abbrev pub lease_of : Fixed → SubnetRow → Lease
-lease_of f s = record { address = f.address; length = s.prefix.len; gateway = s.gateway; name_servers = s.dns; host_routes = s.host_routes }
-
-abbrev pub lease_in : RowLists → Fixed → Option Lease
-lease_in rows f = elim (subnet_named rows f.subnet) [ None ↦ None | Some s ↦ Some (lease_of f s) ]
-
--- an ask for a lease (RFC 2131) is answered with the first address, of the live port with the MAC, in a subnet in which the DHCP
--- port holds one
-abbrev pub lease_for : RowLists → PortRow → PortRow → Option Lease
-lease_for rows d q = option_and_then (lease_in rows) (find (λ (f : Fixed). holds_in f.subnet d) q.fixed)
+asked rows n host a = asked_by rows n a (joined_with rows host (holder rows n (V4 a.to)))
 
 abbrev pub answered : Option Lease → Outcome
 answered None = Dropped NoLease
@@ -175,13 +166,6 @@ from_port rows entries many frame None = dropped none_so_far Dead
 from_port rows entries many frame (Some p) = if may_begin rows p then from_live rows entries many p (record { path = p.network ∷ []; fresh = [] }) frame else dropped none_so_far Dead
 
 -- from a wire
-abbrev pub is_wire : Wire → Option Wire → Bool
-is_wire w None = false
-is_wire w (Some v) = wire_eq w v
-
-abbrev pub network_on : RowLists → Wire → Option NetworkRow
-network_on rows w = find (λ (n : NetworkRow). is_wire w (wire_of n.segment)) rows.networks
-
 abbrev pub on_path : NetworkRow → Trace
 on_path n = record { path = n.id ∷ []; fresh = [] }
 
@@ -191,7 +175,7 @@ wire_packet rows entries many n x (Some q) = got rows entries many q x (on_path 
 
 abbrev pub wire_ask : NetworkRow → AddressAsk → Option PortRow → Fate
 wire_ask n a None = dropped none_so_far Unknown
-wire_ask n a (Some q) = ended (on_path n) (Answered (ArpAnswer a.to q.mac))
+wire_ask n a (Some q) = ended (on_path n) (Answered (ArpAnswer (V4 a.to) q.mac))
 
 abbrev pub wire_lease : RowLists → NetworkRow → LeaseAsk → Option PortRow → Fate
 wire_lease rows n a None = dropped none_so_far Unknown
@@ -199,7 +183,7 @@ wire_lease rows n a (Some d) = ended (on_path n) (leased rows n.id a d)
 
 abbrev pub from_network : RowLists → List Entry → ℕ → NetworkRow → Frame → Fate
 from_network rows entries many n (Ip4 src dst from to ttl part) = wire_packet rows entries many n (packet src dst from to ttl part) (port_at rows n.id dst)
-from_network rows entries many n (ArpAsk src from to) = wire_ask n (address_ask src from to) (holder rows n.id to)
+from_network rows entries many n (ArpAsk src from to) = wire_ask n (address_ask src from to) (holder rows n.id (V4 to))
 from_network rows entries many n (Dhcp src from) = wire_lease rows n (lease_ask src from) (dhcp_port rows n.id)
 from_network rows entries many n (Other s d y) = dropped none_so_far Unsupported
 

@@ -4,7 +4,7 @@ use Rattle.api_types.specs.Ident.{Ident}
 use Rattle.plane_types.specs.declared.event.Place.{Place as TheirPlace}
 use Rattle.plane_types.specs.declared.event.Place.TheVariants.{Bridge as TheirBridge, DhcpIn as TheirDhcpIn, RouterIn as TheirRouterIn, TapIn as TheirTapIn, TapOut as TheirTapOut, TunnelIn as TheirTunnelIn, WireIn as TheirWireIn}
 use Rattle.plane_types.specs.declared.frame.Frame.{Frame}
-use Rattle.plane_types.specs.declared.table.Wire.{Wire}
+use Rattle.api_types.specs.declared.wire.Wire.{Wire}
 use Rattle.plane_types.specs.declared.verdict.Outcome.{Outcome}
 use Rattle.plane_types.specs.declared.verdict.Toward.{Toward}
 

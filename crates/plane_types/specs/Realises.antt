@@ -5,7 +5,8 @@ use Rattle.std.specs.List.{filter}
 use Rattle.api_types.specs.Lists.{Each}
 use Rattle.api_types.specs.RowLists.{RowLists}
 use Rattle.api_types.specs.declared.network.NetworkRow.{NetworkRow}
-use Rattle.plane_types.specs.Live.{segment, wire_of}
+use Rattle.api_types.specs.Live.{segment}
+use Rattle.api_types.specs.Wires.{wire_of}
 use Rattle.plane_types.specs.TableRows.{bridge_rows, filter_rows, float_rows, inward_rows, is_tagged, lease_rows, neighbour_rows, route_rows, router_rows, set_rows, tap_rows}
 use Rattle.plane_types.specs.declared.table.TagRow.{TagRow}
 use Rattle.plane_types.specs.declared.tables.HostTables.{HostTables}

@@ -2,7 +2,10 @@
 use Rattle.std.specs.Prelude.{ℕ, ◌+◌, ◌-◌, Bool, true, false, not, ◌&&◌, ◌||◌, ◌==◌, nat_lt, nat_le, List, [], ◌∷◌, Option, Some, None, if◌then◌else◌, find, zero, suc}
 use Rattle.std.specs.List.{list_any}
 use Rattle.std.specs.Option.{unwrap_or}
-use Rattle.net_addr.specs.Prefixes.{Prefix, contains}
+use Rattle.net_addr.specs.Addresses.{addr_eq}
+use Rattle.net_addr.specs.declared.address.Addr.{Addr}
+use Rattle.net_addr.specs.declared.address.Addr.TheVariants.{V4}
+use Rattle.net_addr.specs.Prefixes.{contains}
 use Rattle.api_types.specs.Ident.{Ident}
 use Rattle.api_types.specs.Table.{ident_eq}
 use Rattle.plane_types.specs.Keys.{key_eq, kind_eq, reversed}
@@ -12,40 +15,12 @@ use Rattle.plane_types.specs.declared.entry.Entry.TheVariants.{Flow, Snat}
 use Rattle.plane_types.specs.declared.frame.Key.{Key}
 use Rattle.plane_types.specs.declared.frame.KeyKind.{KeyKind}
 use Rattle.plane_types.specs.declared.frame.KeyKind.TheVariants.{EchoAsk as AskKey, Proto as ProtoKey, EchoReply as ReplyKey, Tcp as TcpKey, Udp as UdpKey}
-use Rattle.plane_types.specs.declared.table.RouteRank.{RouteRank}
-use Rattle.plane_types.specs.declared.table.RouteRank.TheVariants.{Connected, Default, Extra}
+use Rattle.api_types.specs.declared.route.RouteRank.{RouteRank}
+use Rattle.api_types.specs.declared.route.RouteRank.TheVariants.{Connected, Default, Extra}
 use Rattle.plane_types.specs.declared.verdict.DropCause.TheVariants.{Expired, NoRoute, RouterDown, TranslationFull, Unknown}
 use Rattle.plane_types.specs.declared.verdict.Outcome.{Outcome}
 use Rattle.plane_types.specs.declared.verdict.Outcome.TheVariants.{Absorbed, Dropped}
-
--- a live port of a router; inside is an interface, outside the gateway port
-pub record Leg : Type 0 where
-  pub port : Ident
-  pub mac : ℕ
-  pub addresses : List ℕ
-  pub inside : Bool
-
--- a route: packets for its prefix go to the next hop, or where there is none to their destination, by the port
-pub record Way : Type 0 where
-  pub prefix : Prefix
-  pub rank : RouteRank
-  pub next : Option ℕ
-  pub port : Ident
-
--- an associated floating address, and the fixed address that it stands for
-pub record Float : Type 0 where
-  pub floating : ℕ
-  pub fixed : ℕ
-
--- all that is asked of a router; its gateway address stands also while the gateway port isn't live
-pub record RouterView : Type 0 where
-  pub id : Ident
-  pub up : Bool
-  pub snat : Bool
-  pub gateway : Option ℕ
-  pub legs : List Leg
-  pub ways : List Way
-  pub floats : List Float
+use Rattle.api_types.specs.RouterViews.{Leg, Way, Float, RouterView}
 
 -- by what a packet's destination was changed
 pub data Changed : Type 0 where
@@ -64,7 +39,7 @@ pub record Sourced : Type 0 where
 -- a packet ends in the router, or is sent on by a port toward a next hop, with the entries that this made
 pub data Routed : Type 0 where
   RouteEnds : Outcome → Routed
-  RouteSends : List Entry → Leg → ℕ → Packet → Routed
+  RouteSends : List Entry → Leg → Addr → Packet → Routed
 
 -- a translation entry is valid where its outer address is the gateway address now and sources are translated now; of a valid one
 -- the key and the outer port are left to say
@@ -114,7 +89,7 @@ abbrev pub better : Way → Option Way → Way
 better w None = w
 better w (Some v) = if beats w v then w else v
 
-unfoldable pub best_way : ℕ → List Way → Option Way
+unfoldable pub best_way : Addr → List Way → Option Way
 best_way x [] = None
 best_way x (w ∷ ways) = if contains w.prefix x then Some (better w (best_way x ways)) else best_way x ways
 
@@ -181,29 +156,29 @@ sourced v uses way_in out by p =
     if way_in.inside && (not out.inside || by_any by) then sourced_float v uses out by p (find (λ (f : Float). f.fixed == p.from) v.floats) else kept_source p
 
 -- the packet's source MAC is that of the way out
-abbrev pub sent : Leg → ℕ → Option Sourced → Routed
+abbrev pub sent : Leg → Addr → Option Sourced → Routed
 sent out hop None = RouteEnds (Dropped TranslationFull)
 sent out hop (Some s) = RouteSends s.made out hop (record s.packet { src = out.mac })
 
 -- the next hop is the route's, or the destination where it has none
-abbrev pub routed_out : RouterView → List Use → Leg → Changed → Packet → ℕ → Option Leg → Routed
+abbrev pub routed_out : RouterView → List Use → Leg → Changed → Packet → Addr → Option Leg → Routed
 routed_out v uses way_in by p hop None = RouteEnds (Dropped Unknown)
 routed_out v uses way_in by p hop (Some out) = sent out hop (sourced v uses way_in out by p)
 
 abbrev pub routed_way : RouterView → List Use → Leg → Changed → Packet → Option Way → Routed
 routed_way v uses way_in by p None = RouteEnds (Dropped NoRoute)
-routed_way v uses way_in by p (Some w) = routed_out v uses way_in by p (unwrap_or w.next p.to) (find (λ (l : Leg). ident_eq w.port l.port) v.legs)
+routed_way v uses way_in by p (Some w) = routed_out v uses way_in by p (unwrap_or w.next (V4 p.to)) (find (λ (l : Leg). ident_eq w.port l.port) v.legs)
 
 -- an address of a live port of this router is the router's own
-abbrev pub is_own : RouterView → ℕ → Bool
-is_own v x = list_any (λ (l : Leg). list_any (λ a. a == x) l.addresses) v.legs
+abbrev pub is_own : RouterView → Addr → Bool
+is_own v x = list_any (λ (l : Leg). list_any (λ a. addr_eq a x) l.addresses) v.legs
 
 -- then what is the router's own ends, and what has lived; what goes on has one step less to live
 abbrev pub routed_to : RouterView → List Use → Leg → Destined → Routed
 routed_to v uses way_in d =
-    if is_own v d.packet.to then RouteEnds (Absorbed v.id)
+    if is_own v (V4 d.packet.to) then RouteEnds (Absorbed v.id)
     else if nat_le d.packet.ttl 1 then RouteEnds (Dropped Expired)
-    else routed_way v uses way_in d.by (record (d.packet) { ttl = d.packet.ttl - 1 }) (best_way d.packet.to v.ways)
+    else routed_way v uses way_in d.by (record (d.packet) { ttl = d.packet.ttl - 1 }) (best_way (V4 d.packet.to) v.ways)
 
 -- the whole rule, which a router that is down doesn't begin
 unfoldable pub routed : RouterView → List Entry → Leg → Packet → Routed

@@ -1,9 +1,10 @@
 -- The tables that the rows give to a host, for its tags.
-use Rattle.std.specs.Prelude.{ℕ, Bool, false, not, ◌&&◌, ◌||◌, ◌==◌, nat_lt, List, [], ◌∷◌, ◌++◌, map, Option, Some, None, find, option_map, option_and_then, flat_map, if◌then◌else◌}
+use Rattle.std.specs.Prelude.{ℕ, Bool, false, not, ◌&&◌, List, [], ◌++◌, map, Option, Some, None, find, option_map, option_and_then, flat_map, if◌then◌else◌}
 use Rattle.std.specs.List.{list_any, filter_map}
 use Rattle.std.specs.Str.{bytes_eq}
+use Rattle.net_addr.specs.Ordered.{whole_prefix}
+use Rattle.net_addr.specs.declared.address.Addr.TheVariants.{V4}
 use Rattle.net_addr.specs.Prefixes.{Prefix}
-use Rattle.api_types.specs.Consistent.Groups.{prefix_eq}
 use Rattle.api_types.specs.Ident.{Ident}
 use Rattle.api_types.specs.Owners.{is_dhcp, is_interface, is_router_port}
 use Rattle.api_types.specs.RowLists.{RowLists}
@@ -20,14 +21,15 @@ use Rattle.api_types.specs.declared.port.Pair.{Pair}
 use Rattle.api_types.specs.declared.port.PortRow.{PortRow}
 use Rattle.api_types.specs.declared.router.RouterRow.{RouterRow}
 use Rattle.api_types.specs.declared.subnet.SubnetRow.{SubnetRow}
-use Rattle.plane_types.specs.Ascending.{ascending}
-use Rattle.plane_types.specs.Filter.{is_ipv4, names_group}
-use Rattle.plane_types.specs.Holders.{dhcp_port, floating_holder, router_named, router_of}
+use Rattle.api_types.specs.Ascending.{ascending}
+use Rattle.plane_types.specs.Filter.{is_ipv4}
+use Rattle.api_types.specs.Members.{names_group, members}
+use Rattle.api_types.specs.Holders.{dhcp_port, floating_holder, router_named, router_of}
 use Rattle.plane_types.specs.Hosts.{bridge_before, neighbour_before}
-use Rattle.plane_types.specs.Live.{is_joined, is_live, segment}
-use Rattle.plane_types.specs.Meaning.{lease_for}
-use Rattle.plane_types.specs.RouterRows.{gateway_address, has_snat, legs_of, subnet_named, ways_of}
-use Rattle.plane_types.specs.Routing.{Way}
+use Rattle.api_types.specs.Live.{is_joined, is_live, segment, is_at, is_here}
+use Rattle.api_types.specs.Leases.{lease_for}
+use Rattle.api_types.specs.RouterRows.{gateway_address, has_snat, legs_of, subnet_named, ways_of}
+use Rattle.api_types.specs.RouterViews.{Way}
 use Rattle.plane_types.specs.declared.table.BridgeKey.{BridgeKey}
 use Rattle.plane_types.specs.declared.table.BridgeKey.TheVariants.{Dhcp as AtDhcp, Mac as AtMac}
 use Rattle.plane_types.specs.declared.table.BridgeRow.{BridgeRow}
@@ -47,12 +49,6 @@ use Rattle.plane_types.specs.declared.table.SetRow.{SetRow}
 use Rattle.plane_types.specs.declared.table.TagRow.{TagRow}
 use Rattle.plane_types.specs.declared.table.TapRow.{TapRow}
 
-abbrev pub is_at : List ℕ → PortRow → Bool
-is_at host p = bytes_eq p.host host
-
-abbrev pub is_here : RowLists → List ℕ → PortRow → Bool
-is_here rows host p = is_live rows p && is_at host p
-
 -- tags
 abbrev pub is_tagged : RowLists → List ℕ → NetworkRow → Bool
 is_tagged rows host n = list_any (λ p. ident_eq n.id p.network && is_here rows host p) rows.ports
@@ -65,7 +61,7 @@ abbrev pub is_tap : RowLists → List ℕ → PortRow → Bool
 is_tap rows host p = is_here rows host p && not (is_router_port p.owner)
 
 abbrev pub allowed_of : PortRow → List Pair
-allowed_of p = map (λ (f : Fixed). record { mac = p.mac; prefix = record { base = f.address; len = 32 } }) p.fixed ++ p.pairs
+allowed_of p = map (λ (f : Fixed). record { mac = p.mac; prefix = whole_prefix f.address }) p.fixed ++ p.pairs
 
 abbrev pub tap_of : PortRow → ℕ → TapRow
 tap_of p tag = record { port = p.id; tag = tag; mac = p.mac; secured = p.secured; allowed = allowed_of p }
@@ -93,20 +89,6 @@ unfoldable pub filter_rows : RowLists → List ℕ → List FilterRow
 filter_rows rows host = flat_map (filters_of rows host) rows.ports
 
 -- sets
-abbrev pub prefixes_of : Ident → PortRow → List Prefix
-prefixes_of g p = if names_group g p.groups then map (λ (f : Fixed). record { base = f.address; len = 32 }) p.fixed ++ map (λ (x : Pair). x.prefix) p.pairs else []
-
-abbrev pub prefix_before : Prefix → Prefix → Bool
-prefix_before a b = nat_lt a.base b.base || ((a.base == b.base) && nat_lt a.len b.len)
-
--- each once
-unfoldable pub once : List Prefix → List Prefix
-once [] = []
-once (p ∷ ps) = if list_any (prefix_eq p) ps then once ps else p ∷ once ps
-
-unfoldable pub members : RowLists → Ident → List Prefix
-members rows g = ascending prefix_before (once (flat_map (prefixes_of g) rows.ports))
-
 abbrev pub names_remote : Ident → Option Ident → Bool
 names_remote g None = false
 names_remote g (Some x) = ident_eq g x
@@ -174,7 +156,7 @@ neighbours_of rows host tags q = if is_live rows q && is_joined rows q host then
 
 abbrev pub floating_neighbour_by : RowLists → List ℕ → List TagRow → FloatingRow → Option PortRow → Option NeighbourRow
 floating_neighbour_by rows host tags f None = None
-floating_neighbour_by rows host tags f (Some q) = if is_joined rows q host then option_map (λ tag. record { tag = tag; address = f.address; mac = q.mac }) (tag_of tags f.network) else None
+floating_neighbour_by rows host tags f (Some q) = if is_joined rows q host then option_map (λ tag. record { tag = tag; address = V4 f.address; mac = q.mac }) (tag_of tags f.network) else None
 
 abbrev pub floating_neighbour : RowLists → List ℕ → List TagRow → FloatingRow → Option NeighbourRow
 floating_neighbour rows host tags f = floating_neighbour_by rows host tags f (floating_holder rows f)

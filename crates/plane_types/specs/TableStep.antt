@@ -1,6 +1,9 @@
 -- One look-up in the tables of one host, by the place at which a frame is there.
 use Rattle.std.specs.Prelude.{ℕ, Bool, true, false, not, ◌&&◌, ◌||◌, ◌==◌, List, [], map, Option, Some, None, find, if◌then◌else◌}
 use Rattle.std.specs.List.{list_any, filter_map}
+use Rattle.net_addr.specs.Addresses.{addr_eq}
+use Rattle.net_addr.specs.declared.address.Addr.{Addr}
+use Rattle.net_addr.specs.declared.address.Addr.TheVariants.{V4}
 use Rattle.net_addr.specs.Prefixes.{contains}
 use Rattle.api_types.specs.Ident.{Ident}
 use Rattle.api_types.specs.Table.{ident_eq}
@@ -9,11 +12,12 @@ use Rattle.api_types.specs.declared.group.Direction.TheVariants.{Egress, Ingress
 use Rattle.api_types.specs.declared.port.Pair.{Pair}
 use Rattle.plane_types.specs.Filter.{parts_fit}
 use Rattle.plane_types.specs.Hosts.{bridge_key_eq}
-use Rattle.plane_types.specs.Live.{wire_eq}
+use Rattle.api_types.specs.Wires.{wire_eq}
 use Rattle.plane_types.specs.Packets.{AddressAsk, Packet, address_ask, arp_frame, ip_frame, is_unsupported, key_of, packet}
 use Rattle.plane_types.specs.Passage.{Passage, passage}
 use Rattle.plane_types.specs.Places.{Bridge, DhcpIn, End, Next, Place, RouterIn, Step, TapIn, TapOut, ToTunnel, ToWire, TunnelIn, WireIn}
-use Rattle.plane_types.specs.Routing.{Float, Leg, RouteEnds, RouteSends, Routed, RouterView, Way, routed}
+use Rattle.plane_types.specs.Routing.{RouteEnds, RouteSends, Routed, routed}
+use Rattle.api_types.specs.RouterViews.{Float, Leg, RouterView, Way}
 use Rattle.plane_types.specs.declared.entry.Entry.{Entry}
 use Rattle.plane_types.specs.declared.frame.Frame.{Frame}
 use Rattle.plane_types.specs.declared.frame.Frame.TheVariants.{ArpAsk, Dhcp, Ip4, Other}
@@ -36,7 +40,7 @@ use Rattle.plane_types.specs.declared.table.RouterTable.{RouterTable}
 use Rattle.plane_types.specs.declared.table.SetRow.{SetRow}
 use Rattle.plane_types.specs.declared.table.TagRow.{TagRow}
 use Rattle.plane_types.specs.declared.table.TapRow.{TapRow}
-use Rattle.plane_types.specs.declared.table.Wire.{Wire}
+use Rattle.api_types.specs.declared.wire.Wire.{Wire}
 use Rattle.plane_types.specs.declared.tables.HostTables.{HostTables}
 use Rattle.plane_types.specs.declared.verdict.AskAnswer.TheVariants.{Arp as ArpAnswer, Lease as LeaseAnswer}
 use Rattle.plane_types.specs.declared.verdict.DropCause.{DropCause}
@@ -67,8 +71,8 @@ tap_at t port = find (λ (r : TapRow). ident_eq port r.port) t.taps
 abbrev pub tag_row : HostTables → ℕ → Option TagRow
 tag_row t tag = find (λ (r : TagRow). r.tag == tag) t.tags
 
-abbrev pub neighbour_at : HostTables → ℕ → ℕ → Option NeighbourRow
-neighbour_at t tag x = find (λ (r : NeighbourRow). (r.tag == tag) && (r.address == x)) t.neighbours
+abbrev pub neighbour_at : HostTables → ℕ → Addr → Option NeighbourRow
+neighbour_at t tag x = find (λ (r : NeighbourRow). (r.tag == tag) && addr_eq r.address x) t.neighbours
 
 abbrev pub bridge_at : HostTables → ℕ → BridgeKey → Option BridgeRow
 bridge_at t tag key = find (λ (r : BridgeRow). (r.tag == tag) && bridge_key_eq r.key key) t.bridge
@@ -83,7 +87,7 @@ abbrev pub inward_at : HostTables → Carrier → Option InwardRow
 inward_at t carrier = find (λ (r : InwardRow). carrier_eq carrier r.carrier) t.inward
 
 -- filters
-abbrev pub in_set : HostTables → Ident → ℕ → Bool
+abbrev pub in_set : HostTables → Ident → Addr → Bool
 in_set t group x = list_any (λ (s : SetRow). ident_eq group s.group && contains s.prefix x) t.sets
 
 abbrev pub row_fits : HostTables → Direction → Key → FilterRow → Bool
@@ -96,13 +100,13 @@ abbrev pub tap_passage : HostTables → List Entry → TapRow → Direction → 
 tap_passage t entries tap direction p = passage tap.secured (tables_allow t tap.port) entries tap.port direction (key_of p)
 
 -- tap in
-abbrev pub may_send_as : List Pair → ℕ → ℕ → Bool
+abbrev pub may_send_as : List Pair → ℕ → Addr → Bool
 may_send_as allowed mac from = list_any (λ (x : Pair). (x.mac == mac) && contains x.prefix from) allowed
 
 abbrev pub tap_guards : TapRow → Frame → Bool
-tap_guards tap (Ip4 src dst from to ttl part) = may_send_as tap.allowed src from
-tap_guards tap (ArpAsk src from to) = may_send_as tap.allowed src from
-tap_guards tap (Dhcp src from) = if from == 0 then (tap.mac == src) || list_any (λ (y : Pair). y.mac == src) tap.allowed else may_send_as tap.allowed src from
+tap_guards tap (Ip4 src dst from to ttl part) = may_send_as tap.allowed src (V4 from)
+tap_guards tap (ArpAsk src from to) = may_send_as tap.allowed src (V4 from)
+tap_guards tap (Dhcp src from) = if from == 0 then (tap.mac == src) || list_any (λ (y : Pair). y.mac == src) tap.allowed else may_send_as tap.allowed src (V4 from)
 tap_guards tap (Other s d y) = true
 
 abbrev pub tap_filtered : Frame → TapRow → Passage → Stepped
@@ -152,11 +156,11 @@ bridged_by inner row toward frame cause None = wire_or inner row.network row.wir
 
 abbrev pub arp_by : Bool → TagRow → AddressAsk → Option NeighbourRow → Step
 arp_by inner row a (Some r) = stops (Answered (ArpAnswer r.address r.mac))
-arp_by inner row a None = wire_or inner row.network row.wire (TowardAddress a.to) (arp_frame a) NoHolder
+arp_by inner row a None = wire_or inner row.network row.wire (TowardAddress (V4 a.to)) (arp_frame a) NoHolder
 
 abbrev pub bridge_in : HostTables → Bool → TagRow → Frame → Step
 bridge_in t inner row (Ip4 src dst from to ttl part) = bridged_by inner row (TowardMac dst) (Ip4 src dst from to ttl part) Unknown (bridge_at t row.tag (AtMac dst))
-bridge_in t inner row (ArpAsk src from to) = arp_by inner row (address_ask src from to) (neighbour_at t row.tag to)
+bridge_in t inner row (ArpAsk src from to) = arp_by inner row (address_ask src from to) (neighbour_at t row.tag (V4 to))
 bridge_in t inner row (Dhcp src from) = bridged_by inner row TowardDhcp (Dhcp src from) NoLease (bridge_at t row.tag AtDhcp)
 bridge_in t inner row (Other s d y) = wire_or inner row.network row.wire (TowardMac d) (Other s d y) Unknown
 
@@ -201,15 +205,15 @@ router_at t router = find (λ (r : RouterTable). ident_eq router r.router) t.rou
 abbrev pub tagged_leg : RouterTable → Ident → Option RouterPort
 tagged_leg r port = find (λ (x : RouterPort). ident_eq port x.port) r.ports
 
-abbrev pub unheld : ℕ → Packet → Option TagRow → Step
+abbrev pub unheld : Addr → Packet → Option TagRow → Step
 unheld hop p None = drops Unknown
 unheld hop p (Some row) = elim row.wire [ None ↦ End (Dropped NoHolder) (Some row.network) | Some w ↦ End (Out row.network (TowardAddress hop) (ip_frame (record p { dst = 0 }))) (Some row.network) ]
 
-abbrev pub sent_by : HostTables → ℕ → ℕ → Packet → Option NeighbourRow → Step
+abbrev pub sent_by : HostTables → ℕ → Addr → Packet → Option NeighbourRow → Step
 sent_by t tag hop p (Some r) = Next (Bridge tag (ip_frame (record p { dst = r.mac })))
 sent_by t tag hop p None = unheld hop p (tag_row t tag)
 
-abbrev pub sent_at : HostTables → ℕ → Packet → Option RouterPort → Step
+abbrev pub sent_at : HostTables → Addr → Packet → Option RouterPort → Step
 sent_at t hop p None = drops Unknown
 sent_at t hop p (Some x) = sent_by t x.tag hop p (neighbour_at t x.tag hop)
 

@@ -3,26 +3,48 @@
 //! The types that cross from the rows of the Networking API to the hosts that carry its frames, and
 //! in specs/ what a frame does: by the rows alone, and by the tables that hosts hold. It stands on
 //! the rows of `api_types`. Definitions are over the declared types, so contracts above cite both.
-//! A key is a packet's addresses and ports as its protocol has them; copying tables takes memory.
+//! A key is a packet's addresses and ports as its protocol has them. Beside the types stands what
+//! rows and tables ask alike of single packets: keys, flows, the parts of a filter, allowed pairs
+//! and translations. Only copying tables takes memory.
 #![tactic(auto)]
 
 mod ask;
 mod entries;
 mod entry;
 mod event;
+mod filter;
+mod flow;
 mod frame;
+mod key;
+mod order;
+mod packet;
+mod pairs;
+mod routing;
 mod table;
 mod tables;
+mod tags;
+mod translation;
 mod verdict;
 
 pub use ask::{Ask, Heard, HostState, LabAnswer, LabCall, Reply};
 pub use entries::{Entries, Fresh};
 pub use entry::Entry;
 pub use event::{Event, Place};
+pub use filter::{far_of, in_range, is_protocol};
+pub use flow::{Passage, is_tracked, new_flow, opposite};
 pub use frame::{Frame, Key, KeyKind, KeyPart};
+pub use key::{is_key, is_kind};
+pub use packet::{Packet, is_unsupported, part_from, part_to};
+pub use pairs::{has_pair_mac, is_allowed};
+pub use routing::{
+    Changed, Destined, Sourced, answered_to, by_any, by_float, kept_source, lower, rank_place,
+    sourced_at, with_destination,
+};
 pub use table::{
     BridgeKey, BridgeRow, BridgeTo, Carrier, FilterRow, FloatRow, InwardRow, LeaseRow,
-    NeighbourRow, RouteRank, RouteRow, RouterPort, RouterTable, SetRow, TagRow, TapRow, Wire,
+    NeighbourRow, RouteRow, RouterPort, RouterTable, SetRow, TagRow, TapRow,
 };
 pub use tables::{HostTables, Leases, Tags};
-pub use verdict::{AskAnswer, DropCause, Lease, Made, Outcome, Toward, TrailItem, Verdict};
+pub use tags::tag_of;
+pub use translation::{Use, answers, has_choice, takes, use_of_entry};
+pub use verdict::{AskAnswer, DropCause, Made, Outcome, Toward, TrailItem, Verdict};

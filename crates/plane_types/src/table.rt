@@ -1,15 +1,6 @@
-use crate::verdict::Lease;
-use api_types::{Direction, Id, Pair};
-use net_addr::{Addr4, Copies, Mac, OutOfMemory, Prefix4, Prefixes, Seq, Text};
+use api_types::{Direction, Id, Lease, Pair, RouteRank, Wire};
+use net_addr::{Addr, Addr4, Copies, Mac, OutOfMemory, Prefix, Prefixes, Seq, Text};
 use std::alloc::Global;
-
-/// A physical network, untagged or with a tag of IEEE 802.1Q.
-#[derive(Drop)]
-pub struct Wire {
-    pub physical: Text,
-    /// 1 to 4,094, or none where frames are untagged.
-    pub tag: Option<u16>,
-}
 
 /// The local tag by which this host tells a network's frames.
 #[derive(Drop)]
@@ -44,7 +35,7 @@ pub struct FilterRow {
     pub low: Option<u16>,
     /// The greatest port, or the code for ICMP.
     pub high: Option<u16>,
-    pub remote_prefix: Option<Prefix4>,
+    pub remote_prefix: Option<Prefix>,
     /// The group in whose set the far address may be.
     pub remote_group: Option<Id>,
 }
@@ -53,7 +44,7 @@ pub struct FilterRow {
 #[derive(Clone, Copy, PartialEq, Eq)]
 pub struct SetRow {
     pub group: Id,
-    pub prefix: Prefix4,
+    pub prefix: Prefix,
 }
 
 /// What is sought in the bridge of a tag.
@@ -105,7 +96,7 @@ pub struct InwardRow {
 #[derive(Clone, Copy, PartialEq, Eq)]
 pub struct NeighbourRow {
     pub tag: u16,
-    pub address: Addr4,
+    pub address: Addr,
     pub mac: Mac,
 }
 
@@ -115,7 +106,7 @@ pub struct RouterPort {
     pub port: Id,
     pub tag: u16,
     pub mac: Mac,
-    pub addresses: Seq<Addr4>,
+    pub addresses: Seq<Addr>,
     /// The prefix of the subnet of each address.
     pub prefixes: Prefixes,
     /// Whether it is an interface, and not the gateway port.
@@ -135,22 +126,14 @@ pub struct RouterTable {
     pub ports: Seq<RouterPort>,
 }
 
-/// Which of two routes with equal lengths goes first.
-#[derive(Clone, Copy, PartialEq, Eq)]
-pub enum RouteRank {
-    Connected,
-    Extra,
-    Default,
-}
-
 /// A route of a router of this host.
 #[derive(Clone, Copy, PartialEq, Eq)]
 pub struct RouteRow {
     pub router: Id,
-    pub prefix: Prefix4,
+    pub prefix: Prefix,
     pub rank: RouteRank,
     /// The next hop, or none where the destination is.
-    pub next: Option<Addr4>,
+    pub next: Option<Addr>,
     /// The router's port by which packets leave.
     pub port: Id,
 }
@@ -169,15 +152,6 @@ pub struct LeaseRow {
     pub tag: u16,
     pub mac: Mac,
     pub lease: Lease,
-}
-
-impl Copies for Wire {
-    fn copy(&self, alloc: Global) -> Result<Wire, OutOfMemory> {
-        Ok(Wire {
-            physical: self.physical.copy(alloc)?,
-            tag: self.tag,
-        })
-    }
 }
 
 impl Copies for TagRow {

@@ -1,8 +1,7 @@
 use crate::entry::Entry;
 use crate::frame::Frame;
-use api_types::{Id, Routes};
-use net_addr::{Addr4, Copies, Mac, OutOfMemory, Seq, Text};
-use std::alloc::Global;
+use api_types::{Id, Lease};
+use net_addr::{Addr, Mac, Seq, Text};
 
 /// Why a frame is dropped.
 #[derive(Clone, Copy, PartialEq, Eq)]
@@ -33,33 +32,10 @@ pub enum DropCause {
     TranslationFull,
 }
 
-/// What a port is told by DHCP (RFC 2131, RFC 3442).
-#[derive(Drop)]
-pub struct Lease {
-    pub address: Addr4,
-    /// The length of the subnet's prefix.
-    pub length: u8,
-    pub gateway: Option<Addr4>,
-    pub name_servers: Seq<Addr4>,
-    pub host_routes: Routes,
-}
-
-impl Copies for Lease {
-    fn copy(&self, alloc: Global) -> Result<Lease, OutOfMemory> {
-        Ok(Lease {
-            address: self.address,
-            length: self.length,
-            gateway: self.gateway,
-            name_servers: self.name_servers.copy(alloc)?,
-            host_routes: self.host_routes.copy(alloc)?,
-        })
-    }
-}
-
 /// What an ask is answered.
 #[derive(Drop)]
 pub enum AskAnswer {
-    Arp { address: Addr4, mac: Mac },
+    Arp { address: Addr, mac: Mac },
     Lease(Lease),
 }
 
@@ -67,7 +43,7 @@ pub enum AskAnswer {
 #[derive(Clone, Copy, PartialEq, Eq)]
 pub enum Toward {
     Mac(Mac),
-    Address(Addr4),
+    Address(Addr),
     Dhcp,
 }
 

@@ -1,7 +1,8 @@
 -- A project's count that rises keeps rows consistent.
-use Rattle.std.proofs.Common.{◌≡◌, ℕ, ◌+◌, ◌<◌, ◌≤◌, ◌^◌, List, true, false, cond, Some, slice_get, slice_set, refl, ap, sym, ◌∙◌, arith, subst}
+use Rattle.std.proofs.Common.{◌≡◌, ℕ, ◌+◌, ◌<◌, ◌≤◌, ◌^◌, List, true, false, cond, Some, slice_get, slice_set, not, refl, ap, sym, ◌∙◌, arith, subst}
 use Rattle.std.specs.Prelude.{◌==◌, ◌&&◌, count_by, nat_le}
 use Rattle.std.proofs.lemmas.Bool.Decides.{nat_tests}
+use Rattle.std.proofs.lemmas.List.{length-set}
 use Rattle.api_types.specs.Ident.{Ident}
 use Rattle.api_types.specs.RowLists.{RowLists}
 use Rattle.api_types.specs.Lists.{is_empty}
@@ -11,8 +12,8 @@ use Rattle.api_types.specs.Consistent.Numbered.{AreOrdered, is_drawn, ProjectsDi
 use Rattle.api_types.specs.Consistent.Named.{is_registered, serves, ProjectsStand}
 use Rattle.api_types.specs.Consistent.Groups.{is_default_of}
 use Rattle.api_types.specs.declared.project.ProjectRow.{ProjectRow}
-use Rattle.row_laws.proofs.ListLemmas.{at_set, each-set, any-none, any-set_same, any-set_grows, sum-set_same, some_equal, set-any}
-use Rattle.row_laws.proofs.NameLemmas.{by_test, bytes_itself}
+use Rattle.api_types.proofs.ListLemmas.{at_set, each-set, any-none, any-set_same, any-set_grows, sum-set_same, some_equal, set-any}
+use Rattle.api_types.proofs.NameLemmas.{by_test, bytes_itself}
 
 -- an id that was drawn was drawn with the raised count too
 still_in : (o c d i n : ℕ) → c ≤ d → (o == i) && (nat_le 1 n && nat_le n c) ≡ true → (o == i) && (nat_le 1 n && nat_le n d) ≡ true
@@ -40,6 +41,8 @@ module _ (rows : RowLists) (place : ℕ) (p : ProjectRow) (count : ℕ) (at : sl
     ordered = λ k q h. at_set rows.projects place raised q k h ((q.ordinal ≡ k + 1) × (q.count < 2 ^ 62)) (c.ordered k q)
         (λ here is. let old = c.ordered place p at in (ap (λ (x : ProjectRow). x.ordinal) (sym is) ∙ (old.0 ∙ ap (λ n. n + 1) (sym here)), subst (λ (x : ProjectRow). x.count < 2 ^ 62) is room));
     names = λ name. let e = sum-set_same (λ q. cond {A = ℕ} (is_named name q) 1 0) rows.projects place p raised at refl in omega (arith, e, c.names name);
+    named = each-set (λ q. not (is_empty q.name) ≡ true) rows.projects place raised c.named (c.named place p at);
+    few = omega (arith, c.few, length-set rows.projects place raised);
   }
 
   pub are_drawn : p.count ≤ count → AreDrawn rows → AreDrawn (with_count rows place p count)

@@ -3,6 +3,7 @@ use Rattle.std.proofs.Common.{◌≡◌, ℕ, ◌+◌, ◌-◌, ◌<◌, ◌≤�
 use Rattle.std.specs.Prelude.{◌||◌, not, nat_lt, position, if◌then◌else◌}
 use Rattle.std.specs.List.{list_any, position_or_len}
 use Rattle.std.proofs.lemmas.Bool.Decides.{nat_tests}
+use Rattle.api_types.specs.Lists.{is_empty}
 use Rattle.api_types.specs.RowLists.{RowLists}
 use Rattle.api_types.specs.Registration.{ident, is_named, with_project, with_count, Drawing, drawn_id, draw_for, draw_at, draw_of}
 use Rattle.api_types.specs.Consistent.{IsConsistent}
@@ -11,9 +12,10 @@ use Rattle.api_types.specs.Consistent.Carried.{AreCarried}
 use Rattle.api_types.specs.declared.project.ProjectRow.{ProjectRow}
 use Rattle.api_types.specs.declared.network.Segment.{Segment}
 use Rattle.row_laws.specs.Drawn.{IsDrawing, AreNew}
-use Rattle.row_laws.proofs.ListLemmas.{some_equal, none_some}
-use Rattle.row_laws.proofs.NameLemmas.{bytes_same}
-use Rattle.row_laws.proofs.IdLemmas.{undrawn_absent, absent}
+use Rattle.api_types.proofs.ListLemmas.{some_equal, none_some}
+use Rattle.api_types.proofs.NameLemmas.{bytes_same}
+use Rattle.api_types.proofs.IdLemmas.{undrawn_absent}
+use Rattle.row_laws.proofs.TimesLemmas.{absent}
 use Rattle.row_laws.proofs.CountRaised.{count_raised, undrawn_above, drawn_up_to, named_still}
 use Rattle.row_laws.proofs.ProjectRegistered as registered
 
@@ -36,7 +38,7 @@ no_place test (a ∷ xs) h = by (test a) refl h (λ g. no_place test xs g)
     by false e h rest = rest (omega (arith, h))
 
 -- by what `position` finds
-by_position : {R : Type 0} (test : R → Bool) (xs : List R) (P : Option ℕ → Type 0) → (list_any test xs ≡ false → P None)
+pub by_position : {R : Type 0} (test : R → Bool) (xs : List R) (P : Option ℕ → Type 0) → (list_any test xs ≡ false → P None)
     → ((k : ℕ) → ((x : R) → slice_get xs k ≡ Some x → test x ≡ true) → P (Some k)) → P (position test xs)
 by_position test xs P none some = by (nat_lt (position_or_len test xs) (length xs)) refl
   where
@@ -71,10 +73,10 @@ known_drawing rows name place many p c at named room = record {
 }
 
 -- for a new one
-new_drawing : (rows : RowLists) (name : List ℕ) (many : ℕ) → IsConsistent rows → is_registered rows.projects name ≡ false → 5 + many < 2 ^ 62
+new_drawing : (rows : RowLists) (name : List ℕ) (many : ℕ) → IsConsistent rows → not (is_empty name) ≡ true → length rows.projects + 1 < 2 ^ 32 → is_registered rows.projects name ≡ false → 5 + many < 2 ^ 62
     → IsDrawing rows name many (record { rows = with_project rows name (length rows.projects + 1) (5 + many); ordinal = length rows.projects + 1; first = 6 })
-new_drawing rows name many c unknown room = record {
-  consistent = registered.project_registered rows name (5 + many) (omega arith) room unknown c;
+new_drawing rows name many c has_name fewer unknown room = record {
+  consistent = registered.project_registered rows name (5 + many) (omega arith) room has_name fewer unknown c;
   fresh = λ k within. registered.free_above rows name (5 + many) (6 + k) (omega arith) c.numbered;
   drawn = λ k within. registered.drawn_up_to rows.projects (record { name = name; ordinal = length rows.projects + 1; count = 5 + many }) refl (6 + k) (omega arith) (omega (arith, within));
   project = registered.now_known rows.projects (record { name = name; ordinal = length rows.projects + 1; count = 5 + many }) refl;
@@ -86,10 +88,11 @@ new_drawing rows name many c unknown room = record {
   policies = refl;
 }
 
-pub draws : (rows : RowLists) (name : List ℕ) (many : ℕ) (d : Drawing) → IsConsistent rows → 5 + many < 2 ^ 62 → draw_of rows name many ≡ Some d → IsDrawing rows name many d
-draws rows name many d c room = by_position (is_named name) rows.projects (λ o. draw_at rows name many o ≡ Some d → IsDrawing rows name many d)
+pub draws : (rows : RowLists) (name : List ℕ) (many : ℕ) (d : Drawing) → IsConsistent rows → not (is_empty name) ≡ true → 5 + many < 2 ^ 62 → draw_of rows name many ≡ Some d → IsDrawing rows name many d
+draws rows name many d c has_name room = by_position (is_named name) rows.projects (λ o. draw_at rows name many o ≡ Some d → IsDrawing rows name many d)
     (λ unknown h. let t = taken (nat_lt (length rows.projects) (2 ^ 32 - 1)) (record { rows = with_project rows name (length rows.projects + 1) (5 + many); ordinal = length rows.projects + 1; first = 6 }) d h in
-    subst (IsDrawing rows name many) t.1 (new_drawing rows name many c unknown room))
+    let less : length rows.projects < 2 ^ 32 - 1 = below (length rows.projects) (2 ^ 32 - 1) t.0 in
+    subst (IsDrawing rows name many) t.1 (new_drawing rows name many c has_name (omega (arith, less)) unknown room))
     (λ place named. at_place place (slice_get rows.projects place) refl named)
   where
     at_place : (place : ℕ) (o : Option ProjectRow) → slice_get rows.projects place ≡ o → ((p : ProjectRow) → slice_get rows.projects place ≡ Some p → is_named name p ≡ true)

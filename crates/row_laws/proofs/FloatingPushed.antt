@@ -20,9 +20,10 @@ use Rattle.api_types.specs.declared.floating.FloatingRow.{FloatingRow}
 use Rattle.api_types.specs.declared.floating.Target.{Target}
 use Rattle.api_types.specs.declared.policy.PolicyRow.{PolicyRow}
 use Rattle.row_laws.specs.NewRows.{with_floating}
-use Rattle.row_laws.proofs.ListLemmas.{false_true, or_true, each-push, any-last, once-push}
-use Rattle.row_laws.proofs.NameLemmas.{ident_same, by_test, or_weaker, and_fails, must, unless_weaker, any-push_other}
-use Rattle.row_laws.proofs.IdLemmas.{times-floating, ids-push}
+use Rattle.api_types.proofs.ListLemmas.{false_true, or_true, each-push, any-last, once-push}
+use Rattle.api_types.proofs.NameLemmas.{ident_same, by_test, or_weaker, and_fails, must, unless_weaker, any-push_other}
+use Rattle.api_types.proofs.IdLemmas.{ids-push}
+use Rattle.row_laws.proofs.TimesLemmas.{times-floating}
 
 module _ (floatings : List FloatingRow) (f : FloatingRow) where
   pub networks_stand : {networks : List NetworkRow} {subnets : List SubnetRow} {ports : List PortRow} {routers : List RouterRow} {policies : List PolicyRow}

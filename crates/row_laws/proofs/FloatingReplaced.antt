@@ -9,7 +9,7 @@ use Rattle.api_types.specs.Lists.{stands_so, if_some, is_some_so, is_empty}
 use Rattle.api_types.specs.Owners.{is_gateway, is_floating}
 use Rattle.api_types.specs.Sharing.{is_external_to}
 use Rattle.api_types.specs.Consistent.Carried.{is_unbound}
-use Rattle.api_types.specs.Consistent.Floating.{leads_to, stands_for, FloatingsLead}
+use Rattle.api_types.specs.Consistent.Floating.{is_target_port, is_target_router, leads_to, stands_for, FloatingsLead}
 use Rattle.api_types.specs.Consistent.Named.{is_network, is_port, is_router, is_registered, is_own_port, NetworksStand, PortsStand, RoutersStand, ProjectsStand}
 use Rattle.api_types.specs.Consistent.Numbered.{is_drawn, AreDrawn}
 use Rattle.api_types.specs.Consistent.Permitted.{OutsidesAreAllowed}
@@ -23,8 +23,17 @@ use Rattle.api_types.specs.declared.floating.FloatingRow.{FloatingRow}
 use Rattle.api_types.specs.declared.floating.Target.{Target}
 use Rattle.api_types.specs.declared.policy.PolicyRow.{PolicyRow}
 use Rattle.row_laws.specs.Replaced.{with_floating_at, IsReplacedFloating, IsRedirected}
-use Rattle.row_laws.proofs.ListLemmas.{each-set, any-set_same, sum-set}
-use Rattle.row_laws.proofs.NameLemmas.{and_fails, count-set}
+use Rattle.api_types.proofs.ListLemmas.{and_both, any-weaker, each-set, any-set_same, sum-set}
+use Rattle.api_types.proofs.NameLemmas.{and_fails, count-set, if_some-weaker}
+
+-- the port and the router of a target in order are there
+pub port_there : (rows : RowLists) (f : FloatingRow) (t : Target) → leads_to rows.ports rows.routers f t ≡ true → is_port rows.ports t.port ≡ true
+port_there rows f t h = any-weaker (λ p. ident_eq t.port p.id && is_target_port rows.ports f t p) (λ p. ident_eq t.port p.id) rows.ports (λ p g. (and_both (ident_eq t.port p.id) _ g).0)
+    (and_both _ (stands_so (λ r. r.id) t.router (is_target_router f) rows.routers) h).0
+
+pub router_there : (rows : RowLists) (f : FloatingRow) (t : Target) → leads_to rows.ports rows.routers f t ≡ true → is_router rows.routers t.router ≡ true
+router_there rows f t h = any-weaker (λ r. ident_eq t.router r.id && is_target_router f r) (λ r. ident_eq t.router r.id) rows.routers (λ r g. (and_both (ident_eq t.router r.id) _ g).0)
+    (and_both (stands_so (λ p. p.id) t.port (is_target_port rows.ports f t) rows.ports) _ h).1
 
 module _ (floatings : List FloatingRow) (place : ℕ) (old new : FloatingRow) (at : slice_get floatings place ≡ Some old) (same : IsReplacedFloating old new) where
   -- what is a port's own stays its own
@@ -123,9 +132,9 @@ module _ (rows : RowLists) (place : ℕ) (old new : FloatingRow) (at : slice_get
     named = record {
       networks = networks_stand rows.floatings place old new at same c.named.networks;
       subnets = c.named.subnets;
-      ports = ports_stand rows.floatings place old new at same is.port c.named.ports;
+      ports = ports_stand rows.floatings place old new at same (if_some-weaker (leads_to rows.ports rows.routers new) (λ (t : Target). is_port rows.ports t.port) new.target (λ t h. port_there rows new t h) is.leads) c.named.ports;
       groups = c.named.groups;
-      routers = routers_stand rows.floatings place old new at same is.router c.named.routers;
+      routers = routers_stand rows.floatings place old new at same (if_some-weaker (leads_to rows.ports rows.routers new) (λ (t : Target). is_router rows.routers t.router) new.target (λ t h. router_there rows new t h) is.leads) c.named.routers;
       projects = projects_stand c.named.projects;
     };
     in_form = c.in_form;

@@ -17,8 +17,8 @@ use Rattle.api_types.specs.declared.router.RouterRow.{RouterRow}
 use Rattle.api_types.specs.declared.floating.FloatingRow.{FloatingRow}
 use Rattle.api_types.specs.declared.policy.PolicyRow.{PolicyRow}
 use Rattle.row_laws.specs.Gone.{with_floatings_kept}
-use Rattle.row_laws.proofs.ListLemmas.{each-filter, any-filter, sum-filter-le, any-filter_back}
-use Rattle.row_laws.proofs.NameLemmas.{count-filter, unless_weaker}
+use Rattle.api_types.proofs.ListLemmas.{each-filter, any-filter, sum-filter-le, any-filter_back}
+use Rattle.api_types.proofs.NameLemmas.{count-filter, unless_weaker}
 
 module _ (keep : FloatingRow → Bool) (floatings : List FloatingRow) where
   left : (P : FloatingRow → Type 0) → Each P floatings → Each P (filter keep floatings)

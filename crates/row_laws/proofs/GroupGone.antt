@@ -16,8 +16,8 @@ use Rattle.api_types.specs.declared.port.PortRow.{PortRow}
 use Rattle.api_types.specs.declared.group.GroupRow.{GroupRow}
 use Rattle.api_types.specs.declared.group.RuleRow.{RuleRow}
 use Rattle.row_laws.specs.Gone.{names_group, without_group, IsUnusedGroup}
-use Rattle.row_laws.proofs.ListLemmas.{or_none, none-any, each-filter, any-filter, any-filter_none, sum-filter, sum-filter-le}
-use Rattle.row_laws.proofs.NameLemmas.{not_true, not_false, other_name, all-at, at-all, first_fails}
+use Rattle.api_types.proofs.ListLemmas.{or_none, none-any, each-filter, any-filter, any-filter_none, sum-filter, sum-filter-le}
+use Rattle.api_types.proofs.NameLemmas.{not_true, not_false, other_name, all-at, at-all, first_fails}
 
 module _ (rows : RowLists) (i : Ident) (unused : IsUnusedGroup rows i) (c : IsConsistent rows) where
   abbrev groups : List GroupRow

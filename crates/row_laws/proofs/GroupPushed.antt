@@ -21,9 +21,10 @@ use Rattle.api_types.specs.declared.group.GroupRow.{GroupRow}
 use Rattle.api_types.specs.declared.group.RuleRow.{RuleRow}
 use Rattle.api_types.specs.declared.router.RouterRow.{RouterRow}
 use Rattle.row_laws.specs.NewRows.{with_group, IsNewGroup}
-use Rattle.row_laws.proofs.ListLemmas.{both_and, each-push, any-grows, count-none, at-any}
-use Rattle.row_laws.proofs.NameLemmas.{bytes_itself, bytes_same, if_some-weaker, all-weaker, fails_by, and_fails}
-use Rattle.row_laws.proofs.IdLemmas.{ids-push, times-group}
+use Rattle.api_types.proofs.ListLemmas.{both_and, each-push, any-grows, count-none, at-any}
+use Rattle.api_types.proofs.NameLemmas.{bytes_itself, bytes_same, if_some-weaker, all-weaker, fails_by, and_fails}
+use Rattle.api_types.proofs.IdLemmas.{ids-push}
+use Rattle.row_laws.proofs.TimesLemmas.{times-group}
 
 module _ (groups : List GroupRow) (g : GroupRow) where
   still : (i : Ident) → is_group groups i ≡ true → is_group (groups ++ g ∷ []) i ≡ true

@@ -19,8 +19,8 @@ use Rattle.api_types.specs.declared.group.GroupRow.{GroupRow}
 use Rattle.api_types.specs.declared.group.RuleRow.{RuleRow}
 use Rattle.api_types.specs.declared.router.RouterRow.{RouterRow}
 use Rattle.row_laws.specs.Replaced.{with_group_at, IsRenamedGroup}
-use Rattle.row_laws.proofs.ListLemmas.{each-set, any-set_same}
-use Rattle.row_laws.proofs.NameLemmas.{if_some-weaker, all-weaker, count-set}
+use Rattle.api_types.proofs.ListLemmas.{each-set, any-set_same}
+use Rattle.api_types.proofs.NameLemmas.{if_some-weaker, all-weaker, count-set}
 
 module _ (groups : List GroupRow) (place : ℕ) (old new : GroupRow) (at : slice_get groups place ≡ Some old) (same : IsRenamedGroup old new) where
   -- a test that reads id and project alone is the same on both rows

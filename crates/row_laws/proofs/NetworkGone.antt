@@ -1,8 +1,10 @@
 -- A network that goes with its subnets, its policies and its DHCP port, where no other port is on it, keeps rows consistent.
 use Rattle.std.proofs.Common.{◌≡◌, ◌≤◌, ◌∙◌, ℕ, List, Bool, true, false, cond, Some, slice_get, refl, ap, sym, arith, subst}
-use Rattle.std.specs.Prelude.{◌==◌, ◌&&◌, ◌||◌, not, count_by, filter}
+use Rattle.std.specs.Prelude.{◌&&◌, ◌||◌, not, count_by, filter}
 use Rattle.std.specs.List.{list_any, list_all}
 use Rattle.std.specs.Str.{bytes_eq}
+use Rattle.net_addr.specs.Addresses.{is_four}
+use Rattle.net_addr.specs.declared.address.Addr.{Addr}
 use Rattle.net_addr.specs.Prefixes.{contains, overlaps, is_host_of}
 use Rattle.api_types.specs.Ident.{Ident}
 use Rattle.api_types.specs.Table.{ident_eq}
@@ -15,7 +17,7 @@ use Rattle.api_types.specs.Consistent.Numbered.{times_in, IdsDiffer, AreDrawn}
 use Rattle.api_types.specs.Consistent.Named.{is_network, is_port, names_subnet, NetworksStand, SubnetsStand, PortsStand, GroupsStand, ProjectsStand}
 use Rattle.api_types.specs.Consistent.InForm.{is_network_of, AreInForm}
 use Rattle.api_types.specs.Consistent.HeldOnce.{has_mac, holds_times}
-use Rattle.api_types.specs.Consistent.Hosts.{is_host_in, AreHosts}
+use Rattle.api_types.specs.Consistent.Hosts.{is_host_in, is_own_address, AreHosts}
 use Rattle.api_types.specs.Consistent.Disjoint.{subnets_clash, share_router, ports_clash, AreDisjoint}
 use Rattle.api_types.specs.Consistent.Segments.{same_segment}
 use Rattle.api_types.specs.Consistent.Carried.{is_bound, is_unbound, AreCarried}
@@ -37,8 +39,8 @@ use Rattle.api_types.specs.declared.policy.PolicyRow.{PolicyRow}
 use Rattle.api_types.specs.declared.policy.Action.{Action}
 use Rattle.api_types.specs.declared.policy.Action.TheVariants.{Shared, External}
 use Rattle.row_laws.specs.Gone.{without_network, IsUnused}
-use Rattle.row_laws.proofs.ListLemmas.{and_both, both_and, any-at, any-weaker, at_filter, each-filter, any-filter, any-filter_none, sum-filter, sum-filter-le, any-filter_kept, any-filter_back, length-filter-le, one_row, both_of}
-use Rattle.row_laws.proofs.NameLemmas.{ident_same, ident_itself, by_test, or_weaker, if_some-weaker, all-weaker, and_weaker, not_true, fails_by, other_name, dhcp_alone, all-at, all-both, both_if, filter-all_of, count-filter}
+use Rattle.api_types.proofs.ListLemmas.{and_both, both_and, any-at, any-weaker, at_filter, each-filter, any-filter, any-filter_none, sum-filter, sum-filter-le, any-filter_kept, any-filter_back, length-filter-le, one_row, both_of}
+use Rattle.api_types.proofs.NameLemmas.{ident_same, ident_itself, by_test, or_weaker, if_some-weaker, all-weaker, and_weaker, not_true, fails_by, other_name, dhcp_alone, all-at, all-both, both_if, filter-all_of, count-filter}
 
 module _ (rows : RowLists) (i : Ident) (c : IsConsistent rows) (unused : IsUnused rows i) where
   abbrev away : Ident → Bool
@@ -165,7 +167,7 @@ module _ (rows : RowLists) (i : Ident) (c : IsConsistent rows) (unused : IsUnuse
 
   -- the port that a floating address leads to stays
   abbrev target_test : FloatingRow → Target → List PortRow → PortRow → Bool
-  target_test f t all p = bytes_eq p.project f.project && list_any (λ (x : Fixed). (x.address == t.fixed) && has_interface all t.router x.subnet) p.fixed
+  target_test f t all p = bytes_eq p.project f.project && list_any (λ (x : Fixed). is_four x.address t.fixed && has_interface all t.router x.subnet) p.fixed
 
   abbrev interface_at : Ident → Ident → PortRow → Bool
   interface_at router subnet q = is_interface q.owner && (device_is q.device router && holds_in subnet q)
@@ -180,20 +182,20 @@ module _ (rows : RowLists) (i : Ident) (c : IsConsistent rows) (unused : IsUnuse
       (λ k p at h.
       let a = and_both (ident_eq t.port p.id) (target_test f t rows.ports p) h in
       let b = and_both (bytes_eq p.project f.project) _ a.1 in
-      let found = any-at (λ (x : Fixed). (x.address == t.fixed) && list_any (interface_at t.router x.subnet) rows.ports) p.fixed b.1 in
+      let found = any-at (λ (x : Fixed). is_four x.address t.fixed && list_any (interface_at t.router x.subnet) rows.ports) p.fixed b.1 in
       let x : Fixed = found.1 in
-      let at_x = and_both (x.address == t.fixed) _ found.3 in
+      let at_x = and_both (is_four x.address t.fixed) _ found.3 in
       let through = any-at (interface_at t.router x.subnet) rows.ports at_x.1 in
       let q : PortRow = through.1 in
       let parts = interface_parts t.router x.subnet q through.3 in
       let kept : away p.network ≡ true = sym (ap away (same_network k p found.0 x through.0 q at found.2 through.2 parts.1)) ∙ interface_stays through.0 q through.2 parts.0 in (
         kept,
         both_and (ident_eq t.port p.id) _ a.0 (both_and (bytes_eq p.project f.project) _ b.0
-            (any-weaker _ _ p.fixed (λ (y : Fixed). and_weaker (y.address == t.fixed) _ _ (any-filter_kept (λ q. away q.network) (interface_at t.router y.subnet) (interface_at t.router y.subnet) rows.ports
+            (any-weaker _ _ p.fixed (λ (y : Fixed). and_weaker (is_four y.address t.fixed) _ _ (any-filter_kept (λ q. away q.network) (interface_at t.router y.subnet) (interface_at t.router y.subnet) rows.ports
             (λ l r at_r g. (interface_stays l r at_r (interface_parts t.router y.subnet r g).0, g)))) b.1)),
       ))
 
-  abbrev reach_test : RouterRow → ℕ → List SubnetRow → PortRow → Bool
+  abbrev reach_test : RouterRow → Addr → List SubnetRow → PortRow → Bool
   reach_test r x all p = is_port_of r p && list_any (λ s. holds_in s.id p && contains s.prefix x) all
 
   are_drawn : AreDrawn (without_network rows i)
@@ -344,8 +346,8 @@ module _ (rows : RowLists) (i : Ident) (c : IsConsistent rows) (unused : IsUnuse
   are_hosts : AreHosts subnets ports
   are_hosts = record {
     addresses = λ k p at. let here = at_filter (λ p. away p.network) rows.ports k p at in
-        all-both (names_subnet rows.subnets p) (is_host_in rows.subnets) (is_host_in subnets) p.fixed
-        (λ (f : Fixed). subnet_stays p f (λ s. is_host_of s.prefix f.address) here.2) (c.named.subnets.of_ports here.0 p here.1) (c.hosts.addresses here.0 p here.1);
+        all-both (names_subnet rows.subnets p) (is_host_in rows.subnets p) (is_host_in subnets p) p.fixed
+        (λ (f : Fixed). subnet_stays p f (λ s. is_host_of s.prefix f.address && is_own_address p f.address s) here.2) (c.named.subnets.of_ports here.0 p here.1) (c.hosts.addresses here.0 p here.1);
   }
 
   ports_are_allowed : PortsAreAllowed networks ports policies

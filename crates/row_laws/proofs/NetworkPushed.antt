@@ -27,9 +27,10 @@ use Rattle.api_types.specs.declared.router.Gateway.{Gateway}
 use Rattle.api_types.specs.declared.floating.FloatingRow.{FloatingRow}
 use Rattle.api_types.specs.declared.policy.PolicyRow.{PolicyRow}
 use Rattle.row_laws.specs.NewRows.{with_network, IsAlone, IsNewNetwork}
-use Rattle.row_laws.proofs.ListLemmas.{each-push, any-grows, any-none, count-none, none-counted, once-push}
-use Rattle.row_laws.proofs.NameLemmas.{or_weaker, if_some-weaker, unnamed}
-use Rattle.row_laws.proofs.IdLemmas.{ids-push, times-network}
+use Rattle.api_types.proofs.ListLemmas.{each-push, any-grows, any-none, count-none, none-counted, once-push}
+use Rattle.api_types.proofs.NameLemmas.{or_weaker, if_some-weaker, unnamed}
+use Rattle.api_types.proofs.IdLemmas.{ids-push}
+use Rattle.row_laws.proofs.TimesLemmas.{times-network}
 
 module _ (networks : List NetworkRow) (n : NetworkRow) where
   still : (i : Ident) → is_network networks i ≡ true → is_network (networks ++ n ∷ []) i ≡ true

@@ -29,8 +29,8 @@ use Rattle.api_types.specs.declared.router.Gateway.{Gateway}
 use Rattle.api_types.specs.declared.floating.FloatingRow.{FloatingRow}
 use Rattle.api_types.specs.declared.policy.PolicyRow.{PolicyRow}
 use Rattle.row_laws.specs.Replaced.{with_network_at, IsRenamedNetwork}
-use Rattle.row_laws.proofs.ListLemmas.{each-set, any-set_same}
-use Rattle.row_laws.proofs.NameLemmas.{or_weaker, if_some-weaker, count-set}
+use Rattle.api_types.proofs.ListLemmas.{each-set, any-set_same}
+use Rattle.api_types.proofs.NameLemmas.{or_weaker, if_some-weaker, count-set}
 
 module _ (networks : List NetworkRow) (place : ℕ) (old new : NetworkRow) (at : slice_get networks place ≡ Some old) (same : IsRenamedNetwork old new) where
   -- a test that reads id, project and segment alone is the same on both rows

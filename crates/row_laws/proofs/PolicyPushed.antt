@@ -20,9 +20,10 @@ use Rattle.api_types.specs.declared.policy.PolicyRow.{PolicyRow}
 use Rattle.api_types.specs.declared.policy.Action.{Action}
 use Rattle.api_types.specs.declared.policy.Action.TheVariants.{Shared, External}
 use Rattle.row_laws.specs.NewRows.{with_policy, IsNewPolicy}
-use Rattle.row_laws.proofs.ListLemmas.{each-push, any-grows, once-push}
-use Rattle.row_laws.proofs.NameLemmas.{or_weaker, if_some-weaker, or_left_weaker}
-use Rattle.row_laws.proofs.IdLemmas.{times-policy, ids-push}
+use Rattle.api_types.proofs.ListLemmas.{each-push, any-grows, once-push}
+use Rattle.api_types.proofs.NameLemmas.{or_weaker, if_some-weaker, or_left_weaker}
+use Rattle.api_types.proofs.IdLemmas.{ids-push}
+use Rattle.row_laws.proofs.TimesLemmas.{times-policy}
 
 module _ (policies : List PolicyRow) (l : PolicyRow) where
   granted : (action : Action) (network : Ident) (project : List ℕ) → is_granted policies action network project ≡ true → is_granted (policies ++ l ∷ []) action network project ≡ true

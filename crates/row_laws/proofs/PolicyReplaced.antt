@@ -3,9 +3,9 @@ use Rattle.std.proofs.Common.{◌≡◌, ◌≤◌, ◌∙◌, ℕ, List, true, 
 use Rattle.std.specs.Prelude.{count_by}
 use Rattle.api_types.specs.Table.{ident_eq}
 use Rattle.api_types.specs.RowLists.{RowLists}
-use Rattle.api_types.specs.Lists.{Each, is_empty}
-use Rattle.api_types.specs.Sharing.{is_shared_with, is_external_to}
-use Rattle.api_types.specs.Consistent.Access.{PortsAreAllowed}
+use Rattle.api_types.specs.Lists.{Each}
+use Rattle.api_types.specs.Sharing.{is_external_to}
+use Rattle.api_types.specs.Consistent.Access.{may_be_there, PortsAreAllowed}
 use Rattle.api_types.specs.Consistent.Named.{is_network, is_registered, NetworksStand, ProjectsStand}
 use Rattle.api_types.specs.Consistent.Numbered.{is_drawn, IdsDiffer, AreDrawn}
 use Rattle.api_types.specs.Consistent.Permitted.{same_policy, OutsidesAreAllowed}
@@ -18,8 +18,8 @@ use Rattle.api_types.specs.declared.router.Gateway.{Gateway}
 use Rattle.api_types.specs.declared.floating.FloatingRow.{FloatingRow}
 use Rattle.api_types.specs.declared.policy.PolicyRow.{PolicyRow}
 use Rattle.row_laws.specs.Replaced.{with_policy_at, IsRetargetedPolicy}
-use Rattle.row_laws.proofs.ListLemmas.{each-set}
-use Rattle.row_laws.proofs.NameLemmas.{or_weaker, count-set, if_some-weaker_at, or_left_weaker}
+use Rattle.api_types.proofs.ListLemmas.{each-set}
+use Rattle.api_types.proofs.NameLemmas.{count-set, if_some-weaker_at}
 
 module _ (policies : List PolicyRow) (place : ℕ) (old new : PolicyRow) (at : slice_get policies place ≡ Some old) where
   pub networks_stand : {networks : List NetworkRow} {subnets : List SubnetRow} {ports : List PortRow} {routers : List RouterRow} {floatings : List FloatingRow}
@@ -32,13 +32,11 @@ module _ (policies : List PolicyRow) (place : ℕ) (old new : PolicyRow) (at : s
     of_policies = each-set (λ m. is_network networks m.object ≡ true) policies place new c.of_policies (ap (is_network networks) same ∙ c.of_policies place old at);
   }
 
-  -- where networks that were shared with the projects of their ports still are
+  -- where ports may still be on their networks
   pub ports_are_allowed : {networks : List NetworkRow} {ports : List PortRow}
-      → Each (λ p. is_shared_with policies p.network p.project ≡ true → is_shared_with (slice_set policies place new) p.network p.project ≡ true) ports → PortsAreAllowed networks ports policies → PortsAreAllowed networks ports (slice_set policies place new)
-  ports_are_allowed {networks} {ports} shared c = record {
-    of_ports = λ k p h. or_weaker (is_empty p.project) _ _ (or_weaker p.by_admin _ _ (or_left_weaker (is_shared_with policies p.network p.project) (is_shared_with (slice_set policies place new) p.network p.project) _
-        (shared k p h))) (c.of_ports k p h);
-  }
+      → Each (λ p. may_be_there networks policies p ≡ true → may_be_there networks (slice_set policies place new) p ≡ true) ports
+      → PortsAreAllowed networks ports policies → PortsAreAllowed networks ports (slice_set policies place new)
+  ports_are_allowed still c = record { of_ports = λ k p h. still k p h (c.of_ports k p h) }
 
   -- where networks that were external to the projects of their gateways and floating addresses still are
   pub outsides_are_allowed : {routers : List RouterRow} {floatings : List FloatingRow}

@@ -5,6 +5,8 @@ use Rattle.std.specs.List.{list_any, list_all}
 use Rattle.std.specs.Str.{bytes_eq}
 use Rattle.std.proofs.lemmas.List.Sums.{sum_by_push}
 use Rattle.std.proofs.lemmas.Bool.Decides.{Decides-eqb}
+use Rattle.net_addr.specs.Addresses.{is_four, addr_eq}
+use Rattle.net_addr.specs.declared.address.Addr.{Addr}
 use Rattle.api_types.specs.Ident.{Ident}
 use Rattle.api_types.specs.Table.{ident_eq}
 use Rattle.api_types.specs.RowLists.{RowLists}
@@ -37,9 +39,10 @@ use Rattle.api_types.specs.declared.floating.FloatingRow.{FloatingRow}
 use Rattle.api_types.specs.declared.floating.Target.{Target}
 use Rattle.api_types.specs.declared.policy.PolicyRow.{PolicyRow}
 use Rattle.row_laws.specs.NewRows.{with_port, IsNewPort}
-use Rattle.row_laws.proofs.ListLemmas.{or_true, and_both, each-push, any-grows, any-stays_none, any-none, once-push, any-weaker, none-counted}
-use Rattle.row_laws.proofs.NameLemmas.{ident_same, ident_itself, by_test, or_weaker, if_some-weaker, all-weaker, unnamed, and_weaker, and_left_weaker, not_true, unless, all-true, and_fails, first_fails, count-push}
-use Rattle.row_laws.proofs.IdLemmas.{ids-push, times-port}
+use Rattle.api_types.proofs.ListLemmas.{or_true, and_both, each-push, any-grows, any-stays_none, any-none, once-push, any-weaker, none-counted}
+use Rattle.api_types.proofs.NameLemmas.{ident_same, ident_itself, by_test, or_weaker, if_some-weaker, all-weaker, unnamed, and_weaker, and_left_weaker, not_true, unless, all-true, and_fails, first_fails, count-push}
+use Rattle.api_types.proofs.IdLemmas.{ids-push}
+use Rattle.row_laws.proofs.TimesLemmas.{times-port}
 
 module _ (ports : List PortRow) (p : PortRow) where
   still : (i : Ident) → is_port ports i ≡ true → is_port (ports ++ p ∷ []) i ≡ true
@@ -92,7 +95,7 @@ module _ (ports : List PortRow) (p : PortRow) where
     routes = c.routes;
   }
 
-  pub are_held_once : count_by (has_mac p.network p.mac) ports ≡ 0 → ((x : ℕ) → sum_by (holds_times p.network x) ports + holds_times p.network x p ≤ 1) → AreHeldOnce ports → AreHeldOnce (ports ++ p ∷ [])
+  pub are_held_once : count_by (has_mac p.network p.mac) ports ≡ 0 → ((x : Addr) → sum_by (holds_times p.network x) ports + holds_times p.network x p ≤ 1) → AreHeldOnce ports → AreHeldOnce (ports ++ p ∷ [])
   are_held_once free alone c = record {
     macs = λ network mac. once-push (has_mac network mac) ports p (c.macs network mac) (λ h.
         let both = and_both (ident_eq network p.network) (p.mac == mac) h in
@@ -103,15 +106,15 @@ module _ (ports : List PortRow) (p : PortRow) where
         (λ is. let same = ident_same network p.network is in
         let most : sum_by (holds_times network x) ports + holds_times network x p ≤ 1 = subst (λ n. sum_by (holds_times n x) ports + holds_times n x p ≤ 1) (sym same) (alone x) in
         omega (arith, push, most))
-        (λ fails. let zero : holds_times network x p ≡ 0 = ap (λ b. cond {A = ℕ} b (count_by (λ (f : Fixed). f.address == x) p.fixed) 0) fails in
+        (λ fails. let zero : holds_times network x p ≡ 0 = ap (λ b. cond {A = ℕ} b (count_by (λ (f : Fixed). addr_eq f.address x) p.fixed) 0) fails in
         let before : sum_by (holds_times network x) ports ≤ 1 = c.addresses network x in
         omega (arith, push, zero, before));
   }
 
   pub are_hosts : {subnets : List SubnetRow}
-      → list_all (is_host_in subnets) p.fixed ≡ true → AreHosts subnets ports → AreHosts subnets (ports ++ p ∷ [])
+      → list_all (is_host_in subnets p) p.fixed ≡ true → AreHosts subnets ports → AreHosts subnets (ports ++ p ∷ [])
   are_hosts {subnets} hosts c = record {
-    addresses = each-push (λ q. list_all (is_host_in subnets) q.fixed ≡ true) ports p c.addresses hosts;
+    addresses = each-push (λ q. list_all (is_host_in subnets q) q.fixed ≡ true) ports p c.addresses hosts;
   }
 
   pub are_disjoint : {subnets : List SubnetRow} {routers : List RouterRow}
@@ -173,7 +176,7 @@ module _ (ports : List PortRow) (p : PortRow) where
     targets = λ k f at. if_some-weaker (leads_to ports routers f) (leads_to (ports ++ p ∷ []) routers f) f.target (λ (t : Target) h.
         and_left_weaker _ _ _ (λ g. still_so t.port (is_target_port (ports ++ p ∷ []) f t) (any-weaker _ _ ports
         (λ q. and_weaker (ident_eq t.port q.id) _ _ (and_weaker (bytes_eq q.project f.project) _ _
-        (any-weaker _ _ q.fixed (λ (x : Fixed). and_weaker (x.address == t.fixed) _ _ (any-grows (λ r. is_interface r.owner && (device_is r.device t.router && holds_in x.subnet r)) ports p))))) g)) h) (c.targets k f at);
+        (any-weaker _ _ q.fixed (λ (x : Fixed). and_weaker (is_four x.address t.fixed) _ _ (any-grows (λ r. is_interface r.owner && (device_is r.device t.router && holds_in x.subnet r)) ports p))))) g)) h) (c.targets k f at);
   }
 
   pub groups_serve : {projects : List ProjectRow} {groups : List GroupRow} {rules : List RuleRow}

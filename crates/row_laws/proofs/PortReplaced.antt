@@ -1,8 +1,9 @@
 -- A port that is replaced by one of the same id and network keeps each clause that reads ports, and one that serves nothing keeps rows consistent.
 use Rattle.std.proofs.Common.{◌≡◌, ◌∙◌, ℕ, List, Bool, true, false, cond, Some, slice_get, slice_set, ap, sym, arith, subst}
-use Rattle.std.specs.Prelude.{◌==◌, ◌&&◌, ◌||◌, not, count_by}
+use Rattle.std.specs.Prelude.{◌&&◌, ◌||◌, not, count_by}
 use Rattle.std.specs.List.{list_any, list_all}
 use Rattle.std.specs.Str.{bytes_eq}
+use Rattle.net_addr.specs.Addresses.{is_four}
 use Rattle.api_types.specs.Ident.{Ident}
 use Rattle.api_types.specs.Table.{ident_eq}
 use Rattle.api_types.specs.RowLists.{RowLists}
@@ -11,7 +12,7 @@ use Rattle.api_types.specs.Owners.{is_interface, is_gateway, is_dhcp, is_floatin
 use Rattle.api_types.specs.Sharing.{is_shared_with}
 use Rattle.api_types.specs.Consistent.{IsConsistent}
 use Rattle.api_types.specs.Consistent.Numbered.{is_drawn, AreDrawn}
-use Rattle.api_types.specs.Consistent.Named.{is_network, is_port, is_group, is_registered, names_subnet, is_own_port, port_project_stands, NetworksStand, SubnetsStand, PortsStand, GroupsStand, ProjectsStand}
+use Rattle.api_types.specs.Consistent.Named.{is_network, is_port, is_group, is_registered, names_subnet, is_own_port, serves, port_project_stands, NetworksStand, SubnetsStand, PortsStand, GroupsStand, ProjectsStand}
 use Rattle.api_types.specs.Consistent.InForm.{is_network_of, is_group_of, is_port_form, AreInForm}
 use Rattle.api_types.specs.Consistent.Hosts.{is_host_in, AreHosts}
 use Rattle.api_types.specs.Consistent.Disjoint.{ports_clash, AreDisjoint}
@@ -35,8 +36,8 @@ use Rattle.api_types.specs.declared.floating.FloatingRow.{FloatingRow}
 use Rattle.api_types.specs.declared.floating.Target.{Target}
 use Rattle.api_types.specs.declared.policy.PolicyRow.{PolicyRow}
 use Rattle.row_laws.specs.Replaced.{with_port_at, is_held_still, IsReplacedPort}
-use Rattle.row_laws.proofs.ListLemmas.{or_true, and_both, both_and, each-set, any-set_same, any-none, any-at, any-set_grows, any-weaker}
-use Rattle.row_laws.proofs.NameLemmas.{ident_same, or_weaker, if_some-weaker, all-weaker, and_weaker, and_left_weaker, unless, all-true, all-at, both_if, and_fails, first_fails, must, any-agree, count-set}
+use Rattle.api_types.proofs.ListLemmas.{false_true, or_true, and_both, both_and, each-set, any-set_same, any-none, any-at, any-set_grows, any-weaker, one_row}
+use Rattle.api_types.proofs.NameLemmas.{ident_same, ident_itself, by_test, or_weaker, if_some-weaker, all-weaker, and_weaker, and_left_weaker, unless, all-true, all-at, both_if, and_fails, first_fails, must, any-agree, count-set}
 
 module _ (ports : List PortRow) (place : ℕ) (old new : PortRow) (at : slice_get ports place ≡ Some old) where
   -- a test that neither row passes sees no difference
@@ -97,9 +98,9 @@ module _ (ports : List PortRow) (place : ℕ) (old new : PortRow) (at : slice_ge
   }
 
   pub are_hosts : {subnets : List SubnetRow}
-      → list_all (is_host_in subnets) new.fixed ≡ true → AreHosts subnets ports → AreHosts subnets (slice_set ports place new)
+      → list_all (is_host_in subnets new) new.fixed ≡ true → AreHosts subnets ports → AreHosts subnets (slice_set ports place new)
   are_hosts {subnets} hosts c = record {
-    addresses = each-set (λ q. list_all (is_host_in subnets) q.fixed ≡ true) ports place new c.addresses hosts;
+    addresses = each-set (λ q. list_all (is_host_in subnets q) q.fixed ≡ true) ports place new c.addresses hosts;
   }
 
   -- neither the old port nor the new one is a router's
@@ -175,14 +176,14 @@ module _ (ports : List PortRow) (place : ℕ) (old new : PortRow) (at : slice_ge
   moves same_id same_project f t keeps h =
       let a = and_both (ident_eq t.port old.id) _ h in
       let b = and_both (bytes_eq old.project f.project) _ a.1 in
-      let found = any-at (λ (x : Fixed). (x.address == t.fixed) && has_interface ports t.router x.subnet) old.fixed b.1 in
+      let found = any-at (λ (x : Fixed). is_four x.address t.fixed && has_interface ports t.router x.subnet) old.fixed b.1 in
       let x : Fixed = found.1 in
-      let at_x = and_both (x.address == t.fixed) _ found.3 in
+      let at_x = and_both (is_four x.address t.fixed) _ found.3 in
       let all = must (ident_eq t.port old.id) _ a.0 keeps in
-      let kept = must (x.address == t.fixed) _ at_x.0 (all-at (is_held_still new t) old.fixed all found.0 x found.2) in
+      let kept = must (is_four x.address t.fixed) _ at_x.0 (all-at (is_held_still new t) old.fixed all found.0 x found.2) in
       both_and (ident_eq t.port new.id) _ (ap (ident_eq t.port) same_id ∙ a.0) (both_and (bytes_eq new.project f.project) _ (ap (λ n. bytes_eq n f.project) same_project ∙ b.0)
-      (any-weaker (λ (y : Fixed). (y.address == t.fixed) && ident_eq x.subnet y.subnet) (λ (y : Fixed). (y.address == t.fixed) && has_interface ports t.router y.subnet) new.fixed
-      (λ (y : Fixed). and_weaker (y.address == t.fixed) _ _ (λ e. subst (λ i. has_interface ports t.router i ≡ true) (ident_same x.subnet y.subnet e) at_x.1)) kept))
+      (any-weaker (λ (y : Fixed). is_four y.address t.fixed && ident_eq x.subnet y.subnet) (λ (y : Fixed). is_four y.address t.fixed && has_interface ports t.router y.subnet) new.fixed
+      (λ (y : Fixed). and_weaker (is_four y.address t.fixed) _ _ (λ e. subst (λ i. has_interface ports t.router i ≡ true) (ident_same x.subnet y.subnet e) at_x.1)) kept))
 
   pub floatings_lead : {routers : List RouterRow} {floatings : List FloatingRow}
       → new.id ≡ old.id → new.project ≡ old.project → is_interface old.owner ≡ false → is_interface new.owner ≡ false → Each (λ f. if_some (λ (t : Target). not (ident_eq t.port old.id) || list_all (is_held_still new t) old.fixed) f.target ≡ true) floatings → FloatingsLead ports routers floatings → FloatingsLead (slice_set ports place new) routers floatings
@@ -190,7 +191,7 @@ module _ (ports : List PortRow) (place : ℕ) (old new : PortRow) (at : slice_ge
     once = c.once;
     targets = λ k f at_f. both_if f.target (λ (t : Target). not (ident_eq t.port old.id) || list_all (is_held_still new t) old.fixed) (leads_to ports routers f) (leads_to (slice_set ports place new) routers f)
         (λ (t : Target) keeps h. and_left_weaker _ _ _ (λ g. any-agree (target_test f t (slice_set ports place new)) (target_test f t ports) (slice_set ports place new)
-        (λ p. ap (λ b. ident_eq t.port p.id && (bytes_eq p.project f.project && b)) (any-agree _ _ p.fixed (λ (x : Fixed). ap (λ b. (x.address == t.fixed) && b) (through_same before after t.router x.subnet))))
+        (λ p. ap (λ b. ident_eq t.port p.id && (bytes_eq p.project f.project && b)) (any-agree _ _ p.fixed (λ (x : Fixed). ap (λ b. is_four x.address t.fixed && b) (through_same before after t.router x.subnet))))
         ∙ any-set_grows (target_test f t ports) ports place old new at (moves same_id same_project f t keeps) g) h)
         (targets k f at_f) (c.targets k f at_f);
   }
@@ -248,14 +249,27 @@ module _ (rows : RowLists) (place : ℕ) (old new : PortRow) (at : slice_get row
   weak : (i : Ident) → is_group_of rows.groups new.project i ≡ true → is_group rows.groups i ≡ true
   weak i h = any-weaker (λ m. ident_eq i m.id && bytes_eq m.project new.project) (λ m. ident_eq i m.id) rows.groups (λ m g. (and_both _ _ g).0) h
 
+  -- the port is no floating address's own one, since those have an owner of their own
+  pub no_own_port : is_floating old.owner ≡ false → IsConsistent rows → is_own_port rows.floatings old.id ≡ false
+  no_own_port other c = any-none (λ f. ident_eq old.id f.own_port) rows.floatings (λ k f at_f.
+      by_test (ident_eq old.id f.own_port) (ident_eq old.id f.own_port ≡ false)
+      (λ mine.
+      let found = any-at (λ p. ident_eq f.own_port p.id && is_port_for f p) rows.ports (c.services.of_floatings.there k f at_f) in
+      let p : PortRow = found.1 in
+      let own = and_both (ident_eq f.own_port p.id) _ found.3 in
+      let same = one_row (λ q. ident_eq old.id q.id) rows.ports (omega (arith, c.numbered.ids old.id)) place found.0 old p at found.2
+      (ident_itself old.id) (ap (λ i. ident_eq i p.id) (ident_same old.id f.own_port mine) ∙ own.0) in
+      let floats = (and_both (ident_eq f.network p.network) _ (and_both _ _ (and_both _ _ own.1).0).0).1 in
+      false_true _ (sym other ∙ (ap (λ (q : PortRow). is_floating q.owner) same ∙ floats)))
+      (λ fails. fails))
+
   pub port_replaced : IsReplacedPort rows place old new → IsConsistent rows → IsConsistent (with_port_at rows place new)
   port_replaced is c =
-      let no_interface : is_interface new.owner ≡ false = ap is_interface is.owner ∙ is.no_interface in
-      let no_gateway : is_gateway new.owner ≡ false = ap is_gateway is.owner ∙ is.no_gateway in
-      let no_dhcp : is_dhcp new.owner ≡ false = ap is_dhcp is.owner ∙ is.no_dhcp in
-      let no_floating : is_floating new.owner ≡ false = ap is_floating is.owner ∙ is.no_floating in
-      let no_router : is_router_port new.owner ≡ false = λ j. no_interface j || no_gateway j in
-      let old_router : is_router_port old.owner ≡ false = λ j. is.no_interface j || is.no_gateway j in
+      let no_router : is_router_port new.owner ≡ false = λ j. is.after.no_interface j || is.after.no_gateway j in
+      let old_router : is_router_port old.owner ≡ false = λ j. is.before.no_interface j || is.before.no_gateway j in
+      let old_own : is_own_port rows.floatings old.id ≡ false = no_own_port is.before.no_floating c in
+      let no_own : is_own_port rows.floatings new.id ≡ false = ap (is_own_port rows.floatings) is.id ∙ old_own in
+      let same_serves : serves rows.floatings new ≡ serves rows.floatings old = (λ j. is.after.no_gateway j || no_own j) ∙ sym (λ j. is.before.no_gateway j || old_own j) in
       record {
         numbered = record {
           projects = c.numbered.projects;
@@ -268,9 +282,9 @@ module _ (rows : RowLists) (place : ℕ) (old new : PortRow) (at : slice_get row
           ports = ports_stand rows.ports place old new at is.id c.named.ports;
           groups = groups_stand rows.ports place old new at (all-weaker (is_group_of rows.groups new.project) (is_group rows.groups) new.groups weak is.groups) c.named.groups;
           routers = c.named.routers;
-          projects = projects_stand ((λ j. cond (is_gateway (is.owner j) || is_own_port rows.floatings (is.id j)) (is_empty (is.project j)) (is_registered rows.projects (is.project j))) ∙ c.named.projects.of_ports place old at) c.named.projects;
+          projects = projects_stand ((λ j. cond (same_serves j) (is_empty (is.project j)) (is_registered rows.projects (is.project j))) ∙ c.named.projects.of_ports place old at) c.named.projects;
         };
-        in_form = in_form rows.ports place old new at (unless (is_dhcp new.owner) _ no_dhcp) is.form c.in_form;
+        in_form = in_form rows.ports place old new at (unless (is_dhcp new.owner) _ is.after.no_dhcp) is.form c.in_form;
         held_once = is.held_once;
         hosts = are_hosts rows.ports place old new at is.hosts c.hosts;
         disjoint = are_disjoint rows.ports place old new at old_router no_router c.disjoint;
@@ -278,11 +292,11 @@ module _ (rows : RowLists) (place : ℕ) (old new : PortRow) (at : slice_get row
         on_hosts = are_on_hosts rows.ports place old new at (or_weaker (not (is_bound new.vif)) true _ (λ h. all-true (λ r. not (is_port_of r new) || is_some_so (bytes_eq new.host) r.host) rows.routers
             (λ r. unless (is_port_of r new) _ (first_fails (is_router_port new.owner) (device_is new.device r.id) no_router))) (or_true (not (is_bound new.vif)))) c.on_hosts;
         services = record {
-          dhcp = dhcp_ports_serve rows.ports place old new at is.no_dhcp no_dhcp c.services.dhcp;
-          of_routers = router_ports_serve rows.ports place old new at is.no_gateway no_gateway (unless (is_router_port new.owner) _ no_router) (unless (is_interface new.owner) _ no_interface) (unless (is_router_port new.owner) _ no_router) c.services.of_routers;
-          of_floatings = own_ports_serve rows.ports place old new at is.no_floating no_floating is.unsecured c.services.of_floatings;
+          dhcp = dhcp_ports_serve rows.ports place old new at is.before.no_dhcp is.after.no_dhcp c.services.dhcp;
+          of_routers = router_ports_serve rows.ports place old new at is.before.no_gateway is.after.no_gateway (unless (is_router_port new.owner) _ no_router) (unless (is_interface new.owner) _ is.after.no_interface) (unless (is_router_port new.owner) _ no_router) c.services.of_routers;
+          of_floatings = own_ports_serve rows.ports place old new at is.before.no_floating is.after.no_floating (unless (is_own_port rows.floatings new.id) _ no_own) c.services.of_floatings;
         };
-        floatings = floatings_lead rows.ports place old new at is.id is.project is.no_interface no_interface is.targets c.floatings;
+        floatings = floatings_lead rows.ports place old new at is.id is.project is.before.no_interface is.after.no_interface is.targets c.floatings;
         groups = groups_serve rows.ports place old new at is.groups is.bare c.groups;
         allowed = ports_are_allowed rows.ports place old new at ((λ j. is_empty (is.project j) || (is.by_admin j || (is_shared_with rows.policies (is.network j) (is.project j) || is_network_of rows.networks (is.project j) (is.network j)))) ∙ c.allowed.of_ports place old at) c.allowed;
         outsides = c.outsides;

@@ -1,8 +1,9 @@
 -- Fewer ports keep each clause that reads ports, and rows consistent where nothing needs those that go.
 use Rattle.std.proofs.Common.{◌≡◌, ◌∙◌, ℕ, List, Bool, true, false, cond, ap, sym, arith}
-use Rattle.std.specs.Prelude.{◌==◌, ◌&&◌, ◌||◌, not, filter}
+use Rattle.std.specs.Prelude.{◌&&◌, ◌||◌, not, filter}
 use Rattle.std.specs.List.{list_any}
 use Rattle.std.specs.Str.{bytes_eq}
+use Rattle.net_addr.specs.Addresses.{is_four}
 use Rattle.net_addr.specs.Prefixes.{contains}
 use Rattle.api_types.specs.Table.{ident_eq}
 use Rattle.api_types.specs.RowLists.{RowLists}
@@ -35,8 +36,8 @@ use Rattle.api_types.specs.declared.floating.FloatingRow.{FloatingRow}
 use Rattle.api_types.specs.declared.floating.Target.{Target}
 use Rattle.api_types.specs.declared.policy.PolicyRow.{PolicyRow}
 use Rattle.row_laws.specs.Gone.{with_ports_kept, IsOfNoUse}
-use Rattle.row_laws.proofs.ListLemmas.{false_true, and_both, at-any, any-weaker, each-filter, any-filter_none, sum-filter, sum-filter-le, any-filter_kept}
-use Rattle.row_laws.proofs.NameLemmas.{ident_sym, by_test, if_some-weaker, all-weaker, and_weaker, and_left_weaker, not_true, and_fails, first_fails, count-filter, if_some-weaker_at}
+use Rattle.api_types.proofs.ListLemmas.{false_true, and_both, at-any, any-weaker, each-filter, any-filter_none, sum-filter, sum-filter-le, any-filter_kept}
+use Rattle.api_types.proofs.NameLemmas.{ident_sym, by_test, if_some-weaker, all-weaker, and_weaker, and_left_weaker, not_true, and_fails, first_fails, count-filter, if_some-weaker_at}
 
 module _ (keep : PortRow → Bool) (ports : List PortRow) where
   left : (P : PortRow → Type 0) → Each P ports → Each P (filter keep ports)
@@ -60,6 +61,29 @@ module _ (keep : PortRow → Bool) (ports : List PortRow) where
       → SubnetsStand subnets ports → SubnetsStand subnets (filter keep ports)
   subnets_stand {subnets} c = record {
     of_ports = left _ c.of_ports;
+  }
+
+  -- where no gateway port goes, no floating address's own port, and no port that one leads to
+  pub ports_stand : {routers : List RouterRow} {floatings : List FloatingRow}
+      → Each (λ p. keep p ≡ false → is_gateway p.owner ≡ false) ports → Each (λ p. keep p ≡ false → is_own_port floatings p.id ≡ false) ports
+      → Each (λ p. keep p ≡ false → list_any (λ f. is_some_so (λ (t : Target). ident_eq p.id t.port) f.target) floatings ≡ false) ports
+      → RouterPortsServe ports routers → PortsStand ports routers floatings → PortsStand (filter keep ports) routers floatings
+  ports_stand {routers} {floatings} gateways owns targets serve c = record {
+    of_gateways = λ k r at. if_some-weaker (λ (g : Gateway). list_any (is_named_gateway r g) ports) (λ (g : Gateway). is_port (filter keep ports) g.port) r.gateway
+        (λ (g : Gateway). any-filter_kept keep (is_named_gateway r g) (λ p. ident_eq g.port p.id) ports
+        (λ l p at_p h. let named = and_both (is_gateway_of r.id p) (ident_eq g.network p.network && ident_eq g.port p.id) h in (
+          stays p (λ gone. sym (gateways l p at_p gone) ∙ (and_both (is_gateway p.owner) (device_is p.device r.id) named.0).0),
+          (and_both (ident_eq g.network p.network) (ident_eq g.port p.id) named.1).1,
+        ))) (serve.named k r at);
+    of_floatings = λ k f at. any-filter_kept keep (λ p. ident_eq f.own_port p.id) (λ p. ident_eq f.own_port p.id) ports
+        (λ l p at_p h. (stays p (λ gone. sym (owns l p at_p gone) ∙ at-any (λ g. ident_eq p.id g.own_port) floatings k f at (ident_sym f.own_port p.id h)), h)) (c.of_floatings k f at);
+    of_targets = λ k f at. if_some-weaker_at (λ (t : Target). is_port ports t.port) (λ (t : Target). is_port (filter keep ports) t.port) f.target
+        (λ (t : Target) is. any-filter_kept keep (λ p. ident_eq t.port p.id) (λ p. ident_eq t.port p.id) ports
+        (λ l p at_p h. (
+          stays p (λ gone. sym (targets l p at_p gone) ∙ at-any (λ e. is_some_so (λ (u : Target). ident_eq p.id u.port) e.target) floatings k f at
+              (ap (is_some_so (λ (u : Target). ident_eq p.id u.port)) is ∙ ident_sym t.port p.id h)),
+          h,
+        ))) (c.of_targets k f at);
   }
 
   pub groups_stand : {groups : List GroupRow} {rules : List RuleRow}
@@ -180,7 +204,7 @@ module _ (keep : PortRow → Bool) (ports : List PortRow) where
         (λ l p at_p g. (
           stays p (λ gone. sym (targets l p at_p gone) ∙ at-any (λ e. is_some_so (λ (u : Target). ident_eq p.id u.port) e.target) floatings k f at
               (ap (is_some_so (λ (u : Target). ident_eq p.id u.port)) is ∙ ident_sym t.port p.id (and_both (ident_eq t.port p.id) _ g).0)),
-          and_weaker (ident_eq t.port p.id) _ _ (and_weaker (bytes_eq p.project f.project) _ _ (any-weaker _ _ p.fixed (λ (x : Fixed). and_weaker (x.address == t.fixed) _ _
+          and_weaker (ident_eq t.port p.id) _ _ (and_weaker (bytes_eq p.project f.project) _ _ (any-weaker _ _ p.fixed (λ (x : Fixed). and_weaker (is_four x.address t.fixed) _ _
               (any-filter_kept keep (λ q. is_interface q.owner && (device_is q.device t.router && holds_in x.subnet q)) (λ q. is_interface q.owner && (device_is q.device t.router && holds_in x.subnet q)) ports
               (λ m q at_q e. (stays q (λ gone. sym (goes m q at_q gone) ∙ (and_both (is_interface q.owner) _ e).0), e)))))) g,
         ))) h) (c.targets k f at);
@@ -216,25 +240,6 @@ module _ (keep : PortRow → Bool) (rows : RowLists) where
   ids_differ once i = let a = sum-filter-le keep (λ (p : PortRow). cond {A = ℕ} (ident_eq i p.id) 1 0) rows.ports in omega (arith, a, once i)
 
   module _ (goes : Each (λ p. keep p ≡ false → IsOfNoUse rows.floatings p) rows.ports) (c : IsConsistent rows) where
-    ports_stand : PortsStand (filter keep rows.ports) rows.routers rows.floatings
-    ports_stand = record {
-      of_gateways = λ k r at. if_some-weaker (λ (g : Gateway). list_any (is_named_gateway r g) rows.ports) (λ (g : Gateway). is_port (filter keep rows.ports) g.port) r.gateway
-          (λ (g : Gateway). any-filter_kept keep (is_named_gateway r g) (λ p. ident_eq g.port p.id) rows.ports
-          (λ l p at_p h. let named = and_both (is_gateway_of r.id p) (ident_eq g.network p.network && ident_eq g.port p.id) h in (
-            stays keep rows.ports p (λ gone. sym (goes l p at_p gone).no_gateway ∙ (and_both (is_gateway p.owner) (device_is p.device r.id) named.0).0),
-            (and_both (ident_eq g.network p.network) (ident_eq g.port p.id) named.1).1,
-          ))) (c.services.of_routers.named k r at);
-      of_floatings = λ k f at. any-filter_kept keep (λ p. ident_eq f.own_port p.id) (λ p. ident_eq f.own_port p.id) rows.ports
-          (λ l p at_p h. (stays keep rows.ports p (λ gone. sym (goes l p at_p gone).no_own_port ∙ at-any (λ g. ident_eq p.id g.own_port) rows.floatings k f at (ident_sym f.own_port p.id h)), h)) (c.named.ports.of_floatings k f at);
-      of_targets = λ k f at. if_some-weaker_at (λ (t : Target). is_port rows.ports t.port) (λ (t : Target). is_port (filter keep rows.ports) t.port) f.target
-          (λ (t : Target) is. any-filter_kept keep (λ p. ident_eq t.port p.id) (λ p. ident_eq t.port p.id) rows.ports
-          (λ l p at_p h. (
-            stays keep rows.ports p (λ gone. sym (goes l p at_p gone).no_target ∙ at-any (λ e. is_some_so (λ (u : Target). ident_eq p.id u.port) e.target) rows.floatings k f at
-                (ap (is_some_so (λ (u : Target). ident_eq p.id u.port)) is ∙ ident_sym t.port p.id h)),
-            h,
-          ))) (c.named.ports.of_targets k f at);
-    }
-
     -- ports that nothing needs may go
     pub ports_gone : IsConsistent (with_ports_kept keep rows)
     ports_gone = record {
@@ -246,7 +251,8 @@ module _ (keep : PortRow → Bool) (rows : RowLists) where
       named = record {
         networks = networks_stand keep rows.ports c.named.networks;
         subnets = subnets_stand keep rows.ports c.named.subnets;
-        ports = ports_stand;
+        ports = ports_stand keep rows.ports (λ k p at gone. (goes k p at gone).no_gateway) (λ k p at gone. (goes k p at gone).no_own_port) (λ k p at gone. (goes k p at gone).no_target)
+            c.services.of_routers c.named.ports;
         groups = groups_stand keep rows.ports c.named.groups;
         routers = c.named.routers;
         projects = projects_stand c.named.projects;

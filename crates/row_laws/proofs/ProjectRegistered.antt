@@ -1,12 +1,12 @@
 -- A project that is registered, with its default group and its four rules, keeps rows consistent.
-use Rattle.std.proofs.Common.{◌≡◌, ◌+◌, ◌<◌, ◌≤◌, ◌^◌, ◌++◌, ◌∷◌, ◌∙◌, ℕ, [], List, Bool, true, false, cond, length, refl, ap, sym, arith, subst}
+use Rattle.std.proofs.Common.{◌≡◌, ◌+◌, ◌<◌, ◌≤◌, ◌^◌, ◌++◌, ◌∷◌, ◌∙◌, ℕ, [], List, Bool, true, false, cond, length, not, refl, ap, sym, arith, subst}
 use Rattle.std.specs.Prelude.{◌==◌, ◌&&◌, nat_le}
 use Rattle.std.specs.Str.{bytes_eq}
 use Rattle.api_types.specs.Ident.{Ident}
 use Rattle.api_types.specs.Table.{ident_eq}
 use Rattle.api_types.proofs.TableLemmas.{ident_eq-sym}
 use Rattle.api_types.specs.RowLists.{RowLists}
-use Rattle.api_types.specs.Lists.{Each, if_some}
+use Rattle.api_types.specs.Lists.{Each, if_some, is_empty}
 use Rattle.api_types.specs.Consistent.{IsConsistent}
 use Rattle.api_types.specs.Consistent.Numbered.{is_drawn, times_in, AreOrdered, ProjectsDiffer, AreDrawn, AreNumbered}
 use Rattle.api_types.specs.Consistent.Named.{is_group, is_registered, serves, ProjectsStand}
@@ -15,6 +15,7 @@ use Rattle.api_types.specs.Consistent.Groups.{is_direction, is_ethertype, same_m
 use Rattle.api_types.specs.declared.project.ProjectRow.{ProjectRow}
 use Rattle.api_types.specs.declared.group.RuleRow.{RuleRow}
 use Rattle.std.proofs.lemmas.Bool.Decides.{nat_tests}
+use Rattle.std.proofs.lemmas.List.{length-append}
 use Rattle.std.proofs.lemmas.Option.{slice_get_within}
 use Rattle.api_types.specs.Registration.{ident, is_named, default_group, default_remote, default_rule, with_project}
 use Rattle.api_types.specs.declared.group.Direction.{Direction}
@@ -24,9 +25,10 @@ use Rattle.api_types.specs.declared.group.Ethertype.TheVariants.{Ipv4, Ipv6}
 use Rattle.row_laws.specs.NewRows.{with_rule, IsNewRule}
 use Rattle.row_laws.proofs.RulePushed.{rule_pushed}
 use Rattle.row_laws.proofs.GroupPushed.{groups_stand, in_form, groups_serve, defaults_more}
-use Rattle.row_laws.proofs.ListLemmas.{both_and, at_push, each-push, any-grows, any-last, any-none, none-any, count-none, once-push, none-counted}
-use Rattle.row_laws.proofs.NameLemmas.{ident_itself, bytes_itself, bytes_same, by_test, unnamed, and_fails}
-use Rattle.row_laws.proofs.IdLemmas.{ids-push, fresh-push, undrawn_absent, times-group, times-rule}
+use Rattle.api_types.proofs.ListLemmas.{both_and, at_push, each-push, any-grows, any-last, any-none, none-any, count-none, once-push, none-counted}
+use Rattle.api_types.proofs.NameLemmas.{ident_itself, bytes_itself, bytes_same, by_test, unnamed, and_fails}
+use Rattle.api_types.proofs.IdLemmas.{ids-push, fresh-push, undrawn_absent}
+use Rattle.row_laws.proofs.TimesLemmas.{times-group, times-rule}
 
 ordinal_of : (o c i n : ℕ) → (o == i) && (nat_le 1 n && nat_le n c) ≡ true → o ≡ i
 ordinal_of o c i n h = grind (arith, nat_tests)
@@ -62,12 +64,14 @@ module _ (projects : List ProjectRow) (p : ProjectRow) (next : p.ordinal ≡ len
   pub now_known : is_registered (projects ++ p ∷ []) p.name ≡ true
   now_known = any-last (is_named p.name) projects p (bytes_itself p.name)
 
-  pub projects_differ : p.count < 2 ^ 62 → is_registered projects p.name ≡ false → ProjectsDiffer projects → ProjectsDiffer (projects ++ p ∷ [])
-  projects_differ room unknown c = record {
+  pub projects_differ : p.count < 2 ^ 62 → not (is_empty p.name) ≡ true → length projects + 1 < 2 ^ 32 → is_registered projects p.name ≡ false → ProjectsDiffer projects → ProjectsDiffer (projects ++ p ∷ [])
+  projects_differ room name fewer unknown c = record {
     ordered = λ k q h. at_push projects p q k h ((q.ordinal ≡ k + 1) × (q.count < 2 ^ 62)) (c.ordered k q)
         (λ here is. (ap (λ (x : ProjectRow). x.ordinal) (sym is) ∙ (next ∙ ap (λ n. n + 1) (sym here)), subst (λ (x : ProjectRow). x.count < 2 ^ 62) is room));
     names = λ name. once-push (is_named name) projects p (c.names name) (λ mine.
         count-none (is_named name) projects (subst (λ x. Each (λ q. is_named x q ≡ false) projects) (bytes_same p.name name mine) (none-any (is_named p.name) projects unknown)));
+    named = each-push (λ q. not (is_empty q.name) ≡ true) projects p c.named name;
+    few = omega (arith, fewer, length-append projects (p ∷ []));
   }
 
 -- the project and its group, without its rules
@@ -114,10 +118,10 @@ module _ (rows : RowLists) (name : List ℕ) (count : ℕ) where
         of_policies = λ k r h. more r.project (c.of_policies k r h);
       }
 
-  both_kept : 1 ≤ count → count < 2 ^ 62 → is_registered rows.projects name ≡ false → IsConsistent rows → IsConsistent with_both
-  both_kept some room unknown c = record {
+  both_kept : 1 ≤ count → count < 2 ^ 62 → not (is_empty name) ≡ true → length rows.projects + 1 < 2 ^ 32 → is_registered rows.projects name ≡ false → IsConsistent rows → IsConsistent with_both
+  both_kept some room has_name fewer unknown c = record {
     numbered = record {
-      projects = projects_differ rows.projects project refl room unknown c.numbered.projects;
+      projects = projects_differ rows.projects project refl room has_name fewer unknown c.numbered.projects;
       ids = ids-push rows with_both (ident ordinal 1) (λ i. times-group rows i (default_group name ordinal)) (fresh 1 c.numbered) c.numbered.ids;
       drawn = both_drawn some c.numbered.drawn;
     };
@@ -240,10 +244,10 @@ module _ (rows : RowLists) (name : List ℕ) (count : ℕ) where
   four : with_four ≡ with_project rows name ordinal count
   four = ap (λ rules. record with_both { rules = rules }) (pushes rows.rules (rule 2 Egress Ipv4) (rule 3 Egress Ipv6) (rule 4 Ingress Ipv4) (rule 5 Ingress Ipv6))
 
-  pub project_registered : 5 ≤ count → count < 2 ^ 62 → is_registered rows.projects name ≡ false → IsConsistent rows → IsConsistent (with_project rows name ordinal count)
-  project_registered some room unknown c =
+  pub project_registered : 5 ≤ count → count < 2 ^ 62 → not (is_empty name) ≡ true → length rows.projects + 1 < 2 ^ 32 → is_registered rows.projects name ≡ false → IsConsistent rows → IsConsistent (with_project rows name ordinal count)
+  project_registered some room has_name fewer unknown c =
       let none = c.numbered in
-      let both = both_kept (omega (arith, some)) room unknown c in
+      let both = both_kept (omega (arith, some)) room has_name fewer unknown c in
       let new_one : IsNewRule with_both (rule 2 Egress Ipv4) = default_rule_new with_both 2 Egress Ipv4 refl refl (fresh_both 2 refl none) (omega arith) (omega (arith, some))
       (old_rules c 2 Egress Ipv4) in
       let one : IsConsistent with_one = rule_pushed with_both (rule 2 Egress Ipv4) new_one both in

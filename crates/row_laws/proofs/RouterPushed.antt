@@ -31,10 +31,11 @@ use Rattle.api_types.specs.declared.floating.FloatingRow.{FloatingRow}
 use Rattle.api_types.specs.declared.floating.Target.{Target}
 use Rattle.api_types.specs.declared.policy.PolicyRow.{PolicyRow}
 use Rattle.row_laws.specs.NewRows.{with_router, IsNewRouter}
-use Rattle.row_laws.proofs.ListLemmas.{false_true, or_true, and_both, each-push, any-grows, any-none, none-any, count-none, any-at, none-counted}
-use Rattle.row_laws.proofs.NameLemmas.{ident_itself, bytes_same, by_test, or_weaker, if_some-weaker, unnamed, and_weaker, and_left_weaker, not_true, unless, fails_by, first_fails, must, push-all, any-push_other}
-use Rattle.row_laws.proofs.IdLemmas.{times-router, ids-push}
-use Rattle.row_laws.proofs.IdTexts.{one-text}
+use Rattle.api_types.proofs.ListLemmas.{false_true, or_true, and_both, each-push, any-grows, any-none, none-any, count-none, any-at, none-counted}
+use Rattle.api_types.proofs.NameLemmas.{ident_itself, bytes_same, by_test, or_weaker, if_some-weaker, unnamed, and_weaker, and_left_weaker, not_true, unless, fails_by, first_fails, must, push-all, any-push_other}
+use Rattle.api_types.proofs.IdLemmas.{ids-push}
+use Rattle.row_laws.proofs.TimesLemmas.{times-router}
+use Rattle.api_types.proofs.IdTexts.{one-text}
 
 module _ (routers : List RouterRow) (r : RouterRow) where
   pub networks_stand : {networks : List NetworkRow} {subnets : List SubnetRow} {ports : List PortRow} {floatings : List FloatingRow} {policies : List PolicyRow}

@@ -1,5 +1,5 @@
 -- A router that is replaced by one of the same id keeps each clause that reads routers, and one with the same gateway keeps rows consistent.
-use Rattle.std.proofs.Common.{◌≡◌, ◌∙◌, ℕ, List, Bool, true, Some, slice_get, slice_set, ap, sym, arith, length}
+use Rattle.std.proofs.Common.{◌≡◌, ◌∙◌, ℕ, List, Bool, true, Option, None, Some, slice_get, slice_set, refl, ap, sym, arith, length}
 use Rattle.std.specs.Prelude.{◌&&◌, ◌||◌, not, count_by, nat_le}
 use Rattle.std.specs.List.{list_any, list_all}
 use Rattle.std.specs.Str.{bytes_eq}
@@ -29,13 +29,32 @@ use Rattle.api_types.specs.declared.router.Gateway.{Gateway}
 use Rattle.api_types.specs.declared.floating.FloatingRow.{FloatingRow}
 use Rattle.api_types.specs.declared.floating.Target.{Target}
 use Rattle.api_types.specs.declared.policy.PolicyRow.{PolicyRow}
-use Rattle.row_laws.specs.Replaced.{with_router_at, IsReplacedRouter, IsRerouted}
-use Rattle.row_laws.proofs.ListLemmas.{and_both, both_and, each-set, any-set_same, any-set_grows}
-use Rattle.row_laws.proofs.NameLemmas.{or_weaker, if_some-weaker, and_weaker, all-at, set-all, any-agree, count-set, if_some-weaker_at}
+use Rattle.row_laws.specs.Replaced.{with_router_at, gateways_agree, IsReplacedRouter, IsRerouted}
+use Rattle.api_types.proofs.ListLemmas.{false_true, and_both, both_and, each-set, any-set_same, any-set_grows}
+use Rattle.api_types.proofs.NameLemmas.{ident_same, or_weaker, if_some-weaker, and_weaker, all-at, set-all, any-agree, count-set, if_some-weaker_at}
+
+-- what is asked of a gateway's network and port alone
+if_same : (test : Ident → Ident → Bool) (a b : Option Gateway) → gateways_agree a b ≡ true → if_some (λ (g : Gateway). test g.network g.port) b ≡ if_some (λ (g : Gateway). test g.network g.port) a
+if_same test None None h = refl
+if_same test (Some g) (Some k) h = let both = and_both (ident_eq g.network k.network) _ h in sym (λ j. test (ident_same g.network k.network both.0 j) (ident_same g.port k.port both.1 j))
+if_same test None (Some k) h = false_true _ h
+if_same test (Some g) None h = false_true _ h
+
+led_same : (test : Ident → Ident → Bool) (a b : Option Gateway) → gateways_agree a b ≡ true → is_some_so (λ (g : Gateway). test g.network g.port) b ≡ is_some_so (λ (g : Gateway). test g.network g.port) a
+led_same test None None h = refl
+led_same test (Some g) (Some k) h = if_same test (Some g) (Some k) h
+led_same test None (Some k) h = false_true _ h
+led_same test (Some g) None h = false_true _ h
+
+wanted_same : (a b : Option Gateway) → gateways_agree a b ≡ true → wanted_gateways a ≡ wanted_gateways b
+wanted_same None None h = refl
+wanted_same (Some g) (Some k) h = refl
+wanted_same None (Some k) h = false_true _ h
+wanted_same (Some g) None h = false_true _ h
 
 module _ (routers : List RouterRow) (place : ℕ) (old new : RouterRow) (at : slice_get routers place ≡ Some old) (same : new.id ≡ old.id) where
   -- a test that reads the id alone is the same on both rows
-  put : (test : Ident → Bool) → list_any (λ r. test r.id) (slice_set routers place new) ≡ list_any (λ r. test r.id) routers
+  pub put : (test : Ident → Bool) → list_any (λ r. test r.id) (slice_set routers place new) ≡ list_any (λ r. test r.id) routers
   put test = any-set_same (λ r. test r.id) routers place old new at (ap test same)
 
   pub networks_stand : {networks : List NetworkRow} {subnets : List SubnetRow} {ports : List PortRow} {floatings : List FloatingRow} {policies : List PolicyRow}
@@ -151,17 +170,17 @@ module _ (rows : RowLists) (place : ℕ) (old new : RouterRow) (at : slice_get r
   }
 
   -- one with the same gateway
-  pub router_replaced : new.gateway ≡ old.gateway → IsRerouted rows new → IsConsistent rows → IsConsistent (with_router_at rows place new)
-  router_replaced gateway is c = record {
+  pub router_replaced : IsRerouted rows old new → IsConsistent rows → IsConsistent (with_router_at rows place new)
+  router_replaced is c = record {
     numbered = record {
       projects = c.numbered.projects;
       ids = λ i. let e = count-set (λ s. ident_eq i s.id) rows.routers place old new at (ap (ident_eq i) same.id) in omega (arith, e, c.numbered.ids i);
       drawn = are_drawn c.numbered.drawn;
     };
     named = record {
-      networks = networks_stand rows.routers place old new at same.id (ap (if_some (λ (g : Gateway). is_network rows.networks g.network)) gateway ∙ c.named.networks.of_gateways place old at) c.named.networks;
+      networks = networks_stand rows.routers place old new at same.id (kept (λ n i. is_network rows.networks n) (c.named.networks.of_gateways place old at)) c.named.networks;
       subnets = c.named.subnets;
-      ports = ports_stand rows.routers place old new at same.id (ap (if_some (λ (g : Gateway). is_port rows.ports g.port)) gateway ∙ c.named.ports.of_gateways place old at) c.named.ports;
+      ports = ports_stand rows.routers place old new at same.id (kept (λ n i. is_port rows.ports i) (c.named.ports.of_gateways place old at)) c.named.ports;
       groups = c.named.groups;
       routers = routers_stand rows.routers place old new at same.id c.named.routers;
       projects = projects_stand c.named.projects;
@@ -175,14 +194,21 @@ module _ (rows : RowLists) (place : ℕ) (old new : RouterRow) (at : slice_get r
     services = record {
       dhcp = c.services.dhcp;
       of_routers = router_ports_serve rows.routers place old new at same.id
-          ((λ j. count_by (is_gateway_of (same.id j)) rows.ports) ∙ (c.services.of_routers.counts place old at ∙ sym (ap wanted_gateways gateway)))
-          ((λ j. if_some (λ (g : Gateway). list_any (λ p. is_gateway_of (same.id j) p && (ident_eq g.network p.network && ident_eq g.port p.id)) rows.ports) (gateway j)) ∙ c.services.of_routers.named place old at) c.services.of_routers;
+          ((λ j. count_by (is_gateway_of (same.id j)) rows.ports) ∙ (c.services.of_routers.counts place old at ∙ wanted_same old.gateway new.gateway is.gateway))
+          (kept (λ n i. list_any (λ p. is_gateway_of new.id p && (ident_eq n p.network && ident_eq i p.id)) rows.ports)
+          ((λ j. if_some (λ (g : Gateway). list_any (λ p. is_gateway_of (same.id j) p && (ident_eq g.network p.network && ident_eq g.port p.id)) rows.ports) old.gateway) ∙ c.services.of_routers.named place old at)) c.services.of_routers;
       of_floatings = c.services.of_floatings;
     };
     floatings = floatings_lead rows.routers place old new at same.id (λ k f h t told e served.
-        (λ j. bytes_eq (same.project j) f.project && is_some_so (λ (g : Gateway). ident_eq g.network f.network) (gateway j)) ∙ served) c.floatings;
+        let both = and_both (bytes_eq old.project f.project) _ served in
+        both_and (bytes_eq new.project f.project) _ (ap (λ n. bytes_eq n f.project) same.project ∙ both.0)
+        (led_same (λ n i. ident_eq n f.network) old.gateway new.gateway is.gateway ∙ both.1)) c.floatings;
     groups = c.groups;
     allowed = c.allowed;
-    outsides = outsides_are_allowed rows.routers place old new at same.id ((λ j. if_some (λ (g : Gateway). is_external_to rows.policies g.network (same.project j)) (gateway j)) ∙ c.outsides.gateways place old at) c.outsides;
+    outsides = outsides_are_allowed rows.routers place old new at same.id
+        (kept (λ n i. is_external_to rows.policies n new.project) ((λ j. if_some (λ (g : Gateway). is_external_to rows.policies g.network (same.project j)) old.gateway) ∙ c.outsides.gateways place old at)) c.outsides;
     routes = routes_lead rows.routers place old new at same.id is.reached c.routes;
   }
+    where
+      kept : (test : Ident → Ident → Bool) → if_some (λ (g : Gateway). test g.network g.port) old.gateway ≡ true → if_some (λ (g : Gateway). test g.network g.port) new.gateway ≡ true
+      kept test h = if_same test old.gateway new.gateway is.gateway ∙ h

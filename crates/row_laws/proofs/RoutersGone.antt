@@ -27,8 +27,8 @@ use Rattle.api_types.specs.declared.floating.FloatingRow.{FloatingRow}
 use Rattle.api_types.specs.declared.floating.Target.{Target}
 use Rattle.api_types.specs.declared.policy.PolicyRow.{PolicyRow}
 use Rattle.row_laws.specs.Gone.{with_routers_kept, IsUnusedRouter}
-use Rattle.row_laws.proofs.ListLemmas.{false_true, and_both, both_and, at-any, any-weaker, each-filter, sum-filter-le, any-filter_kept, any-filter_back}
-use Rattle.row_laws.proofs.NameLemmas.{by_test, or_weaker, and_weaker, and_left_weaker, not_true, fails_by, ident_sym, filter-all_of, if_some-weaker_at}
+use Rattle.api_types.proofs.ListLemmas.{false_true, and_both, both_and, at-any, any-weaker, each-filter, sum-filter-le, any-filter_kept, any-filter_back}
+use Rattle.api_types.proofs.NameLemmas.{by_test, or_weaker, and_weaker, and_left_weaker, not_true, fails_by, ident_sym, filter-all_of, if_some-weaker_at}
 
 module _ (keep : RouterRow → Bool) (routers : List RouterRow) where
   left : (P : RouterRow → Type 0) → Each P routers → Each P (filter keep routers)

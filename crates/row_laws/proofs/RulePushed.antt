@@ -20,9 +20,10 @@ use Rattle.api_types.specs.declared.group.GroupRow.{GroupRow}
 use Rattle.api_types.specs.declared.group.RuleRow.{RuleRow}
 use Rattle.api_types.specs.declared.router.RouterRow.{RouterRow}
 use Rattle.row_laws.specs.NewRows.{with_rule, IsNewRule}
-use Rattle.row_laws.proofs.ListLemmas.{each-push, any-none, any-weaker, any-stays_none, and_both}
-use Rattle.row_laws.proofs.NameLemmas.{ident_itself, if_some-weaker, not_true, and_fails}
-use Rattle.row_laws.proofs.IdLemmas.{ids-push, times-rule}
+use Rattle.api_types.proofs.ListLemmas.{each-push, any-none, any-weaker, any-stays_none, and_both}
+use Rattle.api_types.proofs.NameLemmas.{ident_itself, if_some-weaker, not_true, and_fails}
+use Rattle.api_types.proofs.IdLemmas.{ids-push}
+use Rattle.row_laws.proofs.TimesLemmas.{times-rule}
 
 module _ (rules : List RuleRow) (r : RuleRow) where
   pub groups_stand : {groups : List GroupRow} {ports : List PortRow} → is_group groups r.group ≡ true → if_some (is_group groups) r.remote_group ≡ true

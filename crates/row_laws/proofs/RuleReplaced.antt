@@ -19,8 +19,8 @@ use Rattle.api_types.specs.declared.group.GroupRow.{GroupRow}
 use Rattle.api_types.specs.declared.group.RuleRow.{RuleRow}
 use Rattle.api_types.specs.declared.router.RouterRow.{RouterRow}
 use Rattle.row_laws.specs.Replaced.{with_rule_at, IsRedescribedRule}
-use Rattle.row_laws.proofs.ListLemmas.{each-set, any-set_same}
-use Rattle.row_laws.proofs.NameLemmas.{any-agree, count-set}
+use Rattle.api_types.proofs.ListLemmas.{each-set, any-set_same}
+use Rattle.api_types.proofs.NameLemmas.{any-agree, count-set}
 use Rattle.std.specs.Option.{option_eq}
 
 module _ (rules : List RuleRow) (place : ℕ) (old new : RuleRow) (at : slice_get rules place ≡ Some old) (same : IsRedescribedRule old new) where

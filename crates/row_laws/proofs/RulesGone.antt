@@ -18,8 +18,8 @@ use Rattle.api_types.specs.declared.group.GroupRow.{GroupRow}
 use Rattle.api_types.specs.declared.group.RuleRow.{RuleRow}
 use Rattle.api_types.specs.declared.router.RouterRow.{RouterRow}
 use Rattle.row_laws.specs.Gone.{with_rules_kept}
-use Rattle.row_laws.proofs.ListLemmas.{each-filter, any-filter_none, sum-filter-le}
-use Rattle.row_laws.proofs.NameLemmas.{not_true}
+use Rattle.api_types.proofs.ListLemmas.{each-filter, any-filter_none, sum-filter-le}
+use Rattle.api_types.proofs.NameLemmas.{not_true}
 
 module _ (keep : RuleRow → Bool) (rules : List RuleRow) where
   left : (P : RuleRow → Type 0) → Each P rules → Each P (filter keep rules)

@@ -8,7 +8,7 @@ use Rattle.api_types.specs.RowLists.{RowLists}
 use Rattle.api_types.specs.Lists.{Each}
 use Rattle.api_types.specs.Owners.{is_dhcp, is_port_of, holds_in}
 use Rattle.api_types.specs.Consistent.Disjoint.{subnets_clash, share_router, reach_alike, ports_clash, AreDisjoint}
-use Rattle.api_types.specs.Consistent.Hosts.{is_host_in, AreHosts}
+use Rattle.api_types.specs.Consistent.Hosts.{is_host_in, is_own_address, AreHosts}
 use Rattle.api_types.specs.Consistent.InForm.{is_network_of, is_subnet_form, AreInForm}
 use Rattle.api_types.specs.Consistent.Named.{is_network, is_registered, names_subnet, NetworksStand, SubnetsStand, ProjectsStand}
 use Rattle.api_types.specs.Consistent.NextHops.{is_reached, RoutesLead}
@@ -25,9 +25,10 @@ use Rattle.api_types.specs.declared.router.RouterRow.{RouterRow}
 use Rattle.api_types.specs.declared.floating.FloatingRow.{FloatingRow}
 use Rattle.api_types.specs.declared.policy.PolicyRow.{PolicyRow}
 use Rattle.row_laws.specs.NewRows.{with_subnet, IsNewSubnet}
-use Rattle.row_laws.proofs.ListLemmas.{and_both, each-push, any-grows, any-stays_none, any-none, none-any, any-weaker, none-counted}
-use Rattle.row_laws.proofs.NameLemmas.{ident_itself, or_weaker, all-weaker, unnamed, and_weaker, not_true, unless, all-at, and_fails, first_fails, push-all, any-agree, any-push_other}
-use Rattle.row_laws.proofs.IdLemmas.{times-subnet, ids-push}
+use Rattle.api_types.proofs.ListLemmas.{and_both, each-push, any-grows, any-stays_none, any-none, none-any, any-weaker, none-counted}
+use Rattle.api_types.proofs.NameLemmas.{ident_itself, or_weaker, all-weaker, unnamed, and_weaker, not_true, unless, all-at, and_fails, first_fails, push-all, any-agree, any-push_other}
+use Rattle.api_types.proofs.IdLemmas.{ids-push}
+use Rattle.row_laws.proofs.TimesLemmas.{times-subnet}
 
 module _ (subnets : List SubnetRow) (s : SubnetRow) where
   pub networks_stand : {networks : List NetworkRow} {ports : List PortRow} {routers : List RouterRow} {floatings : List FloatingRow} {policies : List PolicyRow}
@@ -62,8 +63,8 @@ module _ (subnets : List SubnetRow) (s : SubnetRow) where
   pub are_hosts : {ports : List PortRow}
       → AreHosts subnets ports → AreHosts (subnets ++ s ∷ []) ports
   are_hosts {ports} c = record {
-    addresses = λ k p at. all-weaker (is_host_in subnets) (is_host_in (subnets ++ s ∷ [])) p.fixed
-        (λ (x : Fixed). any-grows (λ t. ident_eq x.subnet t.id && is_host_of t.prefix x.address) subnets s) (c.addresses k p at);
+    addresses = λ k p at. all-weaker (is_host_in subnets p) (is_host_in (subnets ++ s ∷ []) p) p.fixed
+        (λ (x : Fixed). any-grows (λ t. ident_eq x.subnet t.id && (is_host_of t.prefix x.address && is_own_address p x.address t)) subnets s) (c.addresses k p at);
   }
 
   -- ports that hold no address in the subnet reach nothing more

@@ -1,5 +1,5 @@
 -- A subnet that is replaced by one of the same id, project, network and prefix keeps each clause that reads subnets, and rows consistent.
-use Rattle.std.proofs.Common.{◌≡◌, ◌∙◌, ℕ, List, Bool, true, cond, Some, slice_get, slice_set, ap, sym, arith}
+use Rattle.std.proofs.Common.{◌≡◌, ◌∙◌, ℕ, List, Bool, true, false, cond, Some, slice_get, slice_set, ap, sym, arith}
 use Rattle.std.specs.Prelude.{◌==◌, ◌&&◌, ◌||◌, not}
 use Rattle.std.specs.List.{list_any}
 use Rattle.net_addr.specs.Prefixes.{overlaps, contains, is_host_of, Prefix}
@@ -8,7 +8,7 @@ use Rattle.api_types.specs.Table.{ident_eq}
 use Rattle.api_types.specs.RowLists.{RowLists}
 use Rattle.api_types.specs.Owners.{is_dhcp, is_port_of, holds_in}
 use Rattle.api_types.specs.Consistent.Disjoint.{subnets_clash, share_router, reach_alike, ports_clash, AreDisjoint}
-use Rattle.api_types.specs.Consistent.Hosts.{is_host_in, AreHosts}
+use Rattle.api_types.specs.Consistent.Hosts.{is_host_in, is_own_address, AreHosts}
 use Rattle.api_types.specs.Consistent.InForm.{is_network_of, is_subnet_form, AreInForm}
 use Rattle.api_types.specs.Consistent.Named.{is_network, is_registered, names_subnet, NetworksStand, SubnetsStand, ProjectsStand}
 use Rattle.api_types.specs.Consistent.NextHops.{is_reached, RoutesLead}
@@ -24,11 +24,11 @@ use Rattle.api_types.specs.declared.group.RuleRow.{RuleRow}
 use Rattle.api_types.specs.declared.router.RouterRow.{RouterRow}
 use Rattle.api_types.specs.declared.floating.FloatingRow.{FloatingRow}
 use Rattle.api_types.specs.declared.policy.PolicyRow.{PolicyRow}
-use Rattle.row_laws.specs.Replaced.{with_subnet_at, IsReplacedSubnet}
-use Rattle.row_laws.proofs.ListLemmas.{each-set, any-set_same, any-weaker}
-use Rattle.row_laws.proofs.NameLemmas.{or_weaker, all-weaker, and_weaker, all-at, set-all, any-agree, count-set}
+use Rattle.row_laws.specs.Replaced.{with_subnet_at, is_owned_still, IsReplacedSubnet}
+use Rattle.api_types.proofs.ListLemmas.{and_both, both_and, each-set, any-set_same, any-set_grows, any-weaker}
+use Rattle.api_types.proofs.NameLemmas.{or_weaker, all-weaker, and_weaker, all-at, at-all, set-all, any-agree, count-set}
 
-module _ (subnets : List SubnetRow) (place : ℕ) (old new : SubnetRow) (at : slice_get subnets place ≡ Some old) (same : IsReplacedSubnet old new) where
+module _ (subnets : List SubnetRow) (all : List PortRow) (place : ℕ) (old new : SubnetRow) (at : slice_get subnets place ≡ Some old) (same : IsReplacedSubnet all old new) where
   -- a test that reads id, network and prefix alone is the same on both rows
   put : (test : Ident → Ident → Prefix → Bool) → list_any (λ s. test s.id s.network s.prefix) (slice_set subnets place new) ≡ list_any (λ s. test s.id s.network s.prefix) subnets
   put test = any-set_same (λ s. test s.id s.network s.prefix) subnets place old new at (λ j. test (same.id j) (same.network j) (same.prefix j))
@@ -62,11 +62,26 @@ module _ (subnets : List SubnetRow) (place : ℕ) (old new : SubnetRow) (at : sl
     routes = c.routes;
   }
 
-  pub are_hosts : {ports : List PortRow}
-      → AreHosts subnets ports → AreHosts (slice_set subnets place new) ports
-  are_hosts {ports} c = record {
-    addresses = λ k p h. all-weaker (is_host_in subnets) (is_host_in (slice_set subnets place new)) p.fixed
-        (λ (x : Fixed) g. put (λ id network prefix. ident_eq x.subnet id && is_host_of prefix x.address) ∙ g) (c.addresses k p h);
+  -- a held address that was the port's own is still
+  own_still : (p : PortRow) (x : Fixed) → is_owned_still old new p x ≡ true → ident_eq x.subnet old.id ≡ true → is_own_address p x.address old ≡ true → is_own_address p x.address new ≡ true
+  own_still p x still inside was = by (ident_eq x.subnet old.id) (is_own_address p x.address old) still inside was
+    where
+      by : (a b : Bool) → not a || (not b || is_own_address p x.address new) ≡ true → a ≡ true → b ≡ true → is_own_address p x.address new ≡ true
+      by true true h inside was = h
+      by true false h inside was = cc
+      by false b h inside was = cc
+
+  host_still : (p : PortRow) (x : Fixed) → is_owned_still old new p x ≡ true → is_host_in subnets p x ≡ true → is_host_in (slice_set subnets place new) p x ≡ true
+  host_still p x still = any-set_grows (λ t. ident_eq x.subnet t.id && (is_host_of t.prefix x.address && is_own_address p x.address t)) subnets place old new at
+      (λ g.
+      let both = and_both (ident_eq x.subnet old.id) _ g in
+      let fits = and_both (is_host_of old.prefix x.address) _ both.1 in
+      both_and _ _ ((λ j. ident_eq x.subnet (same.id j)) ∙ both.0) (both_and _ _ ((λ j. is_host_of (same.prefix j) x.address) ∙ fits.0) (own_still p x still both.0 fits.1)))
+
+  pub are_hosts : AreHosts subnets all → AreHosts (slice_set subnets place new) all
+  are_hosts c = record {
+    addresses = λ k p h. at-all (is_host_in (slice_set subnets place new) p) p.fixed
+        (λ n x at. host_still p x (all-at (is_owned_still old new p) p.fixed (same.own k p h) n x at) (all-at (is_host_in subnets p) p.fixed (c.addresses k p h) n x at));
   }
 
   reach_same : (p q : PortRow) → reach_alike (slice_set subnets place new) p q ≡ reach_alike subnets p q
@@ -110,7 +125,7 @@ module _ (subnets : List SubnetRow) (place : ℕ) (old new : SubnetRow) (at : sl
         (λ hop. any-weaker _ _ ports (λ p. and_weaker (is_port_of r p) _ _ (λ g. put (λ id network prefix. holds_in id p && contains prefix hop.next) ∙ g))) (c.routes k r h);
   }
 
-module _ (rows : RowLists) (place : ℕ) (old new : SubnetRow) (at : slice_get rows.subnets place ≡ Some old) (same : IsReplacedSubnet old new) where
+module _ (rows : RowLists) (place : ℕ) (old new : SubnetRow) (at : slice_get rows.subnets place ≡ Some old) (same : IsReplacedSubnet rows.ports old new) where
   pub are_drawn : AreDrawn rows → AreDrawn (with_subnet_at rows place new)
   are_drawn c = record {
     networks = c.networks;
@@ -144,21 +159,21 @@ module _ (rows : RowLists) (place : ℕ) (old new : SubnetRow) (at : slice_get r
       drawn = are_drawn c.numbered.drawn;
     };
     named = record {
-      networks = networks_stand rows.subnets place old new at same c.named.networks;
-      subnets = subnets_stand rows.subnets place old new at same c.named.subnets;
+      networks = networks_stand rows.subnets rows.ports place old new at same c.named.networks;
+      subnets = subnets_stand rows.subnets rows.ports place old new at same c.named.subnets;
       ports = c.named.ports;
       groups = c.named.groups;
       routers = c.named.routers;
       projects = projects_stand c.named.projects;
     };
-    in_form = in_form rows.subnets place old new at same form c.in_form;
+    in_form = in_form rows.subnets rows.ports place old new at same form c.in_form;
     held_once = c.held_once;
-    hosts = are_hosts rows.subnets place old new at same c.hosts;
-    disjoint = are_disjoint rows.subnets place old new at same c.disjoint;
+    hosts = are_hosts rows.subnets rows.ports place old new at same c.hosts;
+    disjoint = are_disjoint rows.subnets rows.ports place old new at same c.disjoint;
     segments = c.segments;
     on_hosts = c.on_hosts;
     services = record {
-      dhcp = dhcp_ports_serve rows.subnets place old new at same leased c.services.dhcp;
+      dhcp = dhcp_ports_serve rows.subnets rows.ports place old new at same leased c.services.dhcp;
       of_routers = c.services.of_routers;
       of_floatings = c.services.of_floatings;
     };
@@ -166,5 +181,5 @@ module _ (rows : RowLists) (place : ℕ) (old new : SubnetRow) (at : slice_get r
     groups = c.groups;
     allowed = c.allowed;
     outsides = c.outsides;
-    routes = routes_lead rows.subnets place old new at same c.routes;
+    routes = routes_lead rows.subnets rows.ports place old new at same c.routes;
   }

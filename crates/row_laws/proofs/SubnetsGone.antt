@@ -8,7 +8,7 @@ use Rattle.api_types.specs.RowLists.{RowLists}
 use Rattle.api_types.specs.Lists.{Each}
 use Rattle.api_types.specs.Owners.{is_dhcp, is_port_of, holds_in}
 use Rattle.api_types.specs.Consistent.Disjoint.{subnets_clash, share_router, reach_alike, ports_clash, AreDisjoint}
-use Rattle.api_types.specs.Consistent.Hosts.{is_host_in, AreHosts}
+use Rattle.api_types.specs.Consistent.Hosts.{is_host_in, is_own_address, AreHosts}
 use Rattle.api_types.specs.Consistent.InForm.{AreInForm}
 use Rattle.api_types.specs.Consistent.Named.{names_subnet, NetworksStand, SubnetsStand, ProjectsStand}
 use Rattle.api_types.specs.Consistent.NextHops.{is_reached, RoutesLead}
@@ -25,8 +25,8 @@ use Rattle.api_types.specs.declared.router.RouterRow.{RouterRow}
 use Rattle.api_types.specs.declared.floating.FloatingRow.{FloatingRow}
 use Rattle.api_types.specs.declared.policy.PolicyRow.{PolicyRow}
 use Rattle.row_laws.specs.Gone.{with_subnets_kept, IsUnusedSubnet}
-use Rattle.row_laws.proofs.ListLemmas.{false_true, and_both, any-at, at-any, any-weaker, each-filter, any-filter, any-filter_none, sum-filter-le, any-filter_kept, any-filter_back}
-use Rattle.row_laws.proofs.NameLemmas.{by_test, or_weaker, all-weaker, and_weaker, not_true, fails_by, ident_sym, all-at, and_fails, at-all, filter-all_of}
+use Rattle.api_types.proofs.ListLemmas.{false_true, and_both, any-at, at-any, any-weaker, each-filter, any-filter, any-filter_none, sum-filter-le, any-filter_kept, any-filter_back}
+use Rattle.api_types.proofs.NameLemmas.{by_test, or_weaker, all-weaker, and_weaker, not_true, fails_by, ident_sym, all-at, and_fails, at-all, filter-all_of}
 
 module _ (keep : SubnetRow → Bool) (subnets : List SubnetRow) where
   left : (P : SubnetRow → Type 0) → Each P subnets → Each P (filter keep subnets)
@@ -76,8 +76,8 @@ module _ (keep : SubnetRow → Bool) (subnets : List SubnetRow) where
   pub are_hosts : {ports : List PortRow}
       → Each (λ s. keep s ≡ false → Each (λ p. holds_in s.id p ≡ false) ports) subnets → AreHosts subnets ports → AreHosts (filter keep subnets) ports
   are_hosts {ports} free c = record {
-    addresses = λ k p at. at-all (is_host_in (filter keep subnets)) p.fixed
-        (λ l x at_x. held_stays ports free (λ s. is_host_of s.prefix x.address) k p at l x at_x (all-at (is_host_in subnets) p.fixed (c.addresses k p at) l x at_x));
+    addresses = λ k p at. at-all (is_host_in (filter keep subnets) p) p.fixed
+        (λ l x at_x. held_stays ports free (λ s. is_host_of s.prefix x.address && is_own_address p x.address s) k p at l x at_x (all-at (is_host_in subnets p) p.fixed (c.addresses k p at) l x at_x));
   }
 
   -- fewer subnets reach nothing more

@@ -7,7 +7,8 @@ use Rattle.api_types.specs.Table.{ident_eq}
 use Rattle.api_types.specs.RowLists.{RowLists}
 use Rattle.api_types.specs.Lists.{Each, is_some_so}
 use Rattle.api_types.specs.Owners.{is_interface, is_gateway, is_dhcp, is_port_of, holds_in}
-use Rattle.api_types.specs.Sharing.{is_shared_with, is_external_to}
+use Rattle.api_types.specs.Sharing.{is_external_to}
+use Rattle.api_types.specs.Consistent.Access.{may_be_there}
 use Rattle.api_types.specs.Consistent.Named.{is_own_port}
 use Rattle.api_types.specs.declared.subnet.SubnetRow.{SubnetRow}
 use Rattle.api_types.specs.declared.port.PortRow.{PortRow}
@@ -83,8 +84,8 @@ pub record IsUnusedRouter (ports : List PortRow) (floatings : List FloatingRow) 
   pub unnamed : Each (λ p. is_port_of r p ≡ false) ports
   pub unled : list_any (λ f. is_some_so (λ (t : Target). ident_eq r.id t.router) f.target) floatings ≡ false
 
--- by other policies, what was permitted to the ports, the gateways and the floating addresses that stand still is
+-- by other policies, ports may still be on their networks, and what was permitted to the gateways and the floating addresses that stand still is
 pub record ArePermittedStill (rows : RowLists) (policies : List PolicyRow) : Type 0 where
-  pub ports : Each (λ p. is_shared_with rows.policies p.network p.project ≡ true → is_shared_with policies p.network p.project ≡ true) rows.ports
+  pub ports : Each (λ p. may_be_there rows.networks rows.policies p ≡ true → may_be_there rows.networks policies p ≡ true) rows.ports
   pub gateways : Each (λ r. (g : Gateway) → r.gateway ≡ Some g → is_external_to rows.policies g.network r.project ≡ true → is_external_to policies g.network r.project ≡ true) rows.routers
   pub addresses : Each (λ f. is_external_to rows.policies f.network f.project ≡ true → is_external_to policies f.network f.project ≡ true) rows.floatings

@@ -3,3 +3,8 @@ pub mod Drawn
 pub mod NewNetwork
 pub mod Replaced
 pub mod Gone
+pub mod Leased
+pub mod ServicePorts
+pub mod Gateways
+pub mod Interfaces
+pub mod OwnPorts

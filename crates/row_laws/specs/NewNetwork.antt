@@ -1,12 +1,10 @@
 -- A network that a call makes.
-use Rattle.std.specs.Prelude.{◌≡◌, ℕ, ◌<◌, ◌==◌, Bool, true, false, List, length}
+use Rattle.std.specs.Prelude.{◌≡◌, ℕ, ◌<◌, true, List, length}
 use Rattle.api_types.specs.RowLists.{RowLists}
 use Rattle.api_types.specs.Registration.{Drawing, drawn_id}
 use Rattle.api_types.specs.Consistent.InForm.{is_segment}
 use Rattle.api_types.specs.Consistent.Segments.{most_networks}
 use Rattle.api_types.specs.declared.network.NetworkRow.{NetworkRow}
-use Rattle.api_types.specs.declared.network.Segment.{Segment}
-use Rattle.api_types.specs.declared.network.Segment.TheVariants.{Vxlan}
 use Rattle.row_laws.specs.NewRows.{IsAlone}
 
 -- a network of the project that has the first id that was drawn, and a segment that no network has
@@ -16,8 +14,3 @@ pub record IsMadeNetwork (rows : RowLists) (name : List ℕ) (d : Drawing) (n : 
   pub segment : is_segment n.segment ≡ true
   pub alone : IsAlone rows.networks n.segment
   pub few : length rows.networks < most_networks
-
--- whether a segment is vxlan with this number
-abbrev pub is_vxlan : ℕ → Segment → Bool
-is_vxlan n (Vxlan number) = number == n
-is_vxlan n _ = false

@@ -1,7 +1,8 @@
 -- Rows with one more, last in the list of its kind, and what has to hold of it.
-use Rattle.std.specs.Prelude.{◌≡◌, ◌+◌, ◌<◌, ◌≤◌, ◌++◌, ◌∷◌, ℕ, [], List, None, true, false, length, sum_by}
+use Rattle.std.specs.Prelude.{◌≡◌, ◌+◌, ◌<◌, ◌≤◌, ◌++◌, ◌∷◌, [], List, None, true, false, length, sum_by}
 use Rattle.std.specs.Prelude.{◌&&◌, ◌||◌, count_by}
 use Rattle.std.specs.List.{list_all}
+use Rattle.net_addr.specs.declared.address.Addr.{Addr}
 use Rattle.api_types.specs.RowLists.{RowLists}
 use Rattle.api_types.specs.Lists.{Each, if_some, is_empty}
 use Rattle.api_types.specs.Owners.{is_interface, is_gateway, is_dhcp, is_port_of}
@@ -80,9 +81,9 @@ pub record IsNewPort (rows : RowLists) (p : PortRow) : Type 0 where
   pub no_dhcp : is_dhcp p.owner ≡ false
   pub form : is_port_form p ≡ true
   pub mac : count_by (has_mac p.network p.mac) rows.ports ≡ 0
-  pub addresses : (x : ℕ) → sum_by (holds_times p.network x) rows.ports + holds_times p.network x p ≤ 1
+  pub addresses : (x : Addr) → sum_by (holds_times p.network x) rows.ports + holds_times p.network x p ≤ 1
   pub subnets : list_all (names_subnet rows.subnets p) p.fixed ≡ true
-  pub hosts : list_all (is_host_in rows.subnets) p.fixed ≡ true
+  pub hosts : list_all (is_host_in rows.subnets p) p.fixed ≡ true
   pub groups : list_all (is_group_of rows.groups p.project) p.groups ≡ true
   pub bare : p.secured || (is_empty p.groups && is_empty p.pairs) ≡ true
   pub allowed : may_be_there rows.networks rows.policies p ≡ true

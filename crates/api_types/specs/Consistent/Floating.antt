@@ -2,6 +2,7 @@
 use Rattle.std.specs.Prelude.{ℕ, ◌≤◌, ◌==◌, ◌&&◌, Bool, List, count_by}
 use Rattle.std.specs.List.{list_any}
 use Rattle.std.specs.Str.{bytes_eq}
+use Rattle.net_addr.specs.Addresses.{is_four}
 use Rattle.api_types.specs.Ident.{Ident}
 use Rattle.api_types.specs.Table.{ident_eq}
 use Rattle.api_types.specs.Lists.{Pass, stands_so, if_some, is_some_so}
@@ -20,7 +21,7 @@ has_interface ports router subnet = list_any (λ q. is_interface q.owner && (dev
 -- the port is of the project and holds the fixed address, on a subnet where the router has an interface
 abbrev pub is_target_port : List PortRow → FloatingRow → Target → PortRow → Bool
 is_target_port ports f t p =
-    bytes_eq p.project f.project && list_any (λ (x : Fixed). (x.address == t.fixed) && has_interface ports t.router x.subnet) p.fixed
+    bytes_eq p.project f.project && list_any (λ (x : Fixed). is_four x.address t.fixed && has_interface ports t.router x.subnet) p.fixed
 
 -- the router is of the project and has its gateway on the floating address's network
 abbrev pub is_target_router : FloatingRow → RouterRow → Bool

@@ -3,6 +3,7 @@ use Rattle.std.specs.Prelude.{◌≡◌, ℕ, ◌==◌, ◌&&◌, ◌||◌, not,
 use Rattle.std.specs.List.{list_any, list_all}
 use Rattle.std.specs.Option.{option_eq}
 use Rattle.std.specs.Str.{bytes_eq}
+use Rattle.net_addr.specs.Addresses.{addr_eq}
 use Rattle.net_addr.specs.Prefixes.{Prefix}
 use Rattle.api_types.specs.Table.{ident_eq}
 use Rattle.api_types.specs.Lists.{Each, Pass, if_some, is_empty}
@@ -30,7 +31,7 @@ is_ethertype Ipv6 Ipv6 = true
 is_ethertype _ _ = false
 
 abbrev pub prefix_eq : Prefix → Prefix → Bool
-prefix_eq p q = (p.base == q.base) && (p.len == q.len)
+prefix_eq p q = addr_eq p.base q.base && (p.len == q.len)
 
 -- whether what a rule says of packets is the same
 abbrev pub same_match : RuleRow → RuleRow → Bool

@@ -18,3 +18,8 @@ most_networks = 4000
 pub record SegmentsDiffer (networks : List NetworkRow) : Type 0 where
   pub apart : (segment : Segment) → count_by (λ n. same_segment segment n.segment) networks ≤ 1
   pub few : length networks ≤ most_networks
+
+-- whether a segment is vxlan with this number
+abbrev pub is_vxlan : ℕ → Segment → Bool
+is_vxlan n (Vxlan number) = number == n
+is_vxlan n _ = false

@@ -1,6 +1,7 @@
 -- The ports of routers, of DHCP and of floating addresses are there and serve what they are for.
 use Rattle.std.specs.Prelude.{◌≡◌, ℕ, ◌≤◌, ◌==◌, ◌&&◌, ◌||◌, not, cond, Bool, false, List, [], ◌∷◌, Option, Some, None, count_by}
 use Rattle.std.specs.List.{list_any, list_all}
+use Rattle.net_addr.specs.Addresses.{is_four}
 use Rattle.api_types.specs.Ident.{Ident}
 use Rattle.api_types.specs.Table.{ident_eq}
 use Rattle.api_types.specs.Lists.{Each, Pass, stands_so, if_some, is_empty, is_one}
@@ -62,7 +63,7 @@ pub record RouterPortsServe (ports : List PortRow) (routers : List RouterRow) : 
 -- floating addresses
 
 abbrev pub holds_just : ℕ → List Fixed → Bool
-holds_just x (f ∷ []) = f.address == x
+holds_just x (f ∷ []) = is_four f.address x
 holds_just x _ = false
 
 -- on the floating address's network, with the owner, with just the address, and unbound

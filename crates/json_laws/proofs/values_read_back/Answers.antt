@@ -1,5 +1,5 @@
-use Rattle.json_laws.proofs.TextsBack.{addresses, group_names, ids, macs, owners, ports, prefixes, projects, segments, targets, texts}
-use Rattle.json_laws.proofs.WordsBack.{actions, directions, ethertypes, flags, types}
+use Rattle.json_laws.proofs.TextsBack.{addresses, fours, group_names, ids, macs, owners, ports, prefixes, projects, segments, targets, texts}
+use Rattle.json_laws.proofs.WordsBack.{actions, directions, ethertypes, flags, modes, types}
 use Rattle.json_laws.proofs.ListsBack.{groups_back, hosts_back, pools_back, routes_back, servers_back}
 use Rattle.json_laws.proofs.PrefixBack.{remotes}
 use Rattle.json_laws.proofs.ProtocolBack.{protocols}
@@ -25,6 +25,9 @@ returns-clause-ids c = ids
 
 pub returns-clause-addresses : goal.returns-clause-addresses
 returns-clause-addresses c = addresses
+
+pub returns-clause-fours : goal.returns-clause-fours
+returns-clause-fours c = fours
 
 pub returns-clause-macs : goal.returns-clause-macs
 returns-clause-macs c = macs
@@ -52,6 +55,9 @@ returns-clause-ethertypes c = ethertypes
 
 pub returns-clause-actions : goal.returns-clause-actions
 returns-clause-actions c = actions
+
+pub returns-clause-modes : goal.returns-clause-modes
+returns-clause-modes c = modes
 
 pub returns-clause-pools : goal.returns-clause-pools
 returns-clause-pools c = pools_back

@@ -3,6 +3,6 @@ use Rattle.row_laws.proofs.drawing_keeps.Goals as goal
 
 pub returns : goal.returns
 returns c = record {
-  kept = λ rows name many d all room drawing. draws rows name many d all room drawing;
-  new_ids = λ rows name many d all room drawing. drawn_new rows name many d (draws rows name many d all room drawing);
+  kept = λ rows name many d all has_name room drawing. draws rows name many d all has_name room drawing;
+  new_ids = λ rows name many d all has_name room drawing. drawn_new rows name many d (draws rows name many d all has_name room drawing);
 }

@@ -1,6 +1,6 @@
 use Rattle.std.proofs.Common.{arith, sym, ap, ◌∙◌}
 use Rattle.std.specs.Prelude.{ℕ}
-use Rattle.row_tests.specs.RowTests.{is_numbered}
+use Rattle.api_check_rows.specs.RowTests.{is_numbered}
 use Rattle.api_check.proofs.Places.{place_here, place_next, place_end, position_first}
 use Rattle.api_check.proofs.numbered.first_unnumbered.Goals as goal
 

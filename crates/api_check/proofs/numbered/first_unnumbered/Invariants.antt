@@ -1,6 +1,6 @@
 use Rattle.std.proofs.Common.{◌≡◌, drop}
 use Rattle.api_check.specs.Broken.{first_place}
-use Rattle.row_tests.specs.RowTests.{is_numbered}
+use Rattle.api_check_rows.specs.RowTests.{is_numbered}
 use Rattle.api_check.proofs.numbered.first_unnumbered.Given as goal
 
 -- the search goes on as it began

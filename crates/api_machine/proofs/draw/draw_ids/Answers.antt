@@ -28,24 +28,24 @@ returns-in_default-clause-drawn c =
     }
 
 -- the project that was found stands at its place
-found : (projects all : List ProjectRow) (name : List ℕ) (place : ℕ) (p : ProjectRow) → projects ≡ all → Some place ≡ position (is_named name) projects → p ≡ get_or projects place p
-    → (position (is_named name) all ≡ Some place) × (slice_get all place ≡ Some p)
-found projects all name place p same named at =
-    let within = (position-Some (is_named name) projects place p (sym named)).0 in
-    (ap (position (is_named name)) (sym same) ∙ sym named, ap (λ ps. slice_get ps place) (sym same) ∙ slice_get_read projects _ place p refl within at)
+found : (projects all : List ProjectRow) (name : List ℕ) (place : ℕ) (shared p : ProjectRow) → projects ≡ all → Some place ≡ position (is_named name) projects
+    → shared ≡ get_or projects place shared → p ≡ shared → (position (is_named name) all ≡ Some place) × (slice_get all place ≡ Some p)
+found projects all name place shared p same named at is =
+    let within = (position-Some (is_named name) projects place shared (sym named)).0 in
+    (ap (position (is_named name)) (sym same) ∙ sym named, ap (λ ps. slice_get ps place) (sym same) ∙ slice_get_read projects _ place shared refl within at ∙ ap Some (sym is))
 
 pub returns-then-project-many-clause-spent : goal.returns-then-project-many-clause-spent
 returns-then-project-many-clause-spent c =
     let rows = c.args.rows.now in
-    let p = c.index-projects-place.result in
-    let f = found _ rows.projects c.args.name.now c.in-Some.place p (c.rows-projects.ensures.rows ∙ c.projects.ensures) c.in-Some.ensures c.index-projects-place.is in
+    let p = c.get-project.result.now in
+    let f = found _ rows.projects c.args.name.now c.in-Some.place c.index-projects-place.result p (c.rows-projects.ensures.rows ∙ c.projects.ensures) c.in-Some.ensures c.index-projects-place.is c.get-project.ensures in
     inr (refl, draws_no_count rows c.args.name.now c.args.many c.in-Some.place p f.0 f.1 (omega (arith, c.if-project-many.true)))
 
 pub returns-clause-drawn : goal.returns-clause-drawn
 returns-clause-drawn c =
     let rows = c.args.rows.now in
-    let p = c.index-projects-place.result in
-    let f = found _ rows.projects c.args.name.now c.in-Some.place p (c.rows-projects.ensures.rows ∙ c.projects.ensures) c.in-Some.ensures c.index-projects-place.is in
+    let p = c.get-project.result.now in
+    let f = found _ rows.projects c.args.name.now c.in-Some.place c.index-projects-place.result p (c.rows-projects.ensures.rows ∙ c.projects.ensures) c.in-Some.ensures c.index-projects-place.is c.get-project.ensures in
     record {
       fits = subst (Fits rows) (sym c.in_ok-raise.ensures) ((refl, refl, (f.1, refl)), tt);
       drawn = draws_known rows c.args.name.now c.args.many c.in-Some.place p f.0 f.1 (omega (arith, c.if-project-many.false))

@@ -4,7 +4,7 @@ use Rattle.api_types.specs.declared.kind.Kind.TheVariants.{Network as NetworkKin
 use Rattle.api_types.specs.declared.kind.Row.TheVariants.{Network as NetworkOf}
 use Rattle.net_settings.specs.Defaults.{default_parts}
 use Rattle.api_steps.specs.Networks.{network_shown, new_network}
-use Rattle.api_steps.specs.Numbers.{free_number}
+use Rattle.api_ml2.specs.Numbers.{free_number}
 use Rattle.api_steps.specs.State.{State}
 use Rattle.api_steps.specs.Step.{network_asked}
 use Rattle.api_machine.specs.Items.{made_item}
@@ -23,7 +23,7 @@ returns-clause-ok c =
     let change = c.in_ok-change.field-0.change in
     let whole = c.in_ok-push.ensures.ok ∙ ap (λ x. change ++ x ∷ []) (c.made.ensures ∙ ap (λ ns. made_item NetworkKind (length ns) (NetworkOf network)) all) in
     subst (λ items. Leads state (network_asked default_parts state caller form) items (NewRow (shown_row c.in_ok-answer.answer))) (sym whole)
-    (created_leads state caller form c.requires change c.in_ok-change.field-0.ordinal c.in_ok-change.field-0.first c.in-Some.number network (shown_row c.in_ok-answer.answer)
+    (created_leads state caller form c.requires.consistent c.requires.named c.requires.in_form change c.in_ok-change.field-0.ordinal c.in_ok-change.field-0.first c.in-Some.number network (shown_row c.in_ok-answer.answer)
     (sym c.is_network_ahead.ensures ∙ c.if-is_network_ahead.false)
     c.in_ok-check_creation.ensures
     (ap (free_number default_parts) (sym all) ∙ sym c.in_ok-number.ensures ∙ c.in-Some.is)

@@ -28,7 +28,7 @@ returns-clause-ok c =
     let whole = c.in_ok-push.ensures.ok ∙ ap (λ x. drawn.change ++ x ∷ []) (c.made.ensures ∙ ap (λ ps. made_item PortKind (length ps) (PortOf port)) (c.rows.ensures.rows ∙ c.ports.ensures)) in
     let shown = c.in_ok-answer.ensures ∙ ap (port_shown rows caller port) c.new.ensures in
     subst (λ items. Leads state (port_asked default_parts state caller form) items (NewRow (shown_row c.in_ok-answer.answer))) (sym whole)
-    (created_leads state caller form c.requires.consistent c.requires.in_form network drawn.change drawn.ordinal drawn.first port (shown_row c.in_ok-answer.answer)
+    (created_leads state caller form c.requires.consistent c.requires.named c.requires.in_form network drawn.change drawn.ordinal drawn.first port (shown_row c.in_ok-answer.answer)
     is_open.built is_open.alike is_open.found is_open.passed c.in_ok-drawn.ensures.room
     (subst (λ owner. Draws rows owner 1 drawn.change drawn.ordinal drawn.first) c.owner-owner.ensures c.in_ok-drawn.ensures.drawn)
     (c.in_ok-port.ensures ∙ (λ j. new_port default_parts rows caller form network (c.owner-owner.ensures j) (ident drawn.ordinal drawn.first)

@@ -1,5 +1,5 @@
 use Rattle.std.proofs.Common.{◌≡◌, flat_map, take}
-use Rattle.plane_types.specs.TableRows.{prefixes_of}
+use Rattle.api_types.specs.Members.{prefixes_of}
 use Rattle.api_secgroup.proofs.listed.prefixes_of_all.Given as goal
 
 -- the prefixes are those of the ports so far

@@ -1,6 +1,6 @@
 use Rattle.std.proofs.Common.{◌≡◌, drop, map}
 use Rattle.api_types.specs.Printed.{member_of}
-use Rattle.api_shown.specs.Filtered.{has_value as has_value_in}
+use Rattle.api_policy.specs.Filtered.{has_value as has_value_in}
 use Rattle.api_shown.proofs.filtering.has_value.Given as goal
 
 -- what the members that are left say is what all say

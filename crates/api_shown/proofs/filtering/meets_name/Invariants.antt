@@ -3,7 +3,7 @@ use Rattle.std.specs.List.{list_any}
 use Rattle.std.specs.Str.{bytes_eq}
 use Rattle.api_types.specs.Printed.{member_of}
 use Rattle.api_types.specs.declared.call.Filter.{Filter}
-use Rattle.api_shown.specs.Filtered.{has_value as has_value_in}
+use Rattle.api_policy.specs.Filtered.{has_value as has_value_in}
 use Rattle.api_shown.proofs.filtering.meets_name.Given as goal
 
 -- what the filters that are left say is what all say

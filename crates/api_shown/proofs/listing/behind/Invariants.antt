@@ -1,5 +1,5 @@
 use Rattle.std.proofs.Common.{◌≡◌, drop}
-use Rattle.api_shown.specs.Listed.{behind as rows_behind}
+use Rattle.api_policy.specs.Listed.{behind as rows_behind}
 use Rattle.api_shown.proofs.listing.behind.Given as goal
 
 -- the row isn't among those so far

@@ -1,7 +1,7 @@
 use Rattle.std.proofs.Common.{◌≡◌, ◌∙◌, ◌++◌, ap, sym, map, drop, length, arith}
 use Rattle.std.proofs.lemmas.List.{length-map, drop_all}
 use Rattle.api_types.specs.Printed.{shown_row}
-use Rattle.api_shown.specs.Listed.{is_full as is_at_limit, listed_of as rows_listed_of}
+use Rattle.api_policy.specs.Listed.{is_full as is_at_limit, listed_of as rows_listed_of}
 use Rattle.api_shown.proofs.CutLemmas.{Within, front, whole}
 use Rattle.api_shown.proofs.listing.listed_of.Goals as goal
 use Rattle.api_shown.proofs.listing.listed_of.Goals.{else-loop-row-test, then-loop-row-test+then-is_full}

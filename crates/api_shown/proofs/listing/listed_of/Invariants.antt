@@ -1,6 +1,6 @@
 use Rattle.std.proofs.Common.{◌≡◌, ◌++◌, drop, length, map}
 use Rattle.api_types.specs.Printed.{shown_row}
-use Rattle.api_shown.specs.Listed.{listed_of as rows_listed_of}
+use Rattle.api_policy.specs.Listed.{listed_of as rows_listed_of}
 use Rattle.api_shown.proofs.CutLemmas.{Within}
 use Rattle.api_shown.proofs.listing.listed_of.Given as goal
 

@@ -1,7 +1,7 @@
 use Rattle.std.proofs.Common.{ap, ◌∙◌, map, [], ◌∷◌}
 use Rattle.std.specs.Prelude.{codes}
 use Rattle.api_types.specs.Printed.{branches_of, member_of, object, truth}
-use Rattle.api_shown.specs.Trees.{id_word}
+use Rattle.api_policy.specs.Trees.{id_word}
 use Rattle.api_shown.proofs.ListLemmas.{grown}
 use Rattle.api_shown.proofs.router.gateway_printed.Goals as goal
 

@@ -1,7 +1,7 @@
 use Rattle.std.proofs.Common.{◌≡◌, ◌++◌, map}
 use Rattle.std.specs.Vec.Iter.{into_iter_items}
 use Rattle.api_types.specs.Printed.{member_of}
-use Rattle.api_shown.specs.Shown.{shown_members}
+use Rattle.api_policy.specs.Shown.{shown_members}
 use Rattle.api_shown.proofs.showing.kept.Given as goal
 
 -- those kept so far, and what is kept of the others, is what is kept of all

@@ -1,12 +1,12 @@
 use Rattle.std.proofs.Common.{◌≡◌, drop, map}
-use Rattle.std.specs.Prelude.{◌==◌}
 use Rattle.std.specs.List.{list_any}
-use Rattle.plane_types.specs.Routing.{Leg}
+use Rattle.net_addr.specs.Addresses.{addr_eq}
+use Rattle.api_types.specs.RouterViews.{Leg}
 use Rattle.plane_types.specs.TableStep.{leg_at}
 use Rattle.host_plane.proofs.router.is_own.Given as goal
 
 -- none so far holds the address
 abbrev pub invariant-loop-port : goal.invariant-loop-port
 invariant-loop-port l =
-    list_any (λ (x : Leg). list_any (λ a. a == l.address) x.addresses) (map leg_at (drop l.port-index l.port-items))
-    ≡ list_any (λ (x : Leg). list_any (λ a. a == l.address) x.addresses) (map leg_at l.router.ports)
+    list_any (λ (x : Leg). list_any (λ a. addr_eq a l.address) x.addresses) (map leg_at (drop l.port-index l.port-items))
+    ≡ list_any (λ (x : Leg). list_any (λ a. addr_eq a l.address) x.addresses) (map leg_at l.router.ports)

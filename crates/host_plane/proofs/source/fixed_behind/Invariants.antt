@@ -1,6 +1,6 @@
 use Rattle.std.proofs.Common.{◌≡◌, drop}
 use Rattle.std.specs.Prelude.{◌==◌, find}
-use Rattle.plane_types.specs.Routing.{Float}
+use Rattle.api_types.specs.RouterViews.{Float}
 use Rattle.plane_types.specs.TableStep.{floats_at_router}
 use Rattle.host_plane.proofs.source.fixed_behind.Given as goal
 

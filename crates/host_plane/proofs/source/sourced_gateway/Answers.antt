@@ -1,7 +1,7 @@
 use Rattle.std.proofs.Common.{◌≡◌, ◌∙◌, ◌++◌, true, ap, sym}
 use Rattle.std.specs.Prelude.{find, option_map}
-use Rattle.packet_rules.proofs.RouteLemmas.{gateway_kept}
-use Rattle.packet_rules.specs.Parts.{packet_of, use_of}
+use Rattle.plane_types.proofs.RouteLemmas.{gateway_kept}
+use Rattle.plane_types.specs.Parts.{packet_of, use_of}
 use Rattle.plane_types.specs.Keys.{key_eq}
 use Rattle.plane_types.specs.Routing.{Use, uses_at, uses_by}
 use Rattle.plane_types.specs.TableStep.{table_view}

@@ -2,7 +2,7 @@ use Rattle.std.proofs.Common.{◌≡◌, Some, drop}
 use Rattle.std.specs.Prelude.{find}
 use Rattle.std.specs.List.{filter_map}
 use Rattle.plane_types.specs.Routing.{answers as answers_to}
-use Rattle.packet_rules.specs.Parts.{packet_of, use_if}
+use Rattle.plane_types.specs.Parts.{packet_of, use_if}
 use Rattle.host_plane.proofs.translation.answer_among.Given as goal
 
 -- none so far answers

@@ -3,7 +3,7 @@ use Rattle.std.specs.Prelude.{find}
 use Rattle.std.specs.List.{filter_map}
 use Rattle.plane_types.specs.Keys.{key_eq}
 use Rattle.plane_types.specs.Routing.{Use}
-use Rattle.packet_rules.specs.Parts.{use_if}
+use Rattle.plane_types.specs.Parts.{use_if}
 use Rattle.host_plane.proofs.translation.key_among.Given as goal
 
 -- none so far has the key

@@ -1,5 +1,5 @@
 use Rattle.std.proofs.Common.{◌≡◌, ◌∙◌, ◌+◌, ◌-◌, ◌++◌, ap, sym, arith}
-use Rattle.packet_rules.proofs.UseLemmas.{untaken_found, untaken_none, untaken_past}
+use Rattle.plane_types.proofs.UseLemmas.{untaken_found, untaken_none, untaken_past}
 use Rattle.plane_types.specs.Routing.{least_untaken, uses_at}
 use Rattle.host_plane.proofs.translation.least_untaken.Goals as goal
 

@@ -1,7 +1,7 @@
 use Rattle.std.proofs.Common.{◌≡◌, drop}
 use Rattle.std.specs.List.{filter_map}
 use Rattle.plane_types.specs.Routing.{is_taken as taken}
-use Rattle.packet_rules.specs.Parts.{use_if}
+use Rattle.plane_types.specs.Parts.{use_if}
 use Rattle.host_plane.proofs.translation.taken_among.Given as goal
 
 -- none so far has the port

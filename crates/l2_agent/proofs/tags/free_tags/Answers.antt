@@ -1,8 +1,8 @@
 use Rattle.std.proofs.Common.{◌≡◌, ◌∙◌, ◌+◌, ◌-◌, ◌++◌, [], ◌∷◌, not, ap, sym, append_assoc, arith}
 use Rattle.std.specs.List.{filter}
 use Rattle.std.proofs.lemmas.List.{append-nil}
-use Rattle.l2_agent.specs.Retagged.{is_free, numbers}
-use Rattle.l2_agent.proofs.NumberLemmas.{free-next, free-past, numbers-end}
+use Rattle.plane_types.specs.Retagged.{is_free, numbers}
+use Rattle.plane_types.proofs.NumberLemmas.{free-next, free-past, numbers-end}
 use Rattle.l2_agent.proofs.tags.free_tags.Goals as goal
 use Rattle.l2_agent.proofs.tags.free_tags.Goals.{then-not-is_among+in_ok-push, else-not-is_among}
 

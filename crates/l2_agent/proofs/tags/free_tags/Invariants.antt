@@ -1,6 +1,6 @@
 use Rattle.std.proofs.Common.{◌≡◌, ◌++◌, ◌-◌}
 use Rattle.std.specs.List.{filter}
-use Rattle.l2_agent.specs.Retagged.{free_tags as free_beside, is_free, numbers}
+use Rattle.plane_types.specs.Retagged.{free_tags as free_beside, is_free, numbers}
 use Rattle.l2_agent.proofs.tags.free_tags.Given as goal
 
 -- those so far, and those that are left, are all

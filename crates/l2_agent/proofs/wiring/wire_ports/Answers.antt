@@ -1,7 +1,7 @@
 use Rattle.std.proofs.Common.{◌≡◌, ◌∙◌, ap, sym, subst}
 use Rattle.plane_types.specs.Realises.{RealisesTags}
-use Rattle.l2_agent.specs.Retagged.{retagged}
-use Rattle.l2_agent.proofs.RetaggedLaw.{tags_stand}
+use Rattle.plane_types.specs.Retagged.{retagged}
+use Rattle.plane_types.proofs.RetaggedLaw.{tags_stand}
 use Rattle.l2_agent.proofs.wiring.wire_ports.Goals as goal
 
 pub returns-clause-realised : goal.returns-clause-realised

@@ -3,7 +3,7 @@ use Rattle.std.specs.Prelude.{option_map}
 use Rattle.std.specs.List.{filter_map}
 use Rattle.api_types.specs.declared.port.Fixed.{Fixed}
 use Rattle.api_types.specs.declared.subnet.SubnetRow.{SubnetRow}
-use Rattle.plane_types.specs.RouterRows.{subnet_named}
+use Rattle.api_types.specs.RouterRows.{subnet_named}
 use Rattle.l3_agent.proofs.ports.prefixes_for.Given as goal
 
 -- the prefixes so far, and those of the addresses that are left, are all

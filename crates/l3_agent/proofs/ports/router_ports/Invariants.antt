@@ -1,6 +1,6 @@
 use Rattle.std.proofs.Common.{◌≡◌, ◌++◌, drop}
 use Rattle.std.specs.List.{filter, filter_map}
-use Rattle.plane_types.specs.RouterRows.{is_leg_of}
+use Rattle.api_types.specs.RouterRows.{is_leg_of}
 use Rattle.plane_types.specs.TableRows.{tagged_by}
 use Rattle.l3_agent.proofs.ports.router_ports.Given as goal
 

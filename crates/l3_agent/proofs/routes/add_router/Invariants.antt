@@ -1,5 +1,5 @@
 use Rattle.std.proofs.Common.{◌≡◌, ◌++◌, drop, map}
-use Rattle.plane_types.specs.RouterRows.{ways_of}
+use Rattle.api_types.specs.RouterRows.{ways_of}
 use Rattle.plane_types.specs.TableRows.{route_row}
 use Rattle.plane_rows.specs.Ways.{way_of}
 use Rattle.l3_agent.proofs.routes.add_router.Given as goal

@@ -1,6 +1,6 @@
 use Rattle.std.proofs.Common.{◌≡◌, ◌++◌, [], drop, if◌then◌else◌, map}
 use Rattle.std.specs.Prelude.{flat_map}
-use Rattle.plane_types.specs.RouterRows.{ways_of}
+use Rattle.api_types.specs.RouterRows.{ways_of}
 use Rattle.plane_types.specs.TableRows.{hosted, route_row}
 use Rattle.l3_agent.proofs.routes.route_rows.Given as goal
 

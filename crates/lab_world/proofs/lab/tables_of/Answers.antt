@@ -1,7 +1,7 @@
 use Rattle.std.proofs.Common.{◌∙◌, ap, inr, map, sym}
 use Rattle.api_types.specs.declared.refusal.Refusal.TheVariants.{NoHost}
 use Rattle.plane_types.specs.declared.ask.LabAnswer.TheVariants.{Tables}
-use Rattle.agent_node.specs.Node.{host_of}
+use Rattle.plane_types.specs.Node.{host_of}
 use Rattle.lab_world.specs.Lab.{Answered, Barred}
 use Rattle.lab_world.proofs.HostLaws.{tables_found, tables_unfound}
 use Rattle.lab_world.proofs.lab.tables_of.Goals as goal

@@ -1,6 +1,6 @@
 use Rattle.std.proofs.Common.{◌≡◌, ◌++◌, drop, map}
 use Rattle.net_settings.specs.Defaults.{default_hosts}
-use Rattle.agent_node.specs.Node.{Node, started}
+use Rattle.plane_types.specs.Node.{Node, started}
 use Rattle.lab_world.proofs.world.first_hosts.Given as goal
 
 -- the hosts so far, and those that are left, are all

@@ -1,5 +1,5 @@
 use Rattle.std.proofs.Common.{ℕ, ◌∷◌, sym, subst, arith}
-use Rattle.net_addr.specs.Reading.{Agree, GoesOn}
+use Rattle.net_addr.specs.Reading.{Agree, NumberGoesOn}
 use Rattle.net_addr.specs.Spelling.{Spells}
 use Rattle.net_addr.specs.declared.spelling.Part.TheVariants.{Number}
 use Rattle.net_addr.proofs.SpellingLemmas.{begins_number, number_agrees, readied_number}
@@ -15,6 +15,6 @@ pub returns : goal.returns
 returns c =
     let same = c.in_ok-number.ensures.0 in (
       readied_number c.args.top c.args.value c.in_ok-number.number c.args.rest.now c.requires (omega arith),
-      subst (λ (m : ℕ). Agree (λ text n. Spells (Number c.args.top ∷ c.args.rest.now) c.args.value (c.args.c ∷ text) n) (GoesOn c.args.rest.now c.args.value c.args.top m)) (sym same)
+      subst (λ (m : ℕ). Agree (λ text n. Spells (Number c.args.top ∷ c.args.rest.now) c.args.value (c.args.c ∷ text) n) (NumberGoesOn c.args.rest.now c.args.value c.args.top m)) (sym same)
           (number_agrees c.args.top c.args.value c.args.c c.args.rest.now (omega arith) (omega (arith, c.in_ok-number.ensures))),
     )

@@ -16,5 +16,5 @@ loop-way-preserved c =
     let taken = c.loop-way.invariant.0 in (
       c.in-Some.way ∷ taken,
       sym (append_assoc c.pop.new.self.items (c.in-Some.way ∷ []) taken) ∙ ap (λ ws. ws ++ taken) (sym c.in-Some.ensures.items) ∙ c.loop-way.invariant.1,
-      c.better_for-best.ensures ∙ ap (λ o. if contains c.in-Some.way.prefix c.args.destination then Some (better_of (way_of c.in-Some.way) o) else o) c.loop-way.invariant.2,
+      c.better_for-best.ensures ∙ ap (λ o. if contains c.in-Some.way.prefix c.args.destination.now then Some (better_of (way_of c.in-Some.way) o) else o) c.loop-way.invariant.2,
     )

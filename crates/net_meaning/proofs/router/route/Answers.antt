@@ -1,8 +1,8 @@
 use Rattle.std.proofs.Common.{◌∙◌, ◌++◌, ap, map}
 use Rattle.std.proofs.lemmas.Result.{IfOk-weaker}
-use Rattle.plane_types.specs.RouterRows.{leg_of, router_view}
-use Rattle.packet_rules.specs.Parts.{destined_of, packet_of, use_of}
-use Rattle.packet_rules.proofs.RouteLemmas.{whole_route}
+use Rattle.api_types.specs.RouterRows.{leg_of, router_view}
+use Rattle.plane_types.specs.Parts.{destined_of, packet_of, use_of}
+use Rattle.plane_types.proofs.RouteLemmas.{whole_route}
 use Rattle.net_meaning.proofs.router.route.Goals as goal
 
 pub returns : goal.returns

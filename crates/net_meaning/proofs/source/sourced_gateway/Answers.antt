@@ -1,8 +1,8 @@
 use Rattle.std.proofs.Common.{◌∙◌, ap, sym, map}
 use Rattle.std.specs.Prelude.{option_map}
-use Rattle.plane_types.specs.RouterRows.{gateway_address as gateway_by_rows, router_view}
-use Rattle.packet_rules.specs.Parts.{packet_of, use_of}
-use Rattle.packet_rules.proofs.RouteLemmas.{gateway_kept}
+use Rattle.api_types.specs.RouterRows.{gateway_address as gateway_by_rows, router_view}
+use Rattle.plane_types.specs.Parts.{packet_of, use_of}
+use Rattle.plane_types.proofs.RouteLemmas.{gateway_kept}
 use Rattle.net_meaning.proofs.source.sourced_gateway.Goals as goal
 
 pub returns-in-Some-with_key : goal.returns-in-Some-with_key

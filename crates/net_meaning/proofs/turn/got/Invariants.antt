@@ -1,6 +1,6 @@
 use Rattle.std.proofs.Common.{◌≡◌, ◌-◌}
 use Rattle.plane_types.specs.Meaning.{got as got_by}
-use Rattle.packet_rules.specs.Parts.{packet_of}
+use Rattle.plane_types.specs.Parts.{packet_of}
 use Rattle.net_meaning.specs.Turns.{trace_of}
 use Rattle.net_meaning.proofs.turn.got.Given as goal
 

@@ -1,6 +1,6 @@
 use Rattle.std.proofs.Common.{◌≡◌, ◌++◌, drop, map}
 use Rattle.std.specs.List.{filter_map}
-use Rattle.packet_rules.specs.Parts.{use_if, use_of}
+use Rattle.plane_types.specs.Parts.{use_if, use_of}
 use Rattle.net_meaning.proofs.uses.add_uses.Given as goal
 
 -- those so far, and those among the entries that are left, are all

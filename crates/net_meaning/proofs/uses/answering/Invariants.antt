@@ -1,7 +1,7 @@
 use Rattle.std.proofs.Common.{◌≡◌, Some, drop, map}
 use Rattle.std.specs.Prelude.{find}
 use Rattle.plane_types.specs.Routing.{answers as answers_to}
-use Rattle.packet_rules.specs.Parts.{packet_of, use_of}
+use Rattle.plane_types.specs.Parts.{packet_of, use_of}
 use Rattle.net_meaning.proofs.uses.answering.Given as goal
 
 -- none so far answers

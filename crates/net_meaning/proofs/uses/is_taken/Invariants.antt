@@ -1,6 +1,6 @@
 use Rattle.std.proofs.Common.{◌≡◌, drop, map}
 use Rattle.plane_types.specs.Routing.{is_taken as taken}
-use Rattle.packet_rules.specs.Parts.{use_of}
+use Rattle.plane_types.specs.Parts.{use_of}
 use Rattle.net_meaning.proofs.uses.is_taken.Given as goal
 
 -- none so far has the port

@@ -1,7 +1,7 @@
 use Rattle.std.proofs.Common.{◌≡◌, ◌∙◌, ◌+◌, ◌-◌, ap, sym, map, arith}
 use Rattle.plane_types.specs.Routing.{least_untaken}
-use Rattle.packet_rules.specs.Parts.{use_of}
-use Rattle.packet_rules.proofs.UseLemmas.{untaken_found, untaken_none, untaken_past}
+use Rattle.plane_types.specs.Parts.{use_of}
+use Rattle.plane_types.proofs.UseLemmas.{untaken_found, untaken_none, untaken_past}
 use Rattle.net_meaning.proofs.uses.least_untaken.Goals as goal
 
 pub returns-then-not-is_taken : goal.returns-then-not-is_taken

@@ -1,6 +1,6 @@
 use Rattle.std.proofs.Common.{◌≡◌, ◌+◌, ◌-◌, map}
 use Rattle.plane_types.specs.Routing.{least_untaken as first_untaken}
-use Rattle.packet_rules.specs.Parts.{use_of}
+use Rattle.plane_types.specs.Parts.{use_of}
 use Rattle.net_meaning.proofs.uses.least_untaken.Given as goal
 
 -- each port so far is taken

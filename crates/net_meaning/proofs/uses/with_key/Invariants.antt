@@ -2,7 +2,7 @@ use Rattle.std.proofs.Common.{◌≡◌, drop, map}
 use Rattle.std.specs.Prelude.{find}
 use Rattle.plane_types.specs.Keys.{key_eq}
 use Rattle.plane_types.specs.Routing.{Use}
-use Rattle.packet_rules.specs.Parts.{use_of}
+use Rattle.plane_types.specs.Parts.{use_of}
 use Rattle.net_meaning.proofs.uses.with_key.Given as goal
 
 -- none so far has the key

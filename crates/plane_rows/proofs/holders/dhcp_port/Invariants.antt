@@ -1,6 +1,6 @@
 use Rattle.std.proofs.Common.{◌≡◌, drop}
 use Rattle.std.specs.Prelude.{find}
-use Rattle.plane_types.specs.Holders.{is_live_dhcp_of}
+use Rattle.api_types.specs.Holders.{is_live_dhcp_of}
 use Rattle.plane_rows.proofs.holders.dhcp_port.Given as goal
 
 -- none so far is the network's DHCP port

@@ -1,6 +1,6 @@
 use Rattle.std.proofs.Common.{◌≡◌, drop}
 use Rattle.std.specs.Prelude.{find}
-use Rattle.plane_types.specs.Holders.{holds_live as holds_live_by_rows}
+use Rattle.api_types.specs.Holders.{holds_live as holds_live_by_rows}
 use Rattle.plane_rows.proofs.holders.fixed_holder.Given as goal
 
 -- none so far holds the address

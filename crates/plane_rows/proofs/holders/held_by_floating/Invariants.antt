@@ -1,6 +1,6 @@
 use Rattle.std.proofs.Common.{◌≡◌, drop}
 use Rattle.std.specs.Prelude.{find}
-use Rattle.plane_types.specs.Holders.{floats_at}
+use Rattle.api_types.specs.Holders.{floats_at}
 use Rattle.plane_rows.proofs.holders.held_by_floating.Given as goal
 
 -- none so far is this floating address

@@ -1,6 +1,6 @@
 use Rattle.std.proofs.Common.{◌≡◌, drop}
 use Rattle.std.specs.Prelude.{find}
-use Rattle.plane_types.specs.Holders.{has_mac as has_mac_by_rows}
+use Rattle.api_types.specs.Holders.{has_mac as has_mac_by_rows}
 use Rattle.plane_rows.proofs.holders.port_at.Given as goal
 
 -- none so far has the MAC

@@ -1,8 +1,7 @@
 use Rattle.std.proofs.Common.{◌≡◌, drop}
 use Rattle.std.specs.Prelude.{find}
 use Rattle.api_types.specs.declared.network.NetworkRow.{NetworkRow}
-use Rattle.plane_types.specs.Live.{wire_of}
-use Rattle.plane_types.specs.Meaning.{is_wire, network_on as network_on_wire}
+use Rattle.api_types.specs.Wires.{wire_of, is_wire, network_on as network_on_wire}
 use Rattle.plane_rows.proofs.live.network_on.Given as goal
 
 -- none so far is on the wire

@@ -2,8 +2,8 @@ use Rattle.std.proofs.Common.{◌≡◌, ◌==◌, drop}
 use Rattle.std.specs.Prelude.{find}
 use Rattle.std.specs.List.{filter_map}
 use Rattle.api_types.specs.declared.floating.FloatingRow.{FloatingRow}
-use Rattle.plane_types.specs.RouterRows.{float_by}
-use Rattle.plane_types.specs.Routing.{Float}
+use Rattle.api_types.specs.RouterRows.{float_by}
+use Rattle.api_types.specs.RouterViews.{Float}
 use Rattle.plane_rows.proofs.routers.floating_for.Given as goal
 
 -- none so far is sought

@@ -3,7 +3,7 @@ use Rattle.std.specs.Prelude.{not}
 use Rattle.std.specs.List.{filter, list_any}
 use Rattle.api_types.specs.Owners.{is_interface as interface_of}
 use Rattle.api_types.specs.declared.port.PortRow.{PortRow}
-use Rattle.plane_types.specs.RouterRows.{is_leg_of}
+use Rattle.api_types.specs.RouterRows.{is_leg_of}
 use Rattle.plane_rows.proofs.routers.has_live_gateway.Given as goal
 
 -- no port of the router so far is a gateway port

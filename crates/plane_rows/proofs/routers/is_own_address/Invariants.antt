@@ -1,8 +1,8 @@
 use Rattle.std.proofs.Common.{◌≡◌, drop}
 use Rattle.std.specs.List.{filter, list_any}
 use Rattle.api_types.specs.declared.port.PortRow.{PortRow}
-use Rattle.plane_types.specs.Holders.{holds as holds_address}
-use Rattle.plane_types.specs.RouterRows.{is_leg_of}
+use Rattle.api_types.specs.Holders.{holds as holds_address}
+use Rattle.api_types.specs.RouterRows.{is_leg_of}
 use Rattle.plane_rows.proofs.routers.is_own_address.Given as goal
 
 -- no port of the router so far holds the address

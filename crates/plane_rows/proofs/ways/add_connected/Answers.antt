@@ -4,9 +4,9 @@ use Rattle.std.proofs.lemmas.List.{at_drop_more}
 use Rattle.api_types.specs.RowLists.{RowLists}
 use Rattle.api_types.specs.declared.port.Fixed.{Fixed}
 use Rattle.api_types.specs.declared.port.PortRow.{PortRow}
-use Rattle.plane_types.specs.Ascending.{ascending as in_order}
-use Rattle.plane_types.specs.RouterRows.{by_address, connected_by, subnet_named}
-use Rattle.plane_types.specs.Routing.{Way as TheWay}
+use Rattle.api_types.specs.Ascending.{ascending as in_order}
+use Rattle.api_types.specs.RouterRows.{by_address, connected_by, subnet_named}
+use Rattle.api_types.specs.RouterViews.{Way as TheWay}
 use Rattle.plane_rows.specs.Ways.{way_of}
 use Rattle.plane_rows.proofs.ways.add_connected.Goals as goal
 

@@ -3,8 +3,8 @@ use Rattle.std.specs.Prelude.{flat_map}
 use Rattle.std.specs.List.{filter_map}
 use Rattle.api_types.specs.declared.port.Fixed.{Fixed}
 use Rattle.api_types.specs.declared.port.PortRow.{PortRow}
-use Rattle.plane_types.specs.Ascending.{ascending as in_order}
-use Rattle.plane_types.specs.RouterRows.{by_address, connected_by, subnet_named}
+use Rattle.api_types.specs.Ascending.{ascending as in_order}
+use Rattle.api_types.specs.RouterRows.{by_address, connected_by, subnet_named}
 use Rattle.plane_rows.specs.Ways.{way_of}
 use Rattle.plane_rows.proofs.ways.add_connected.Given as goal
 

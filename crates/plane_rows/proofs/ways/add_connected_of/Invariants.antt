@@ -1,7 +1,7 @@
 use Rattle.std.proofs.Common.{◌≡◌, ◌++◌, drop, map}
 use Rattle.std.specs.List.{filter_map}
 use Rattle.api_types.specs.declared.port.Fixed.{Fixed}
-use Rattle.plane_types.specs.RouterRows.{connected_by, subnet_named}
+use Rattle.api_types.specs.RouterRows.{connected_by, subnet_named}
 use Rattle.plane_rows.specs.Ways.{way_of}
 use Rattle.plane_rows.proofs.ways.add_connected_of.Given as goal
 

@@ -1,5 +1,5 @@
 use Rattle.std.proofs.Common.{◌≡◌, ◌++◌, drop, map}
-use Rattle.plane_types.specs.RouterRows.{extra_way}
+use Rattle.api_types.specs.RouterRows.{extra_way}
 use Rattle.std.specs.List.{filter_map}
 use Rattle.plane_rows.specs.Ways.{way_of}
 use Rattle.plane_rows.proofs.ways.add_extra.Given as goal

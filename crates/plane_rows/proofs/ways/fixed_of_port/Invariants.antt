@@ -1,6 +1,6 @@
 use Rattle.std.proofs.Common.{◌≡◌, drop}
 use Rattle.std.specs.Prelude.{find}
-use Rattle.plane_types.specs.RouterRows.{holds_next as holds_next_hop}
+use Rattle.api_types.specs.RouterRows.{holds_next as holds_next_hop}
 use Rattle.plane_rows.proofs.ways.fixed_of_port.Given as goal
 
 -- the address lies in the subnet of none so far

@@ -1,7 +1,7 @@
 use Rattle.std.proofs.Common.{◌≡◌, drop, map}
 use Rattle.std.specs.Prelude.{find, flat_map}
 use Rattle.api_types.specs.declared.port.PortRow.{PortRow}
-use Rattle.plane_types.specs.RouterRows.{holds_next as holds_next_hop}
+use Rattle.api_types.specs.RouterRows.{holds_next as holds_next_hop}
 use Rattle.plane_rows.proofs.ways.fixed_toward.Given as goal
 
 -- the address lies in no subnet of a port so far

@@ -1,6 +1,6 @@
 use Rattle.std.proofs.Common.{◌≡◌, ◌++◌, drop, map}
 use Rattle.std.specs.List.{filter}
-use Rattle.plane_types.specs.RouterRows.{is_leg_of}
+use Rattle.api_types.specs.RouterRows.{is_leg_of}
 use Rattle.plane_rows.proofs.ways.legs.Given as goal
 
 -- the ports so far, and those that are left, are all

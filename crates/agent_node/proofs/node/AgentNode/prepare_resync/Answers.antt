@@ -1,6 +1,6 @@
 use Rattle.std.proofs.Common.{sym, subst}
-use Rattle.l2_agent.specs.Retagged.{AreTags}
-use Rattle.agent_node.proofs.TagLemmas.{are_tags}
+use Rattle.plane_types.specs.Retagged.{AreTags}
+use Rattle.plane_types.proofs.RealisedTags.{are_tags}
 use Rattle.agent_node.proofs.node.AgentNode.prepare_resync.Goals as goal
 
 pub make-requires-clause-tags : goal.make-requires-clause-tags

@@ -2,8 +2,8 @@ use Rattle.std.proofs.Common.{◌≡◌, ◌∙◌, ap, List, sym, subst}
 use Rattle.plane_types.specs.Placed.{IsPlaced}
 use Rattle.plane_types.specs.Realises.{Realises}
 use Rattle.plane_types.specs.declared.entry.Entry.{Entry}
-use Rattle.agent_node.specs.Node.{Node, Ready}
-use Rattle.agent_node.proofs.PlacedLemmas.{stay_placed}
+use Rattle.plane_types.specs.Node.{Node, Ready}
+use Rattle.plane_types.proofs.PlacedLemmas.{stay_placed}
 use Rattle.agent_node.proofs.node.AgentNode.put.Goals as goal
 
 pub invariant_of-self : goal.invariant_of-self

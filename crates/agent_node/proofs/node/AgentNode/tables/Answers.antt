@@ -1,6 +1,6 @@
 use Rattle.std.proofs.Common.{ap, subst}
 use Rattle.host_plane.specs.Ordered.{AreOrdered}
-use Rattle.agent_node.specs.Node.{Node}
+use Rattle.plane_types.specs.Node.{Node}
 use Rattle.agent_node.proofs.AscendingLemmas.{are_ordered}
 use Rattle.agent_node.proofs.node.AgentNode.tables.Goals as goal
 

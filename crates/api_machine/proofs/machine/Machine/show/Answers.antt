@@ -4,7 +4,7 @@ use Rattle.api_types.specs.Printed.{reply_of}
 use Rattle.api_types.specs.declared.kind.Kind.TheVariants.{Port}
 use Rattle.api_types.specs.declared.port.PortRow.{PortRow}
 use Rattle.api_policy.specs.Visibility.{sees_port}
-use Rattle.api_shown.specs.Ports.{port_members}
+use Rattle.api_policy.specs.Ports.{port_members}
 use Rattle.api_steps.specs.Reads.{row_told}
 use Rattle.api_steps.specs.State.{State}
 use Rattle.api_steps.specs.Step.{row_shown}

@@ -4,7 +4,7 @@ use Rattle.api_types.specs.Consistent.{IsConsistent}
 use Rattle.api_types.specs.Printed.{reply_of}
 use Rattle.api_types.specs.Rows.{after}
 use Rattle.net_settings.specs.Defaults.{default_hosts, default_parts}
-use Rattle.api_check.specs.Carrying.{carries}
+use Rattle.api_ml2.specs.Carrying.{carries}
 use Rattle.api_machine.specs.Plan.{PlansAs}
 use Rattle.api_steps.proofs.StepHeld.{step_held}
 use Rattle.api_steps.specs.Holdable.{AreHoldable}

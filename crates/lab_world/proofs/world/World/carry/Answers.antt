@@ -7,7 +7,7 @@ use Rattle.plane_types.specs.declared.ask.LabAnswer.TheVariants.{Seen}
 use Rattle.plane_types.specs.declared.ask.LabCall.TheVariants.{Frames}
 use Rattle.plane_types.specs.declared.ask.Reply.TheVariants.{LabDone}
 use Rattle.plane_types.specs.declared.verdict.Verdict.{Verdict}
-use Rattle.agent_node.specs.Node.{Node, host_of}
+use Rattle.plane_types.specs.Node.{Node, host_of}
 use Rattle.lab_world.specs.Lab.{WorldState, event_refusal, lab_outcome}
 use Rattle.lab_world.specs.World.{ByLab, IsHandled}
 use Rattle.lab_world.proofs.HostLaws.{added_seen, frames_handled, fresh_few, fresh_placed, kept_hosts, names_differ, reserved_hosts, reserved_seen}

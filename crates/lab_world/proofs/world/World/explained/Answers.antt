@@ -2,7 +2,7 @@ use Rattle.std.proofs.Common.{◌∙◌, ◌≡◌, ap, map, subst, sym}
 use Rattle.plane_types.specs.Told.{rows_verdict}
 use Rattle.plane_types.specs.declared.ask.LabAnswer.TheVariants.{Seen}
 use Rattle.plane_types.specs.declared.ask.LabCall.TheVariants.{Explain}
-use Rattle.agent_node.specs.Node.{host_of}
+use Rattle.plane_types.specs.Node.{host_of}
 use Rattle.lab_world.specs.Lab.{Answered, WorldState, event_refusal, lab_outcome}
 use Rattle.lab_world.proofs.HostLaws.{entries_joined, explained_told}
 use Rattle.lab_world.proofs.world.World.explained.Goals as goal

@@ -4,7 +4,7 @@ use Rattle.api_types.specs.RowLists.{RowLists}
 use Rattle.api_types.specs.Rows.{no_rows}
 use Rattle.net_settings.specs.Defaults.{default_hosts}
 use Rattle.api_steps.specs.State.{State}
-use Rattle.agent_node.specs.Node.{Node, started}
+use Rattle.plane_types.specs.Node.{Node, started}
 use Rattle.lab_world.specs.Hosts.{AreHosts}
 use Rattle.lab_world.proofs.HostLaws.{first_hosts, first_seen, no_rows_holdable}
 use Rattle.lab_world.proofs.world.World.fresh.Goals as goal

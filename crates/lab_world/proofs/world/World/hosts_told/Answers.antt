@@ -1,7 +1,7 @@
 use Rattle.std.proofs.Common.{◌∙◌, ◌≡◌, map, subst}
 use Rattle.plane_types.specs.declared.ask.LabAnswer.TheVariants.{Hosts}
 use Rattle.plane_types.specs.declared.ask.LabCall.TheVariants.{Hosts as HostsCall}
-use Rattle.agent_node.specs.Node.{host_of}
+use Rattle.plane_types.specs.Node.{host_of}
 use Rattle.lab_world.specs.Lab.{Answered, WorldState, lab_outcome}
 use Rattle.lab_world.proofs.HostLaws.{hosts_answered, states_told}
 use Rattle.lab_world.proofs.world.World.hosts_told.Goals as goal

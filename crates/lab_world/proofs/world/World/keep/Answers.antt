@@ -3,12 +3,12 @@ use Rattle.api_types.specs.Consistent.{IsConsistent}
 use Rattle.api_types.specs.RowLists.{RowLists}
 use Rattle.api_types.specs.Rows.{after}
 use Rattle.net_settings.specs.Defaults.{default_hosts}
-use Rattle.api_check.specs.Carrying.{carries}
+use Rattle.api_ml2.specs.Carrying.{carries}
 use Rattle.api_steps.specs.Holdable.{AreHoldable}
 use Rattle.api_steps.specs.State.{State}
 use Rattle.keeper_core.specs.Counts.{Tells}
-use Rattle.host_fleet.specs.Steps.{AreFor, ArePut, ready_for}
-use Rattle.agent_node.specs.Node.{host_of}
+use Rattle.lab_world.specs.Steps.{AreFor, ArePut, ready_for}
+use Rattle.plane_types.specs.Node.{host_of}
 use Rattle.lab_world.specs.Hosts.{AreHosts}
 use Rattle.lab_world.specs.Lab.{WorldState}
 use Rattle.lab_world.specs.World.{moved}

@@ -1,0 +1,218 @@
+ghost use Rattle.std.specs.Prelude.{◌≡◌, nat_le, count_by};
+ghost use Rattle.std.specs.List.{list_any, list_all};
+ghost use Rattle.api_types.specs.Lists.{stands_so, if_some};
+ghost use Rattle.api_types.specs.Table.{ident_eq};
+ghost use Rattle.api_types.specs.Owners.{is_dhcp_of as dhcp_port_of, is_port_of as port_of};
+ghost use Rattle.api_types.specs.Consistent.Services.{wants_dhcp as wants_of, holds_count as count_in, leases as leases_of, is_leased as leased_in, is_gateway_of as gateway_port_of, is_named_gateway as gateway_named_by, wanted_gateways as wanted_of, holds_just as just, is_port_for as serves_floating};
+ghost use Rattle.api_check_services.specs.ServiceTests.{network_served, dhcp_serves, router_port_serves, port_serves, router_served, floating_served};
+
+use api_types::{
+    Fixed, FloatingRow, Gateway, Id, NetworkRow, PortRow, RouterRow, Rows, Shared, SubnetRow, Vif,
+    device_is, is_dhcp, is_floating, is_gateway, is_interface, is_own_port, is_port_of,
+    is_router_port,
+};
+use net_addr::{Addr, Addr4};
+
+fn is_dhcp_of(network: Id, port: &PortRow) -> bool
+    ensures { result ≡ dhcp_port_of network port.now }
+{
+    network == port.network && is_dhcp(&port.owner)
+}
+
+fn dhcp_ports(ports: &[Shared<PortRow>], network: Id) -> usize
+    ensures { result ≡ count_by (dhcp_port_of network) ports.now }
+{
+    ports
+        .iter()
+        .filter(|port| is_dhcp_of(network, port))
+        .count()
+}
+
+fn wants_dhcp(subnets: &[Shared<SubnetRow>], network: Id) -> bool
+    ensures { result ≡ wants_of subnets.now network }
+{
+    subnets
+        .iter()
+        .any(|subnet| network == subnet.network && subnet.dhcp)
+}
+
+/// Whether a network has as many DHCP ports as it should: one where a subnet of it has DHCP enabled,
+/// and else none. Its cost grows with the ports and the subnets.
+pub fn is_served_network(rows: &Rows, network: &NetworkRow) -> bool
+    ensures { result ≡ network_served rows.now network.now }
+{
+    let wanted = if wants_dhcp(rows.subnets().rows(), network.id) {
+        1
+    } else {
+        0
+    };
+    dhcp_ports(rows.ports().rows(), network.id) == wanted
+}
+
+fn holds_count(subnet: Id, port: &PortRow) -> usize
+    ensures { result ≡ count_in subnet port.now }
+{
+    port.fixed
+        .as_slice()
+        .iter()
+        .filter(|fixed| subnet == fixed.subnet)
+        .count()
+}
+
+fn leases(port: &PortRow, subnet: &SubnetRow) -> bool
+    ensures { result ≡ leases_of port.now subnet.now }
+{
+    !(port.network == subnet.network && subnet.dhcp) || holds_count(subnet.id, port) == 1
+}
+
+fn leases_all(subnets: &[Shared<SubnetRow>], port: &PortRow) -> bool
+    ensures { result ≡ list_all (leases_of port.now) subnets.now }
+{
+    subnets.iter().all(|subnet| leases(port, subnet))
+}
+
+fn is_leased(subnets: &[Shared<SubnetRow>], fixed: &Fixed) -> bool
+    ensures { result ≡ leased_in subnets.now fixed.now }
+{
+    subnets
+        .iter()
+        .any(|subnet| fixed.subnet == subnet.id && subnet.dhcp)
+}
+
+fn are_leased(subnets: &[Shared<SubnetRow>], port: &PortRow) -> bool
+    ensures { result ≡ list_all (leased_in subnets.now) port.now.fixed }
+{
+    port.fixed
+        .as_slice()
+        .iter()
+        .all(|fixed| is_leased(subnets, fixed))
+}
+
+fn serves_dhcp(subnets: &[Shared<SubnetRow>], port: &PortRow) -> bool
+    ensures { result ≡ dhcp_serves subnets.now port.now }
+{
+    !is_dhcp(&port.owner)
+        || (leases_all(subnets, port) && (are_leased(subnets, port) && !port.secured))
+}
+
+fn names_router(routers: &[Shared<RouterRow>], port: &PortRow) -> bool
+    ensures { result ≡ list_any (λ r. port_of r port.now) routers.now }
+{
+    routers.iter().any(|router| is_port_of(router, port))
+}
+
+fn serves_router(routers: &[Shared<RouterRow>], port: &PortRow) -> bool
+    ensures { result ≡ router_port_serves routers.now port.now }
+{
+    (!is_router_port(&port.owner) || (names_router(routers, port) && !port.secured))
+        && ((!is_interface(&port.owner) || port.fixed.len() == 1)
+            && (!is_gateway(&port.owner) || !port.fixed.is_empty()))
+}
+
+/// Whether a port of a service is in order. A DHCP port holds one address in each subnet of its network
+/// with DHCP enabled and no other; a router's port names a router that is there, an interface has one
+/// address and a gateway at least one; none of these and no floating address's own port has port
+/// security. Its cost grows with the subnets, the routers and the floating addresses.
+pub fn is_serving_port(rows: &Rows, port: &PortRow) -> bool
+    ensures { result ≡ port_serves rows.now port.now }
+{
+    serves_dhcp(rows.subnets().rows(), port)
+        && (serves_router(rows.routers().rows(), port)
+            && (!is_own_port(rows.floatings().rows(), port) || !port.secured))
+}
+
+fn is_gateway_of(router: Id, port: &PortRow) -> bool
+    ensures { result ≡ gateway_port_of router port.now }
+{
+    is_gateway(&port.owner) && device_is(&port.device, router)
+}
+
+fn gateway_ports(ports: &[Shared<PortRow>], router: Id) -> usize
+    ensures { result ≡ count_by (gateway_port_of router) ports.now }
+{
+    ports
+        .iter()
+        .filter(|port| is_gateway_of(router, port))
+        .count()
+}
+
+fn wanted_gateways(gateway: &Option<Gateway>) -> usize
+    ensures { result ≡ wanted_of gateway.now }
+{
+    match gateway {
+        Some(_) => 1,
+        None => 0,
+    }
+}
+
+fn is_named_gateway(router: &RouterRow, gateway: Gateway, port: &PortRow) -> bool
+    ensures { result ≡ gateway_named_by router.now gateway port.now }
+{
+    is_gateway_of(router.id, port) && (gateway.network == port.network && gateway.port == port.id)
+}
+
+fn has_named_gateway(ports: &[Shared<PortRow>], router: &RouterRow, gateway: Gateway) -> bool
+    ensures { result ≡ list_any (gateway_named_by router.now gateway) ports.now }
+{
+    ports
+        .iter()
+        .any(|port| is_named_gateway(router, gateway, port))
+}
+
+fn has_gateway(ports: &[Shared<PortRow>], router: &RouterRow) -> bool
+    ensures { result ≡ if_some (λ g. list_any (gateway_named_by router.now g) ports.now) router.now.gateway }
+{
+    match router.gateway {
+        Some(gateway) => has_named_gateway(ports, router, gateway),
+        None => true,
+    }
+}
+
+/// Whether a router with a gateway has exactly one gateway port, the one that it names, on that
+/// network, and one without a gateway none. Its cost grows with the ports.
+pub fn is_served_router(rows: &Rows, router: &RouterRow) -> bool
+    ensures { result ≡ router_served rows.now.ports router.now }
+{
+    let ports = rows.ports().rows();
+    gateway_ports(ports, router.id) == wanted_gateways(&router.gateway)
+        && has_gateway(ports, router)
+}
+
+fn holds_just(address: Addr4, fixed: &[Fixed]) -> bool
+    ensures { result ≡ just address fixed.now }
+{
+    fixed.len() == 1 && fixed[0].address == Addr::V4(address)
+}
+
+fn is_port_for(floating: &FloatingRow, port: &PortRow) -> bool
+    ensures { result ≡ serves_floating floating.now port.now }
+{
+    floating.network == port.network
+        && is_floating(&port.owner)
+        && holds_just(floating.address, port.fixed.as_slice())
+        && port.vif == Vif::Unbound
+}
+
+fn has_port(ports: &[Shared<PortRow>], floating: &FloatingRow) -> bool
+    ensures { result ≡ stands_so (λ p. p.id) floating.now.own_port (serves_floating floating.now) ports.now }
+{
+    ports.iter().any(|port| floating.own_port == port.id && is_port_for(floating, port))
+}
+
+fn owns_alone(floatings: &[Shared<FloatingRow>], floating: &FloatingRow) -> bool
+    ensures { result ≡ nat_le (count_by (λ g. ident_eq floating.now.own_port g.own_port) floatings.now) 1 }
+{
+    floatings
+        .iter()
+        .filter(|other| floating.own_port == other.own_port)
+        .count()
+        <= 1
+}
+
+/// Whether the own port of a floating address is no other's, is on its network, has that owner, holds
+/// just its address and is unbound. Its cost grows with the ports and the floating addresses.
+pub fn is_served_floating(rows: &Rows, floating: &FloatingRow) -> bool
+    ensures { result ≡ floating_served rows.now floating.now }
+{
+    owns_alone(rows.floatings().rows(), floating) && has_port(rows.ports().rows(), floating)
+}

@@ -1,0 +1,4 @@
+pub mod Carrying
+pub mod Binding
+pub mod Numbers
+pub mod Marks

@@ -1,0 +1,39 @@
+//! Which segments a host can carry.
+
+ghost use Rattle.std.specs.Prelude.{◌≡◌};
+ghost use Rattle.std.specs.List.{list_any};
+ghost use Rattle.std.specs.Str.{bytes_eq};
+ghost use Rattle.api_ml2.specs.Carrying.{can_carry as carried_by, carries as carried_at};
+
+use api_types::Segment;
+use net_addr::Text;
+use net_settings::Host;
+
+fn is_wired(host: &Host, physical: &Text) -> bool
+    ensures { result ≡ list_any (bytes_eq physical.now) host.now.physical }
+{
+    host.physical
+        .as_slice()
+        .iter()
+        .any(|other| physical == other)
+}
+
+fn can_carry(host: &Host, segment: &Segment) -> bool
+    ensures { result ≡ carried_by host.now segment.now }
+{
+    match segment {
+        Segment::Local => true,
+        Segment::Flat { physical } => is_wired(host, physical),
+        Segment::Vlan { physical, tag: _ } => is_wired(host, physical),
+        Segment::Vxlan { number: _ } => host.vxlan,
+    }
+}
+
+/// Whether a host of this name is there that can carry the segment. Its cost grows with the hosts.
+pub fn carries(hosts: &[Host], name: &Text, segment: &Segment) -> bool
+    ensures { result ≡ carried_at hosts.now name.now segment.now }
+{
+    hosts
+        .iter()
+        .any(|host| host.name == *name && can_carry(host, segment))
+}

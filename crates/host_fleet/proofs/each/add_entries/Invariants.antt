@@ -1,7 +1,0 @@
-use Rattle.std.proofs.Common.{◌≡◌, ◌≤◌, ◌++◌, drop, length, take}
-use Rattle.host_fleet.proofs.each.add_entries.Given as goal
-
--- those so far are added, and there is room for the others
-abbrev pub invariant-loop-entry : goal.invariant-loop-entry
-invariant-loop-entry l =
-    (l.entries.items ≡ l.fn.entries.items ++ take l.entry-index l.more) × (length (drop l.entry-index l.more) ≤ l.entries.spare)

@@ -1,7 +1,0 @@
-use Rattle.host_fleet.specs.Steps.{IsKeptAt}
-use Rattle.host_fleet.proofs.SoFar.{SoFar}
-use Rattle.host_fleet.proofs.each.keep_all.Given as goal
-
--- the hosts so far have what they made
-abbrev pub invariant-loop-at : goal.invariant-loop-at
-invariant-loop-at l = SoFar (IsKeptAt l.fresh) l.fn.nodes l.nodes l.at

@@ -1,0 +1,12 @@
+use Rattle.std.proofs.Common.{◌≡◌, ◌≤◌, ◌++◌, drop, length}
+use Rattle.std.specs.List.{filter_map}
+use Rattle.plane_types.specs.Told.{made_at}
+use Rattle.plane_types.specs.Node.{with_entries}
+use Rattle.lab_world.proofs.each.add_made.Given as goal
+
+-- those so far are added, with those that are left they are all, and there is room for these
+abbrev pub invariant-loop-made : goal.invariant-loop-made
+invariant-loop-made l =
+    (l.node ≡ with_entries l.fn.node l.node.entries l.node.spare)
+    × (l.node.entries ++ filter_map (made_at l.at) (drop l.made-index l.fresh) ≡ l.fn.node.entries ++ filter_map (made_at l.at) l.fresh)
+    × (length (drop l.made-index l.fresh) ≤ l.node.spare)

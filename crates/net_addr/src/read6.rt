@@ -1,0 +1,319 @@
+//! Texts of IPv6 addresses.
+ghost use Rattle.std.specs.Prelude.{◌≡◌, ℕ, ◌+◌, ◌-◌, ◌*◌, ◌<◌, ◌≤◌, [], ◌++◌, length, IfOk, IfErr, OnErr};
+ghost use Rattle.net_addr.specs.Spelling.{SpellsAddress6, IsAddress6Text, IsLongestStart, end_parts, group_count, groups_before, row_parts, shortened_parts};
+ghost use Rattle.net_addr.specs.Reading.{IsRead, SpellsBehind, SpellsShortened, SpellsWhole, better_of};
+
+use crate::address::Addr6;
+use crate::read::ADDRESS;
+use crate::spelling::{BadAddress, Part, read_parts};
+use std::marker::Model;
+
+// Eight groups, each with a colon behind it.
+const GROUPS: [Part; 16] = [
+    Part::Group,
+    Part::Mark(b':'),
+    Part::Group,
+    Part::Mark(b':'),
+    Part::Group,
+    Part::Mark(b':'),
+    Part::Group,
+    Part::Mark(b':'),
+    Part::Group,
+    Part::Mark(b':'),
+    Part::Group,
+    Part::Mark(b':'),
+    Part::Group,
+    Part::Mark(b':'),
+    Part::Group,
+    Part::Mark(b':'),
+];
+
+// The parts of one form of text, of which the longest has 19: six groups and an IPv4 text.
+#[derive(Drop)]
+struct Form {
+    parts: [Part; 19],
+    len: usize,
+}
+
+impl Model for Form {
+    ghost use Rattle.std.specs.Prelude.{◌≤◌, List, take};
+    ghost use Rattle.net_addr.specs.declared.spelling.Part.{Part};
+
+    ghost Value = { List Part };
+
+    ghost view = { λ f. take f.len f.parts };
+
+    ghost invariant = { λ f. f.len ≤ 19 };
+}
+
+impl Form {
+    fn new() -> Form
+        ensures { result ≡ [] }
+    {
+        Form {
+            parts: [Part::Group; 19],
+            len: 0,
+        }
+    }
+
+    fn as_slice(&self) -> &[Part]
+        ensures { result.now ≡ self.now }
+    {
+        &self.parts[..self.len]
+    }
+
+    fn push_all(&mut self, parts: &[Part])
+        requires { length self.old + length parts.now ≤ 19 }
+        ensures { self.new ≡ self.old ++ parts.now }
+    {
+        let len = self.len + parts.len();
+        self.parts[self.len..len].copy_from_slice(parts);
+        self.len = len;
+    }
+
+    // Groups with colons between.
+    fn push_row(&mut self, count: u8)
+        requires few { count ≤ 8 }
+        requires room { length self.old + (2 * count - 1) ≤ 19 }
+        ensures { self.new ≡ self.old ++ row_parts count }
+    {
+        let len = (2 * usize::from(count)).saturating_sub(1);
+        self.push_all(&GROUPS[..len]);
+    }
+
+    // Groups with colons between, and an IPv4 text behind them if there is a tail.
+    fn push_end(&mut self, count: u8, has_tail: bool)
+        requires { length self.old + 2 * count ≤ 2 * group_count has_tail }
+        ensures { self.new ≡ self.old ++ end_parts has_tail count }
+    {
+        if has_tail {
+            self.push_all(&GROUPS[..2 * usize::from(count)]);
+            self.push_all(&ADDRESS);
+        } else {
+            self.push_row(count);
+        }
+    }
+}
+
+// How many groups there are: an IPv4 text stands for the last two of eight.
+fn group_count(has_tail: bool) -> u8
+    ensures { result ≡ group_count has_tail }
+{
+    if has_tail { 6 } else { 8 }
+}
+
+// All groups.
+fn whole(has_tail: bool) -> Form
+    ensures { result ≡ end_parts has_tail (group_count has_tail) }
+{
+    let mut form = Form::new();
+    form.push_end(group_count(has_tail), has_tail);
+    form
+}
+
+// `::` between groups, for all the others.
+fn shortened(left: u8, right: u8, has_tail: bool) -> Form
+    requires { left + right < group_count has_tail }
+    ensures { result ≡ shortened_parts has_tail left right }
+{
+    let count = group_count(has_tail) - (left + right);
+    let mut form = Form::new();
+    form.push_row(left);
+    form.push_all(&[Part::Mark(b':'), Part::Gap(count)]);
+    form.push_end(right, has_tail);
+    form
+}
+
+// The address of a text with all groups.
+fn read_whole(has_tail: bool, text: &[u8]) -> Result<u128, BadAddress>
+    ensures { IsRead (SpellsWhole has_tail) text.now result }
+{
+    let form = whole(has_tail);
+    read_parts(form.as_slice(), text)
+}
+
+// The address of a text with `::` behind so many groups.
+fn read_behind(left: u8, has_tail: bool, text: &[u8]) -> Result<u128, BadAddress>
+    requires { left < group_count has_tail }
+    ensures { IsRead (SpellsBehind has_tail left) text.now result }
+{
+    let mut at = 0;
+    for right in 0..group_count(has_tail) - left {
+        let form = shortened(left, right, has_tail);
+        match read_parts(form.as_slice(), text) {
+            Ok(value) => return Ok(value),
+            Err(bad) => at = at.max(bad.at),
+        }
+    }
+    Err(BadAddress { at })
+}
+
+// The address of a text with `::`.
+fn read_shortened(has_tail: bool, text: &[u8]) -> Result<u128, BadAddress>
+    ensures { IsRead (SpellsShortened has_tail) text.now result }
+{
+    let mut at = 0;
+    for left in 0..group_count(has_tail) {
+        match read_behind(left, has_tail, text) {
+            Ok(value) => return Ok(value),
+            Err(bad) => at = at.max(bad.at),
+        }
+    }
+    Err(BadAddress { at })
+}
+
+// The better of two readings of one text: an address, or else the longer start.
+fn better(a: Result<u128, BadAddress>, b: Result<u128, BadAddress>) -> Result<u128, BadAddress>
+    ensures { result ≡ better_of a b }
+{
+    match (a, b) {
+        (Ok(value), _) => Ok(value),
+        (Err(_), Ok(value)) => Ok(value),
+        (Err(x), Err(y)) => Err(BadAddress { at: x.at.max(y.at) }),
+    }
+}
+
+// The address of a text of any form.
+fn read_forms(text: &[u8]) -> Result<u128, BadAddress>
+    ensures { IsRead SpellsAddress6 text.now result }
+{
+    let groups = better(read_whole(false, text), read_shortened(false, text));
+    let tailed = better(read_whole(true, text), read_shortened(true, text));
+    better(groups, tailed)
+}
+
+impl Addr6 {
+    /// Reads eight groups of one to four hexadecimal digits, in either case, with colons between
+    /// them, where `::` may stand once for one or more groups of zeros, and the last two groups may
+    /// be an IPv4 text (RFC 4291, 2.2; RFC 3986, 3.2.2). A zone isn't read. Takes no memory; its
+    /// cost grows with the text up to the first bad byte.
+    pub fn read(text: &[u8]) -> Result<Addr6, BadAddress>
+        ensures ok { IfOk result (λ a. SpellsAddress6 text.now a) }
+        ensures only { IfOk result (λ a. (n : ℕ) → SpellsAddress6 text.now n → n ≡ a) }
+        ensures refused { OnErr result (¬ (IsAddress6Text text.now)) }
+        ensures at { IfErr result (λ e. IsLongestStart IsAddress6Text text.now e.at) }
+    {
+        let number = read_forms(text)?;
+        Ok(Addr6(number))
+    }
+}
+
+#[cfg(test)]
+mod tests {
+    use super::*;
+
+    // RFC 4291, 2.2 and its neighbours: the number, or the place.
+    const TEXTS: [(&str, Result<u128, usize>); 47] = [
+        ("1::", Ok(0x1_0000_0000_0000_0000_0000_0000_0000)),
+        ("::1.2.3.4", Ok(0x102_0304)),
+        ("::1.2.3.4", Ok(0x102_0304)),
+        (
+            "1:2:3:4:5::1.2.3.4",
+            Ok(0x1_0002_0003_0004_0005_0000_0102_0304),
+        ),
+        ("FF01::101", Ok(0xff01_0000_0000_0000_0000_0000_0000_0101)),
+        ("0:0:0:0:0:0:0:0", Ok(0x0)),
+        (
+            "0db8:0db8::ab:255.255.255.255",
+            Ok(0xdb8_0db8_0000_0000_0000_00ab_ffff_ffff),
+        ),
+        (
+            "0db8::ab:ABC:192.0.2.33",
+            Ok(0xdb8_0000_0000_0000_00ab_0abc_c000_0221),
+        ),
+        (
+            "ab:1:1:ffff:ABC:ABC:255.255.255.255",
+            Ok(0xab_0001_0001_ffff_0abc_0abc_ffff_ffff),
+        ),
+        ("0::1.2.3.4", Ok(0x102_0304)),
+        (
+            "0db8:ffff:ab:ffff::1.2.3.4",
+            Ok(0xdb8_ffff_00ab_ffff_0000_0000_0102_0304),
+        ),
+        (
+            "1:0db8::255.255.255.255",
+            Ok(0x1_0db8_0000_0000_0000_0000_ffff_ffff),
+        ),
+        (
+            "ffff::ABC:1.2.3.4",
+            Ok(0xffff_0000_0000_0000_0000_0abc_0102_0304),
+        ),
+        (
+            "1:0:0:255:1:1::0",
+            Ok(0x1_0000_0000_0255_0001_0001_0000_0000),
+        ),
+        (
+            "0:ab:ffff::ABC:ab:ABC:1",
+            Ok(0xab_ffff_0000_0abc_00ab_0abc_0001),
+        ),
+        ("ABC::ab", Ok(0xabc_0000_0000_0000_0000_0000_0000_00ab)),
+        (
+            "1:ab:0:1:0:ffff:ffff::",
+            Ok(0x1_00ab_0000_0001_0000_ffff_ffff_0000),
+        ),
+        (
+            "ab:0db8:ffff::ffff:ffff",
+            Ok(0xab_0db8_ffff_0000_0000_0000_ffff_ffff),
+        ),
+        (
+            "ffff:0db8:ABC::",
+            Ok(0xffff_0db8_0abc_0000_0000_0000_0000_0000),
+        ),
+        ("::0db8:0db8", Ok(0xdb8_0db8)),
+        ("::ABC:0:abc:ab:0db8:1", Ok(0xabc_0000_0abc_00ab_0db8_0001)),
+        (
+            "0db8:ABC::0db8",
+            Ok(0xdb8_0abc_0000_0000_0000_0000_0000_0db8),
+        ),
+        (
+            "0:ab:1:ab:ffff:0db8::ab",
+            Ok(0xab_0001_00ab_ffff_0db8_0000_00ab),
+        ),
+        ("::0db8:00", Ok(0xdb8_0000)),
+        (
+            "2001:DB8:0:0:1:0:0:1",
+            Ok(0x2001_0db8_0000_0000_0001_0000_0000_0001),
+        ),
+        ("::", Ok(0x0)),
+        ("::1", Ok(0x1)),
+        (
+            "1:2:3:4:5:6:7:8",
+            Ok(0x1_0002_0003_0004_0005_0006_0007_0008),
+        ),
+        (
+            "1:2:3:4:5:6:7::",
+            Ok(0x1_0002_0003_0004_0005_0006_0007_0000),
+        ),
+        ("::2:3:4:5:6:7:8", Ok(0x2_0003_0004_0005_0006_0007_0008)),
+        (
+            "1:2:3:4:5:6:1.2.3.4",
+            Ok(0x1_0002_0003_0004_0005_0006_0102_0304),
+        ),
+        ("::ffff:129.144.52.38", Ok(0xffff_8190_3426)),
+        ("1:2:3:4:5:6::1.2.3.4", Err(14)),
+        ("1::2::3", Err(5)),
+        ("", Err(0)),
+        (":1", Err(1)),
+        ("1:", Err(2)),
+        (":::", Err(2)),
+        ("12345::", Err(4)),
+        ("1:2:3:4:5:6:7:8:9", Err(15)),
+        ("fe80::1%eth0", Err(7)),
+        ("::1:2:3:4:5:6:7:8", Err(15)),
+        ("::13.1.68.3", Ok(0xd01_4403)),
+        ("::256.1.1.1", Err(5)),
+        ("::01.2.3.4", Err(4)),
+        ("::abc.1.2.3", Err(5)),
+        ("", Err(0)),
+    ];
+
+    #[test]
+    fn reads(rt: HostRuntime) {
+        for (text, wanted) in TEXTS {
+            match Addr6::read(text.as_bytes()) {
+                Ok(address) => assert_eq!(rt; Ok(address.0), wanted, "{text}"),
+                Err(bad) => assert_eq!(rt; Err(bad.at), wanted, "{text}"),
+            }
+        }
+    }
+}

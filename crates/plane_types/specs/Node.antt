@@ -1,0 +1,65 @@
+-- One host's agents: the rows that they were last given, the tables wired from these, and the host's tracked entries.
+use Rattle.std.specs.Prelude.{◌≡◌, ℕ, List, [], Option, Some}
+use Rattle.std.specs.List.{filter}
+use Rattle.api_types.specs.Consistent.{IsConsistent}
+use Rattle.api_types.specs.RowLists.{RowLists}
+use Rattle.plane_types.specs.Hosts.{Host}
+use Rattle.plane_types.specs.Placed.{IsPlaced, is_placed}
+use Rattle.plane_types.specs.Realises.{Realises}
+use Rattle.plane_types.specs.declared.entry.Entry.{Entry}
+use Rattle.plane_types.specs.declared.table.TagRow.{TagRow}
+use Rattle.plane_types.specs.declared.tables.HostTables.{HostTables}
+use Rattle.plane_types.specs.Wired.{wired}
+
+pub record Node : Type 0 where
+  pub name : List ℕ
+  -- the version that is held, if any
+  pub held : Option ℕ
+  -- the version of the wired rows
+  pub version : ℕ
+  pub rows : RowLists
+  pub tables : HostTables
+  pub entries : List Entry
+  -- how many more entries are taken in without memory
+  pub spare : ℕ
+
+-- as frames see it, with these entries and with its own
+abbrev pub host_with : Node → List Entry → Host
+host_with n entries = record { name = n.name; tables = n.tables; entries = entries }
+
+abbrev pub host_of : Node → Host
+host_of n = host_with n n.entries
+
+-- what is true between any two calls
+pub record Stands (n : Node) : Type 0 where
+  pub consistent : IsConsistent n.rows
+  pub realised : Realises n.rows n.name n.tables
+  pub placed : IsPlaced (host_of n)
+
+-- a host that was given its first rows
+abbrev pub started : List ℕ → ℕ → RowLists → ℕ → Node
+started name version rows spare = record { name = name; held = Some version; version = version; rows = rows; tables = wired rows name []; entries = []; spare = spare }
+
+-- given rows and tables: entries without a tap or router in these go
+abbrev pub given : Node → ℕ → RowLists → HostTables → ℕ → Node
+given n version rows tables spare = record { name = n.name; held = Some version; version = version; rows = rows; tables = tables; entries = filter (is_placed tables) n.entries; spare = spare }
+
+-- given rows anew: networks keep their tags
+abbrev pub resynced : Node → ℕ → RowLists → ℕ → Node
+resynced n version rows spare = given n version rows (wired rows n.name n.tables.tags) spare
+
+abbrev pub with_entries : Node → List Entry → ℕ → Node
+with_entries n entries spare = record { name = n.name; held = n.held; version = n.version; rows = n.rows; tables = n.tables; entries = entries; spare = spare }
+
+-- what a host would be given: rows, and the tables that it makes of them where its tags were these
+pub record Ready : Type 0 where
+  pub name : List ℕ
+  pub version : ℕ
+  pub rows : RowLists
+  pub tables : HostTables
+  pub old : List TagRow
+
+pub record IsReady (r : Ready) : Type 0 where
+  pub consistent : IsConsistent r.rows
+  pub realised : Realises r.rows r.name r.tables
+  pub made : r.tables ≡ wired r.rows r.name r.old

@@ -1,0 +1,27 @@
+-- The tables that a host makes of rows.
+use Rattle.std.specs.Prelude.{ℕ, List}
+use Rattle.api_types.specs.RowLists.{RowLists}
+use Rattle.plane_types.specs.Retagged.{retagged}
+use Rattle.plane_types.specs.TableRows.{bridge_rows, filter_rows, float_rows, inward_rows, lease_rows, neighbour_rows, route_rows, router_rows, set_rows, tap_rows}
+use Rattle.plane_types.specs.declared.table.TagRow.{TagRow}
+use Rattle.plane_types.specs.declared.tables.HostTables.{HostTables}
+
+-- for these tags
+abbrev pub wired_for : RowLists → List ℕ → List TagRow → HostTables
+wired_for rows host tags = record {
+  tags = tags;
+  taps = tap_rows rows host tags;
+  filters = filter_rows rows host;
+  sets = set_rows rows (filter_rows rows host);
+  bridge = bridge_rows rows host tags;
+  inward = inward_rows rows tags;
+  neighbours = neighbour_rows rows host tags;
+  routers = router_rows rows host tags;
+  routes = route_rows rows host;
+  floats = float_rows rows host;
+  leases = lease_rows rows host tags;
+}
+
+-- where its tags were these
+unfoldable pub wired : RowLists → List ℕ → List TagRow → HostTables
+wired rows host old = wired_for rows host (retagged rows host old)

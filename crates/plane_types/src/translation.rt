@@ -1,0 +1,71 @@
+ghost use Rattle.std.specs.Prelude.{◌≡◌, ◌==◌, ◌&&◌, Some, option_map};
+ghost use Rattle.plane_types.specs.Keys.{kind_eq};
+ghost use Rattle.plane_types.specs.Routing.{answers as answers_to, has_choice as may_choose};
+ghost use Rattle.plane_types.specs.Parts.{packet_of, use_if, use_of};
+
+use crate::entry::Entry;
+use crate::frame::{Key, KeyKind};
+use crate::key::is_kind;
+use crate::packet::Packet;
+use api_types::Id;
+use net_addr::Addr4;
+
+/// What a valid translation entry of a router says: the key, and its port at the outer address.
+#[derive(Clone, Copy)]
+pub struct Use {
+    pub key: Key,
+    pub port: u16,
+}
+
+/// What an entry says, where it is a translation of this router with this outer address.
+pub fn use_of_entry(router: Id, outer: Addr4, entry: &Entry) -> Option<Use>
+    ensures { option_map use_of result ≡ use_if router outer entry.now }
+{
+    match *entry {
+        Entry::Snat {
+            router: of,
+            key,
+            outer: at,
+            outer_port,
+        } if router == of && outer == at => Some(Use {
+            key,
+            port: outer_port,
+        }),
+        _ => None,
+    }
+}
+
+/// Whether an entry answers to a packet: of the kind of the answer, to the outer address and port,
+/// from the far end.
+pub fn answers(outer: Addr4, packet: &Packet, entry: &Use) -> bool
+    ensures { result ≡ answers_to (Some outer) (packet_of packet.now) (use_of entry.now) }
+{
+    let key = packet.key();
+    let (sport, dport) = (key.sport, key.dport);
+    let kind = key.reversed().kind;
+    outer == packet.to
+        && is_kind(entry.key.kind, kind)
+        && entry.port == dport
+        && entry.key.to == packet.from
+        && entry.key.dport == sport
+}
+
+/// Whether an entry with the kind and far end of a key has the port.
+pub fn takes(entry: &Use, key: &Key, port: u16) -> bool
+    ensures { result ≡ ((entry.now.port == port) && kind_eq entry.now.key.kind key.now.kind && (entry.now.key.to == key.now.to) && (entry.now.key.dport == key.now.dport)) }
+{
+    entry.port == port
+        && is_kind(entry.key.kind, key.kind)
+        && entry.key.to == key.to
+        && entry.key.dport == key.dport
+}
+
+/// Whether packets of a kind may get another port: TCP, UDP and echoes.
+pub fn has_choice(kind: KeyKind) -> bool
+    ensures { result ≡ may_choose kind }
+{
+    match kind {
+        KeyKind::Tcp | KeyKind::Udp | KeyKind::EchoAsk => true,
+        KeyKind::EchoReply | KeyKind::Proto(_) => false,
+    }
+}

@@ -1,0 +1,130 @@
+ghost use Rattle.std.specs.Prelude.{◌≡◌, IfOk, not, true};
+ghost use Rattle.api_types.specs.Lists.{is_empty};
+ghost use Rattle.api_types.specs.Rows.{Fits, no_rows};
+ghost use Rattle.api_steps.specs.InForm.{IsBody};
+
+use api_machine::Machine;
+use api_types::{
+    Answer, Call, Caller, Change, Form, Given, Id, IdText, Kind, NetworkForm, Refusal, Rows,
+    Segment,
+};
+use net_addr::{OutOfMemory, Seq, Text};
+use std::alloc::Global;
+use std::test::Fail;
+
+// A tenant of a project that has a name.
+fn caller(alloc: Global, project: &str) -> Result<Caller, OutOfMemory>
+    requires { not (is_empty project.now) ≡ true }
+    ensures { IfOk result (λ caller. not (is_empty caller.project) ≡ true) }
+{
+    Ok(Caller {
+        project: Text::of(alloc, project)?,
+        admin: false,
+    })
+}
+
+fn creation(alloc: Global, name: &str) -> Result<Call, OutOfMemory>
+    ensures { IfOk result IsBody }
+{
+    Ok(Call::Create {
+        form: Form::Network(NetworkForm {
+            name: Given::Is(Text::of(alloc, name)?),
+            description: Given::Absent,
+            admin_state_up: Given::Absent,
+            shared: Given::Absent,
+            router_external: Given::Absent,
+            provider_network_type: Given::Absent,
+            provider_physical_network: Given::Absent,
+            provider_segmentation_id: Given::Absent,
+            project_id: Given::Absent,
+            tenant_id: Given::Absent,
+        }),
+    })
+}
+
+fn showing(alloc: Global, id: &str) -> Result<Call, OutOfMemory>
+    ensures { IfOk result IsBody }
+{
+    Ok(Call::Show {
+        kind: Kind::Network,
+        name: IdText {
+            text: Text::of(alloc, id)?,
+            id: Id::read(id.as_bytes()),
+        },
+        fields: Seq::new(alloc),
+    })
+}
+
+/// Plans a network for a project and accepts it.
+pub(crate) fn create(alloc: Global, machine: &mut Machine, project: &str) -> Result<(), Refusal>
+    requires { not (is_empty project.now) ≡ true }
+{
+    let caller = caller(alloc, project)?;
+    let call = creation(alloc, "n")?;
+    let planned = machine.plan(alloc, &caller, &call)?;
+    if let Some(change) = &planned.change {
+        let ready = machine.prepare(alloc, change)?;
+        machine.accept(ready);
+    }
+    Ok(())
+}
+
+/// Puts a change into no rows, and takes it back.
+fn put_in_and_taken_back(alloc: Global, change: &Change) -> Result<(usize, usize), OutOfMemory>
+    requires { Fits no_rows change.now }
+{
+    let mut rows = Rows::empty(alloc)?;
+    rows.apply_change(alloc, change)?;
+    let after = rows.networks().rows().len() + rows.rules().rows().len();
+    rows.undo_change(alloc, change)?;
+    let before = rows.networks().rows().len() + rows.rules().rows().len();
+    Ok((after, before))
+}
+
+#[test]
+fn networks_are_numbered(rt: HostRuntime) -> Result<(), Fail> {
+    let alloc = rt.alloc();
+    let mut machine = Machine::fresh(alloc)?;
+    assert!(rt; create(alloc, &mut machine, "a").is_ok());
+    assert!(rt; create(alloc, &mut machine, "a").is_ok());
+    assert!(rt; create(alloc, &mut machine, "b").is_ok());
+    assert!(rt; machine.version() == 3);
+    let networks = machine.rows().networks().rows();
+    assert!(rt; networks.len() == 3);
+    for (i, ordinal, count, number) in [(0, 1, 6, 1), (1, 1, 7, 2), (2, 2, 6, 3)] {
+        let network = &networks[i];
+        assert!(rt; network.id == Id::make(ordinal, count), "network {i}");
+        let is_number = matches!(&network.segment, Segment::Vxlan { number: n } if *n == number);
+        assert!(rt; is_number, "network {i}");
+    }
+    let rules = machine.rows().rules().rows();
+    assert!(rt; rules.len() == 8 && rules[0].id == Id::make(1, 2) && rules[7].id == Id::make(2, 5));
+    Ok(())
+}
+
+#[test]
+fn a_foreign_network_is_not_found(rt: HostRuntime) -> Result<(), Fail> {
+    let alloc = rt.alloc();
+    let mut machine = Machine::fresh(alloc)?;
+    assert!(rt; create(alloc, &mut machine, "a").is_ok());
+    let call = showing(alloc, "00000001-0000-8000-8000-000000000006")?;
+    let own = machine.plan(alloc, &caller(alloc, "a")?, &call);
+    assert!(rt; matches!(&own, Ok(planned) if matches!(&planned.answer, Answer::One(_))));
+    let foreign = machine.plan(alloc, &caller(alloc, "b")?, &call);
+    assert!(rt; matches!(&foreign, Err(Refusal::NotFound { .. })));
+    Ok(())
+}
+
+#[test]
+fn a_change_is_undone(rt: HostRuntime) -> Result<(), Fail> {
+    let alloc = rt.alloc();
+    let machine = Machine::fresh(alloc)?;
+    let planned = machine.plan(alloc, &caller(alloc, "a")?, &creation(alloc, "n")?);
+    let Ok(planned) = planned else {
+        return Ok(assert!(rt; false, "no plan"));
+    };
+    if let Some(change) = &planned.change {
+        assert!(rt; put_in_and_taken_back(alloc, change)? == (5, 0));
+    }
+    Ok(())
+}

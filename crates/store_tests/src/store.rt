@@ -1,0 +1,130 @@
+ghost use Rattle.std.specs.Prelude.{◌≤◌};
+
+use crate::add::add;
+use crate::rows::{
+    external, floating, group, id, network, port, project, router, rule, service_port, subnet,
+};
+use api_types::{Fixed, Gateway, PortRow, Row, Rows, Segment, Target, Vif};
+use net_addr::{Addr, Addr4, Cidr, OutOfMemory, Prefix, Text};
+use std::alloc::Global;
+
+/// 10.0.0.0/24, and 203.0.113.0/24.
+pub(crate) const INNER: u32 = 0x0a00_0000;
+
+pub(crate) const OUTER: u32 = 0xcb00_7100;
+
+/// The printed id of the router, 40.
+const ROUTER: &str = "00000001-0000-8000-8000-000000000028";
+
+pub(crate) fn prefix(base: u32, len: u8) -> Prefix
+    requires { len ≤ 32 }
+{
+    let addr = Addr::V4(Addr4(base));
+    Cidr { addr, len }.prefix()
+}
+
+pub(crate) fn held(subnet: u8, address: u32) -> Fixed {
+    Fixed {
+        subnet: id(subnet),
+        address: Addr::V4(Addr4(address)),
+    }
+}
+
+fn bind(alloc: Global, port: &mut PortRow) -> Result<(), OutOfMemory> {
+    port.host = Text::of(alloc, "c1")?;
+    port.vif = Vif::Ovs;
+    Ok(())
+}
+
+fn add_projects(alloc: Global, rows: &mut Rows) -> Result<(), OutOfMemory> {
+    add(alloc, rows, Row::Project(project(alloc, 1, "a")?))?;
+    add(alloc, rows, Row::Project(project(alloc, 2, "b")?))?;
+    add(alloc, rows, Row::Group(group(alloc, 1, "a")?))?;
+    add(alloc, rows, Row::Group(group(alloc, 2, "b")?))?;
+    add(alloc, rows, Row::Rule(rule(alloc, 3, 1)?))
+}
+
+// An own network with DHCP, and one that is external to all.
+fn add_networks(alloc: Global, rows: &mut Rows) -> Result<(), OutOfMemory> {
+    let inner = network(alloc, 10, Segment::Vxlan { number: 1 })?;
+    add(alloc, rows, Row::Network(inner))?;
+    let physical = Text::of(alloc, "physnet1")?;
+    let outer = network(alloc, 11, Segment::Flat { physical })?;
+    add(alloc, rows, Row::Network(outer))?;
+    add(alloc, rows, Row::Policy(external(alloc, 20, 11)?))?;
+    let mut inner = subnet(alloc, 12, 10, prefix(INNER, 24))?;
+    inner.dhcp = true;
+    add(alloc, rows, Row::Subnet(inner))?;
+    add(
+        alloc,
+        rows,
+        Row::Subnet(subnet(alloc, 13, 11, prefix(OUTER, 24))?),
+    )
+}
+
+// The DHCP port and an instance's port.
+fn add_inner_ports(alloc: Global, rows: &mut Rows) -> Result<(), OutOfMemory> {
+    let mut dhcp = service_port(alloc, 30, 10, "network:dhcp", held(12, INNER + 2))?;
+    bind(alloc, &mut dhcp)?;
+    add(alloc, rows, Row::Port(dhcp))?;
+    let mut instance = port(alloc, 31, 10)?;
+    instance.fixed.push(held(12, INNER + 9))?;
+    instance.groups.push(id(1))?;
+    bind(alloc, &mut instance)?;
+    add(alloc, rows, Row::Port(instance))
+}
+
+// The ports of the router and the floating address's own.
+fn add_outer_ports(alloc: Global, rows: &mut Rows) -> Result<(), OutOfMemory> {
+    let mut inside = service_port(
+        alloc,
+        32,
+        10,
+        "network:router_interface",
+        held(12, INNER + 1),
+    )?;
+    inside.device = Text::of(alloc, ROUTER)?;
+    bind(alloc, &mut inside)?;
+    add(alloc, rows, Row::Port(inside))?;
+    let mut outside = service_port(alloc, 33, 11, "network:router_gateway", held(13, OUTER + 5))?;
+    outside.project = Text::new(alloc);
+    outside.device = Text::of(alloc, ROUTER)?;
+    bind(alloc, &mut outside)?;
+    add(alloc, rows, Row::Port(outside))?;
+    let mut own = service_port(alloc, 34, 11, "network:floatingip", held(13, OUTER + 7))?;
+    own.project = Text::new(alloc);
+    add(alloc, rows, Row::Port(own))
+}
+
+fn add_router(alloc: Global, rows: &mut Rows) -> Result<(), OutOfMemory> {
+    let mut router = router(alloc, 40)?;
+    router.gateway = Some(Gateway {
+        network: id(11),
+        port: id(33),
+        snat: true,
+    });
+    add(alloc, rows, Row::Router(router))
+}
+
+fn add_floating(alloc: Global, rows: &mut Rows) -> Result<(), OutOfMemory> {
+    let mut floating = floating(alloc, 50, 11, 34, Addr4(OUTER + 7))?;
+    floating.target = Some(Target {
+        port: id(31),
+        fixed: Addr4(INNER + 9),
+        router: id(40),
+    });
+    add(alloc, rows, Row::Floating(floating))
+}
+
+/// A consistent store: two projects, of which a has a network with DHCP, an instance, a router to
+/// an external network, and a floating address that leads to the instance.
+pub(crate) fn store(alloc: Global) -> Result<Rows, OutOfMemory> {
+    let mut rows = Rows::empty(alloc)?;
+    add_projects(alloc, &mut rows)?;
+    add_networks(alloc, &mut rows)?;
+    add_inner_ports(alloc, &mut rows)?;
+    add_outer_ports(alloc, &mut rows)?;
+    add_router(alloc, &mut rows)?;
+    add_floating(alloc, &mut rows)?;
+    Ok(rows)
+}

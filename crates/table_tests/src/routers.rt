@@ -1,0 +1,125 @@
+use crate::routed::{EXTERNAL, INSIDE, OFFICE, OUTER, OUTSIDE, ROUTER, routed};
+use crate::world::INNER;
+use api_types::RouteRank;
+use l3_agent::L3Tables;
+use net_addr::{Addr, Addr4, Prefix};
+use plane_types::{FloatRow, RouteRow, RouterPort, RouterTable};
+use std::test::Fail;
+use test_rows::{four, id, mac, prefix};
+
+fn is_router(table: &RouterTable) -> bool {
+    table.router == id(ROUTER) && table.up && table.snat && table.gateway == Some(Addr4(OUTER + 2))
+}
+
+// The interface, whose addresses and prefixes are in the order that its row has.
+fn is_inside(port: &RouterPort) -> bool {
+    let addresses = [four(INNER + 65), four(INNER + 1)];
+    let prefixes = [prefix(INNER + 64, 26), prefix(INNER, 26)];
+    port.port == id(INSIDE)
+        && port.tag == 1
+        && port.mac == mac(INSIDE)
+        && port.addresses.as_slice() == addresses.as_slice()
+        && port.prefixes.as_slice() == prefixes.as_slice()
+        && port.inside
+}
+
+fn is_outside(port: &RouterPort) -> bool {
+    port.port == id(OUTSIDE)
+        && port.tag == 2
+        && port.mac == mac(OUTSIDE)
+        && port.addresses.as_slice() == [four(OUTER + 2)].as_slice()
+        && port.prefixes.as_slice() == [prefix(OUTER, 24)].as_slice()
+        && !port.inside
+}
+
+fn are_ports(ports: &[RouterPort], with_gateway: bool) -> bool {
+    match ports {
+        [inside] => !with_gateway && is_inside(inside),
+        [inside, outside] => with_gateway && is_inside(inside) && is_outside(outside),
+        _ => false,
+    }
+}
+
+fn are_floats(floats: &[FloatRow]) -> bool {
+    let float = FloatRow {
+        router: id(ROUTER),
+        floating: Addr4(OUTER + 52),
+        fixed: Addr4(INNER + 52),
+    };
+    floats == [float].as_slice()
+}
+
+// Whether the one router is there, with or without its gateway port, with its floating address and
+// these routes.
+fn are_routed(tables: L3Tables, with_gateway: bool, routes: &[RouteRow]) -> bool {
+    match tables.routers.as_slice() {
+        [router] => {
+            is_router(router)
+                && are_ports(router.ports.as_slice(), with_gateway)
+                && are_floats(tables.floats.as_slice())
+                && tables.routes.as_slice() == routes
+        }
+        _ => false,
+    }
+}
+
+fn route(prefix: Prefix, rank: RouteRank, next: Option<Addr>, port: u8) -> RouteRow {
+    RouteRow {
+        router: id(ROUTER),
+        prefix,
+        rank,
+        next,
+        port: id(port),
+    }
+}
+
+// The routes of the interface: to its subnets by ascending addresses ..
+fn low() -> RouteRow {
+    route(prefix(INNER, 26), RouteRank::Connected, None, INSIDE)
+}
+
+fn high() -> RouteRow {
+    route(prefix(INNER + 64, 26), RouteRank::Connected, None, INSIDE)
+}
+
+// .. and the router's own one.
+fn extra() -> RouteRow {
+    let next = Some(four(INNER + 5));
+    route(prefix(INNER + 128, 25), RouteRank::Extra, next, INSIDE)
+}
+
+// The routes of the gateway port.
+fn outer() -> RouteRow {
+    route(prefix(OUTER, 24), RouteRank::Connected, None, OUTSIDE)
+}
+
+fn default() -> RouteRow {
+    let next = Some(four(OUTER + 1));
+    route(prefix(0, 0), RouteRank::Default, next, OUTSIDE)
+}
+
+#[test]
+fn whole(rt: HostRuntime) -> Result<(), Fail> {
+    let tables = routed(rt.alloc(), true, &[(OFFICE, 1), (EXTERNAL, 2)])?;
+    let routes = [low(), high(), outer(), extra(), default()];
+    assert!(rt; are_routed(tables, true, &routes));
+    Ok(())
+}
+
+// While the gateway port is down, there is no default route, and the gateway address stays.
+#[test]
+fn gateway_down(rt: HostRuntime) -> Result<(), Fail> {
+    let tables = routed(rt.alloc(), false, &[(OFFICE, 1), (EXTERNAL, 2)])?;
+    let routes = [low(), high(), extra()];
+    assert!(rt; are_routed(tables, false, &routes));
+    Ok(())
+}
+
+// A port without a tag has no row, and its routes have.
+#[test]
+fn untagged(rt: HostRuntime) -> Result<(), Fail> {
+    let tables = routed(rt.alloc(), true, &[(OFFICE, 1)])?;
+    let routes = [low(), high(), outer(), extra(), default()];
+    assert!(rt; are_routed(tables, false, &routes));
+    Ok(())
+}
