@@ -1,6 +1,5 @@
 ghost use Rattle.std.specs.Prelude.{◌≡◌, ◌+◌, ◌<◌, ◌≤◌, [], ◌∷◌, ◌++◌, IfOk, OnErr, OnOk};
 ghost use Rattle.api_types.specs.Consistent.{IsConsistent};
-ghost use Rattle.host_plane.specs.Ordered.{AreOrdered};
 ghost use Rattle.plane_types.specs.Placed.{IsPlaced};
 ghost use Rattle.plane_types.specs.Realises.{Realises};
 ghost use Rattle.plane_types.specs.Node.{host_of, host_with, resynced, started, with_entries};
@@ -134,7 +133,6 @@ impl AgentNode {
     pub fn tables(&self) -> &HostTables
         ensures tables { result.now ≡ self.now.tables }
         ensures realised { Realises self.now.rows self.now.name self.now.tables }
-        ensures ordered { AreOrdered self.now.tables }
     {
         &self.tables
     }

@@ -1,6 +1,7 @@
 -- A router as the rows have it: its live ports, its routes and its floating addresses.
 use Rattle.std.specs.Prelude.{ℕ, Bool, false, ◌&&◌, nat_lt, List, [], ◌∷◌, ◌++◌, map, Option, Some, None, find, option_map, option_and_then, flat_map, if◌then◌else◌}
 use Rattle.std.specs.List.{list_any, filter, filter_map}
+use Rattle.std.specs.Option.{option_or}
 use Rattle.net_addr.specs.Addresses.{renumbered}
 use Rattle.net_addr.specs.Ordered.{addr_before, four}
 use Rattle.net_addr.specs.declared.address.Addr.{Addr}
@@ -33,10 +34,6 @@ legs_of rows r = filter (is_leg_of rows r) rows.ports
 abbrev pub leg_of : PortRow → Leg
 leg_of p = record { port = p.id; mac = p.mac; addresses = map (λ (f : Fixed). f.address) p.fixed; inside = is_interface p.owner }
 
-abbrev pub first_fixed : List Fixed → Option Fixed
-first_fixed [] = None
-first_fixed (f ∷ fs) = Some f
-
 abbrev pub subnet_named : RowLists → Ident → Option SubnetRow
 subnet_named rows i = row_of (λ (s : SubnetRow). s.id) i rows.subnets
 
@@ -65,14 +62,15 @@ extra_way rows legs h = option_and_then (λ (f : Fixed). way_by legs f.subnet h.
 unfoldable pub extra_ways : RowLists → List PortRow → List Hop → List Way
 extra_ways rows legs hops = filter_map (extra_way rows legs) hops
 
--- default: 0.0.0.0/0 by the gateway of the subnet of the first address of the gateway port, where that port is live and the subnet has one
+-- default: for each address of the gateway port, where that is live and the address's subnet has a gateway, 0.0.0.0/0 or ::/0 by that
+-- gateway; by ascending addresses
 abbrev pub default_by : List PortRow → Option SubnetRow → List Way
 default_by legs None = []
 default_by legs (Some s) = filter_map (λ (g : Addr). way_by legs s.id (record { base = renumbered g 0; len = 0 }) Default (Some g)) (elim s.gateway [ None ↦ [] | Some g ↦ g ∷ [] ])
 
 abbrev pub default_of : RowLists → List PortRow → Option PortRow → List Way
 default_of rows legs None = []
-default_of rows legs (Some p) = if is_live rows p then default_by legs (option_and_then (λ (f : Fixed). subnet_named rows f.subnet) (first_fixed p.fixed)) else []
+default_of rows legs (Some p) = if is_live rows p then flat_map (λ (f : Fixed). default_by legs (subnet_named rows f.subnet)) (ascending by_address p.fixed) else []
 
 unfoldable pub ways_of : RowLists → RouterRow → List Way
 ways_of rows r = connected_ways rows (legs_of rows r) ++ extra_ways rows (legs_of rows r) r.routes ++ default_of rows (legs_of rows r) (gateway_port rows r)
@@ -85,9 +83,14 @@ float_by r f (Some t) = if ident_eq r t.router then Some (record { floating = f.
 unfoldable pub floats_of : RowLists → RouterRow → List Float
 floats_of rows r = filter_map (λ (f : FloatingRow). float_by r.id f f.target) rows.floatings
 
--- the first address of the gateway port
+-- the first address of version 4
+abbrev pub first_four : List Fixed → Option ℕ
+first_four [] = None
+first_four (f ∷ fs) = option_or (four f.address) (first_four fs)
+
+-- that of the gateway port, live or not; a gateway port may have none
 abbrev pub gateway_address : RowLists → RouterRow → Option ℕ
-gateway_address rows r = option_and_then (λ (f : Fixed). four f.address) (option_and_then (λ (p : PortRow). first_fixed p.fixed) (gateway_port rows r))
+gateway_address rows r = option_and_then (λ (p : PortRow). first_four p.fixed) (gateway_port rows r)
 
 abbrev pub has_snat : Option Gateway → Bool
 has_snat None = false

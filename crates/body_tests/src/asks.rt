@@ -1,7 +1,7 @@
 use crate::answer::asked;
 use api_types::{Call, Form, Given, Id, InterfaceBy, NetworkForm, PortForm};
-use net_addr::{Addr4, Mac, Text};
-use plane_types::{Ask, Event, Frame, LabCall};
+use net_addr::{Addr4, Addr6, Mac, Text};
+use plane_types::{Ask, Ends, Event, Frame, LabCall};
 use std::test::Fail;
 
 // Whether a given text is this one.
@@ -86,36 +86,38 @@ fn interface_read(rt: HostRuntime) -> Result<(), Fail> {
     Ok(())
 }
 
-// Whether the port of count 6 asks for the MAC of 10.0.0.6.
-fn is_asked_event(event: &Event) -> bool {
+// Whether the port of count 6 asks for the MAC of an address, between these ends.
+fn is_asked_event(event: &Event, ends: Ends) -> bool {
+    let src = Mac(0x0200_0000_0005);
     match event {
         Event::FromPort { port, frame } => {
-            *port == Id::make(1, 6)
-                && *frame
-                    == (Frame::ArpAsk {
-                        src: Mac(0x0200_0000_0005),
-                        from: Addr4(0x0a00_0005),
-                        to: Addr4(0x0a00_0006),
-                    })
+            *port == Id::make(1, 6) && *frame == (Frame::NeighbourAsk { src, ends })
         }
         Event::FromWire { .. } => false,
     }
 }
 
-fn explains(ask: &Ask) -> bool {
+fn explains(ask: &Ask, ends: Ends) -> bool {
     match ask {
-        Ask::Lab(LabCall::Explain(event)) => is_asked_event(event),
+        Ask::Lab(LabCall::Explain(event)) => is_asked_event(event, ends),
         _ => false,
     }
 }
 
-// A frame that a port sends.
+// Frames of both versions that a port sends.
 #[test]
 fn event_read(rt: HostRuntime) -> Result<(), Fail> {
     let body =
         br#"{"event":{"frame":{"kind":"arp_ask","src":"02:00:00:00:00:05","from":"10.0.0.5","to":"10.0.0.6"},"port":"00000001-0000-8000-8000-000000000006"}}"#;
-    let asked = asked(rt.alloc(), "POST", "/lab/v1/explain", body);
-    assert!(rt; matches!(&asked, Ok(ask) if explains(ask)));
+    let ends = Ends::four(Addr4(0x0a00_0005), Addr4(0x0a00_0006));
+    let heard = asked(rt.alloc(), "POST", "/lab/v1/explain", body);
+    assert!(rt; matches!(&heard, Ok(ask) if explains(ask, ends)));
+    let body =
+        br#"{"event":{"frame":{"kind":"neigh_ask","src":"02:00:00:00:00:05","from":"2001:db8::5","to":"2001:DB8:0::6"},"port":"00000001-0000-8000-8000-000000000006"}}"#;
+    let prefix = 0x2001_0db8_0000_0000_0000_0000_0000_0000;
+    let ends = Ends::six(Addr6(prefix + 5), Addr6(prefix + 6));
+    let heard = asked(rt.alloc(), "POST", "/lab/v1/explain", body);
+    assert!(rt; matches!(&heard, Ok(ask) if explains(ask, ends)));
     Ok(())
 }
 

@@ -31,8 +31,8 @@ fn steps_for(frame: &Frame) -> u16
     ensures fits { result ≤ 771 }
 {
     match *frame {
-        Frame::Ip4 { ttl, .. } => 3 * (u16::from(ttl) + 1) + 3,
-        Frame::ArpAsk { .. } | Frame::Dhcp { .. } | Frame::Other { .. } => 3,
+        Frame::Ip { ttl, .. } => 3 * (u16::from(ttl) + 1) + 3,
+        Frame::NeighbourAsk { .. } | Frame::Dhcp { .. } | Frame::Other { .. } => 3,
     }
 }
 
@@ -208,10 +208,10 @@ fn looks_for(event: &Event) -> u16
 }
 
 /// What an event comes to by the tables and tracked entries of hosts whose names differ: its
-/// outcome, the networks and routers that it passed, the entries that it made with the places of the
-/// hosts that made them, and its trail. Room for 258 entries is made first. Nothing of the fleet is
-/// changed. Its cost grows with the routers that are passed, for each with the hosts and with what
-/// a look-up costs.
+/// outcome, the networks and routers that it passed, the entries that it made with the places of
+/// the hosts that made them, and its trail. Room for 258 entries is made first. Nothing of the
+/// fleet is changed. Its cost grows with the routers that are passed, for each with the hosts and
+/// with what a look-up costs.
 pub fn send<F: Fleet>(alloc: Global, fleet: &F, event: &Event) -> Result<Verdict, OutOfMemory>
     requires { (name : List ℕ) → count_by (is_named name) (F.hosts fleet.now) ≤ 1 }
     ensures { IfOk result (λ v. v ≡ fabric_verdict (F.hosts fleet.now) event.now) }

@@ -1,5 +1,4 @@
 ghost use Rattle.std.specs.Prelude.{◌≡◌, ◌<◌, Some, length, slice_get};
-ghost use Rattle.host_plane.specs.Ordered.{AreOrdered};
 ghost use Rattle.fabric_run.specs.Seen.{host_seen};
 
 use net_addr::Text;
@@ -8,7 +7,6 @@ use plane_types::{Entries, HostTables};
 /// Hosts in order, each with its name, its tables and its tracked entries.
 pub trait Fleet {
     ghost use Rattle.std.specs.Prelude.{◌<◌, List, Some, length, map, slice_get};
-    ghost use Rattle.host_plane.specs.Ordered.{AreOrdered};
     ghost use Rattle.plane_types.specs.Hosts.{Host};
 
     ghost hosts: { Self → List Host };
@@ -22,11 +20,10 @@ pub trait Fleet {
         requires { at < length (hosts self.now) }
         ensures { slice_get (map (λ (h : Host). h.name) (hosts self.now)) at ≡ Some result.now };
 
-    /// The tables of a host, whose two maps ascend.
+    /// The tables of a host.
     fn tables(&self, at: usize) -> &HostTables
         requires { at < length (hosts self.now) }
-        ensures is { slice_get (map (λ (h : Host). h.tables) (hosts self.now)) at ≡ Some result.now }
-        ensures ordered { AreOrdered result.now };
+        ensures { slice_get (map (λ (h : Host). h.tables) (hosts self.now)) at ≡ Some result.now };
 
     /// The tracked entries of a host.
     fn entries(&self, at: usize) -> &Entries
@@ -44,8 +41,7 @@ pub(crate) struct HostAt<'f> {
 
 pub(crate) fn host_at<F: Fleet>(fleet: &F, at: usize) -> HostAt<'_>
     requires { at < length (F.hosts fleet.now) }
-    ensures is { slice_get (F.hosts fleet.now) at ≡ Some (host_seen result) }
-    ensures ordered { AreOrdered result.tables.now }
+    ensures { slice_get (F.hosts fleet.now) at ≡ Some (host_seen result) }
 {
     HostAt {
         name: fleet.host(at),

@@ -1,13 +1,12 @@
 ghost use Rattle.std.specs.Prelude.{◌≡◌, ◌&&◌, option_copied};
 ghost use Rattle.plane_types.specs.Fabric.{takes as taken_by, takes_to};
 ghost use Rattle.plane_types.specs.Hosts.{Host};
-ghost use Rattle.host_plane.specs.Ordered.{AreOrdered};
 ghost use Rattle.fabric_run.specs.Seen.{IsFirst, host_seen, is_other_than, is_sought_in};
 
 use crate::fleet::{Fleet, HostAt, host_at};
 use api_types::Id;
 use host_plane::{bridge_at, inward_wire, neighbour_at, tap_at};
-use net_addr::{Addr, Text};
+use net_addr::Text;
 use plane_types::{BridgeKey, BridgeRow, BridgeTo, Frame};
 
 /// What is sought among hosts.
@@ -42,15 +41,16 @@ fn is_here(found: Option<&BridgeRow>) -> bool
 // Whether a host takes a frame from a wire: a packet for a port here, an ask for a lease where the
 // DHCP port is here, and an ask for an address that it knows.
 fn takes(host: &HostAt<'_>, physical: &Text, tag: Option<u16>, frame: &Frame) -> bool
-    requires { AreOrdered host.now.tables.now }
     ensures { result ≡ taken_by (record { physical = physical.now; tag = tag }) frame.now (host_seen host.now) }
 {
     let Some(row) = inward_wire(host.tables, physical, tag) else {
         return false;
     };
     match *frame {
-        Frame::Ip4 { dst, .. } => is_here(bridge_at(host.tables, row.tag, BridgeKey::Mac(dst))),
-        Frame::ArpAsk { to, .. } => neighbour_at(host.tables, row.tag, &Addr::V4(to)).is_some(),
+        Frame::Ip { dst, .. } => is_here(bridge_at(host.tables, row.tag, BridgeKey::Mac(dst))),
+        Frame::NeighbourAsk { ends, .. } => {
+            neighbour_at(host.tables, row.tag, &ends.destination()).is_some()
+        }
         Frame::Dhcp { .. } => is_here(bridge_at(host.tables, row.tag, BridgeKey::Dhcp)),
         Frame::Other { .. } => false,
     }
@@ -66,7 +66,6 @@ fn is_other(host: &HostAt<'_>, but: Option<&Text>) -> bool
 }
 
 fn is_sought(host: &HostAt<'_>, sought: &Sought<'_>) -> bool
-    requires { AreOrdered host.now.tables.now }
     ensures { result ≡ is_sought_in sought.now (host_seen host.now) }
 {
     match sought {

@@ -5,6 +5,8 @@
 #![tactic(auto)]
 
 #[cfg(test)]
+mod echoes;
+#[cfg(test)]
 mod filters;
 #[cfg(test)]
 mod networks;
@@ -12,6 +14,8 @@ mod networks;
 mod ring;
 #[cfg(test)]
 mod routers;
+#[cfg(test)]
+mod routes;
 #[cfg(test)]
 mod seen;
 #[cfg(test)]

@@ -1,21 +1,28 @@
 use crate::seen::{End, Seen, from_wire, is_delivered, is_dropped, is_sent_out, see, tcp};
-use crate::world::{FIRST, INNER, INSIDE, OFFICE, OUTER, OUTSIDE, SECOND, office, routed_office};
-use api_types::{Row, Rows, Segment};
-use net_addr::{Addr4, Mac, OutOfMemory, Text};
-use plane_types::{DropCause, Entries, Event, Frame, KeyPart};
+use crate::world::{
+    FIRST, INNER, INNER_SIX, INSIDE, INSIDE_SIX, OFFICE, OUTER, OUTER_SIX, OUTSIDE, SECOND, inner,
+    office, routed_office,
+};
+use api_types::{Ethertype, Row, Rows, Segment};
+use net_addr::{Addr4, Addr6, Mac, OutOfMemory, Text};
+use plane_types::{DropCause, Ends, Entries, Event, Frame, KeyPart};
 use std::alloc::Global;
 use std::test::Fail;
-use test_rows::{add, bound_port, four, held, id, mac, network};
+use test_rows::{add, bound_port, four, held, id, mac, network, six};
 
-fn ask_address(n: u8, to: Addr4) -> Event {
+// An instance asks for an address of the inner network, as if it were at another.
+fn ask_as(n: u8, version: Ethertype, from: u8, to: u8) -> Event {
     Event::FromPort {
         port: id(n),
-        frame: Frame::ArpAsk {
+        frame: Frame::NeighbourAsk {
             src: mac(n),
-            from: Addr4(INNER + u32::from(n)),
-            to,
+            ends: inner(version, from, to),
         },
     }
+}
+
+fn ask_address(n: u8, version: Ethertype, to: u8) -> Event {
+    ask_as(n, version, n, to)
 }
 
 fn ask_lease(n: u8, from: Addr4) -> Event {
@@ -30,21 +37,22 @@ fn asks_are_answered(rt: HostRuntime) -> Result<(), Fail> {
     let alloc = rt.alloc();
     let rows = routed_office(alloc)?;
     let mut entries = Entries::new(alloc);
-    let router = Addr4(INNER + 1);
-    let nobody = Addr4(INNER + 77);
     let leased = End::Lease(four(INNER + 6), 24, Some(four(INNER + 1)));
+    let by_router = End::Address(four(INNER + 1), mac(INSIDE));
+    let by_router_six = End::Address(six(INNER_SIX + 1), mac(INSIDE_SIX));
+    let by_first = End::Address(six(INNER_SIX + 5), mac(FIRST));
+    let nobody = End::Dropped(DropCause::NoHolder);
+    let spoof = End::Dropped(DropCause::Spoof);
     let table = [
-        (
-            ask_address(SECOND, router),
-            End::Address(four(INNER + 1), mac(INSIDE)),
-        ),
-        (
-            ask_address(SECOND, nobody),
-            End::Dropped(DropCause::NoHolder),
-        ),
+        (ask_address(SECOND, Ethertype::Ipv4, 1), by_router),
+        (ask_address(SECOND, Ethertype::Ipv6, 1), by_router_six),
+        (ask_address(SECOND, Ethertype::Ipv6, FIRST), by_first),
+        (ask_address(SECOND, Ethertype::Ipv4, 77), nobody),
+        (ask_address(SECOND, Ethertype::Ipv6, 77), nobody),
+        (ask_as(SECOND, Ethertype::Ipv6, 77, FIRST), spoof),
         (ask_lease(SECOND, Addr4(0)), leased),
         (ask_lease(SECOND, Addr4(INNER + 6)), leased),
-        (ask_lease(SECOND, nobody), End::Dropped(DropCause::Spoof)),
+        (ask_lease(SECOND, Addr4(INNER + 77)), spoof),
     ];
     for (event, end) in &table {
         let want = Seen {
@@ -57,30 +65,38 @@ fn asks_are_answered(rt: HostRuntime) -> Result<(), Fail> {
     Ok(())
 }
 
+// From a stranger outside.
+fn ask_outside(to: u32) -> Frame {
+    Frame::NeighbourAsk {
+        src: Mac(0x0200_0000_0099),
+        ends: Ends::four(Addr4(OUTER + 1), Addr4(to)),
+    }
+}
+
+fn ask_outside_six(to: u128) -> Frame {
+    Frame::NeighbourAsk {
+        src: Mac(0x0200_0000_0099),
+        ends: Ends::six(Addr6(OUTER_SIX + 1), Addr6(to)),
+    }
+}
+
 #[test]
 fn asks_from_a_wire(rt: HostRuntime) -> Result<(), Fail> {
     let alloc = rt.alloc();
     let rows = routed_office(alloc)?;
     let mut entries = Entries::new(alloc);
-    let gateway = Addr4(OUTER + 2);
-    let src = Mac(0x0200_0000_0099);
-    let from = Addr4(OUTER + 1);
-    let ask = Frame::ArpAsk {
-        src,
-        from,
-        to: gateway,
+    let lease = Frame::Dhcp {
+        src: Mac(0x0200_0000_0099),
+        from: Addr4(OUTER + 1),
     };
     let answered = End::Address(four(OUTER + 2), mac(OUTSIDE));
-    let stranger = Frame::ArpAsk {
-        src,
-        from,
-        to: Addr4(OUTER + 9),
-    };
-    let lease = Frame::Dhcp { src, from };
+    let answered_six = End::Address(six(OUTER_SIX + 2), mac(OUTSIDE));
     let unknown = End::Dropped(DropCause::Unknown);
     for (frame, end, passed) in [
-        (ask, answered, 1),
-        (stranger, unknown, 0),
+        (ask_outside(OUTER + 2), answered, 1),
+        (ask_outside_six(OUTER_SIX + 2), answered_six, 1),
+        (ask_outside(OUTER + 9), unknown, 0),
+        (ask_outside_six(OUTER_SIX + 9), unknown, 0),
         (lease, unknown, 0),
     ] {
         let want = Seen {
@@ -112,11 +128,10 @@ fn lone(alloc: Global, segment: Segment) -> Result<Rows, OutOfMemory> {
 }
 
 fn sent_to(dst: Mac) -> Frame {
-    Frame::Ip4 {
+    Frame::Ip {
         src: mac(FIRST),
         dst,
-        from: Addr4(INNER + 5),
-        to: Addr4(INNER + 6),
+        ends: inner(Ethertype::Ipv4, FIRST, SECOND),
         ttl: 64,
         part: tcp(1, 2),
     }
@@ -186,12 +201,11 @@ fn segments_carry_what_they_carry(rt: HostRuntime) -> Result<(), Fail> {
     Ok(())
 }
 
-fn echo(from: u8, to: u8, part: KeyPart) -> Frame {
-    Frame::Ip4 {
+fn echo(ends: Ends, from: u8, to: u8, part: KeyPart) -> Frame {
+    Frame::Ip {
         src: mac(from),
         dst: mac(to),
-        from: Addr4(INNER + u32::from(from)),
-        to: Addr4(INNER + u32::from(to)),
+        ends,
         ttl: 64,
         part,
     }
@@ -201,11 +215,9 @@ fn echo_passes(
     alloc: Global,
     rows: &Rows,
     entries: &mut Entries,
-    from: u8,
-    to: u8,
-    part: KeyPart,
+    frame: Frame,
+    (from, to): (u8, u8),
 ) -> Result<bool, OutOfMemory> {
-    let frame = echo(from, to, part);
     let event = Event::FromPort {
         port: id(from),
         frame,
@@ -218,11 +230,15 @@ fn echoes_pass_both_ways(rt: HostRuntime) -> Result<(), Fail> {
     let alloc = rt.alloc();
     let rows = office(alloc)?;
     let mut entries = Entries::new(alloc);
-    let ask = KeyPart::EchoAsk { id: 7 };
-    let asked = echo_passes(alloc, &rows, &mut entries, FIRST, SECOND, ask)?;
-    assert!(rt; asked);
-    let reply = KeyPart::EchoReply { id: 7 };
-    let replied = echo_passes(alloc, &rows, &mut entries, SECOND, FIRST, reply)?;
-    assert!(rt; replied);
+    for version in [Ethertype::Ipv4, Ethertype::Ipv6] {
+        let there = inner(version, FIRST, SECOND);
+        let ask = echo(there, FIRST, SECOND, KeyPart::EchoAsk { id: 7 });
+        let asked = echo_passes(alloc, &rows, &mut entries, ask, (FIRST, SECOND))?;
+        assert!(rt; asked);
+        let back = there.turned_round();
+        let reply = echo(back, SECOND, FIRST, KeyPart::EchoReply { id: 7 });
+        let replied = echo_passes(alloc, &rows, &mut entries, reply, (SECOND, FIRST))?;
+        assert!(rt; replied);
+    }
     Ok(())
 }

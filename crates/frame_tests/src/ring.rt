@@ -5,7 +5,7 @@ use crate::world::INNER;
 use api_types::{Hop, Id, Row, Rows, Segment};
 use net_addr::{Addr4, OutOfMemory};
 use net_meaning::explain;
-use plane_types::{DropCause, Entries, Event, Frame};
+use plane_types::{DropCause, Ends, Entries, Event, Frame};
 use std::alloc::Global;
 use std::test::Fail;
 use test_rows::{
@@ -75,11 +75,10 @@ fn ring(alloc: Global) -> Result<Rows, OutOfMemory> {
 fn sent(ttl: u8) -> Event {
     Event::FromPort {
         port: id(5),
-        frame: Frame::Ip4 {
+        frame: Frame::Ip {
             src: mac(5),
             dst: mac(52),
-            from: Addr4(INNER + 5),
-            to: Addr4(FAR + 9),
+            ends: Ends::four(Addr4(INNER + 5), Addr4(FAR + 9)),
             ttl,
             part: tcp(1, 2),
         },

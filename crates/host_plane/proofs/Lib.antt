@@ -1,4 +1,5 @@
 mod LegLists
 mod MapLemmas
+mod PacketFrames
 mod RouteLists
 mod UseLists

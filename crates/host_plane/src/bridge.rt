@@ -1,17 +1,16 @@
 ghost use Rattle.std.specs.Prelude.{◌≡◌, option_copied};
-ghost use Rattle.net_addr.specs.declared.address.Addr.TheVariants.{V4};
+ghost use Rattle.plane_types.specs.Ends.{destination};
 ghost use Rattle.plane_types.specs.Packets.{address_ask};
-ghost use Rattle.plane_types.specs.TableStep.{arp_by, bridge_at as bridge_by_key, bridge_in as bridged_in, bridge_step as bridged_at_tag, bridged_by as bridged_by_row, inward_step as bridged_inward, lease_answer as leased_by, lease_at as lease_by_mac, led as led_by, neighbour_at as neighbour_by_address, routed_in as routed_to, source_of as sender_of, tapped as tapped_at, wire_or as wire_or_dropped};
-ghost use Rattle.host_plane.specs.Ordered.{AreOrdered};
+ghost use Rattle.plane_types.specs.TableStep.{asked_at, bridge_at as bridge_by_key, bridge_in as bridged_in, bridge_step as bridged_at_tag, bridged_by as bridged_by_row, inward_step as bridged_inward, lease_answer as leased_by, lease_at as lease_by_mac, led as led_by, neighbour_at as neighbour_by_address, routed_in as routed_to, source_of as sender_of, tapped as tapped_at, wire_or as wire_or_dropped};
 ghost use Rattle.host_plane.specs.Seen.{step_seen};
 
 use crate::ending::{Ended, Ending, Step, drops};
 use crate::look::{lease_at, tag_row};
 use crate::map::{bridge_at, neighbour_at};
 use api_types::Id;
-use net_addr::{Addr, Addr4, Mac};
+use net_addr::Mac;
 use plane_types::{
-    BridgeKey, BridgeTo, DropCause, Frame, HostTables, InwardRow, Place, TagRow, Toward,
+    BridgeKey, BridgeTo, DropCause, Ends, Frame, HostTables, InwardRow, Place, TagRow, Toward,
 };
 
 // To the physical network of a tag, where it has one; but a frame that came by a tunnel or wire
@@ -45,8 +44,8 @@ fn tapped<'t>(tag: u16, port: Id, frame: Frame) -> Step<'t>
     ensures { step_seen result ≡ tapped_at tag port frame }
 {
     match frame {
-        Frame::Ip4 { .. } => Step::Next(Place::TapOut { port, frame }),
-        Frame::ArpAsk { .. } | Frame::Dhcp { .. } | Frame::Other { .. } => {
+        Frame::Ip { .. } => Step::Next(Place::TapOut { port, frame }),
+        Frame::NeighbourAsk { .. } | Frame::Dhcp { .. } | Frame::Other { .. } => {
             Step::Next(Place::DhcpIn { tag, frame })
         }
     }
@@ -56,12 +55,12 @@ fn routed_in<'t>(router: Id, port: Id, frame: Frame) -> Step<'t>
     ensures { step_seen result ≡ routed_to router port frame }
 {
     match frame {
-        Frame::Ip4 { .. } => Step::Next(Place::RouterIn {
+        Frame::Ip { .. } => Step::Next(Place::RouterIn {
             port,
             router,
             frame,
         }),
-        Frame::ArpAsk { .. } | Frame::Dhcp { .. } | Frame::Other { .. } => {
+        Frame::NeighbourAsk { .. } | Frame::Dhcp { .. } | Frame::Other { .. } => {
             drops(DropCause::Unknown)
         }
     }
@@ -98,7 +97,7 @@ fn bridged<'t>(
     frame: Frame,
     cause: DropCause,
 ) -> Step<'t>
-    ensures { AreOrdered tables.now → step_seen result ≡ bridged_by_row inner row.now toward frame cause (bridge_by_key tables.now row.now.tag key) }
+    ensures { step_seen result ≡ bridged_by_row inner row.now toward frame cause (bridge_by_key tables.now row.now.tag key) }
 {
     match bridge_at(tables, row.tag, key) {
         Some(entry) => led(inner, row.tag, frame, &entry.to),
@@ -107,17 +106,10 @@ fn bridged<'t>(
 }
 
 // An ask for an address is answered by its neighbour, else goes to the wire.
-fn asked<'t>(
-    tables: &HostTables,
-    inner: bool,
-    row: &'t TagRow,
-    src: Mac,
-    from: Addr4,
-    to: Addr4,
-) -> Step<'t>
-    ensures { AreOrdered tables.now → step_seen result ≡ arp_by inner row.now (address_ask src from to) (neighbour_by_address tables.now row.now.tag (V4 to)) }
+fn asked<'t>(tables: &HostTables, inner: bool, row: &'t TagRow, src: Mac, ends: &Ends) -> Step<'t>
+    ensures { step_seen result ≡ asked_at inner row.now (address_ask src ends.now) (neighbour_by_address tables.now row.now.tag (destination ends.now)) }
 {
-    match neighbour_at(tables, row.tag, &Addr::V4(to)) {
+    match neighbour_at(tables, row.tag, &ends.destination()) {
         Some(held) => Step::End(Ending {
             ended: Ended::Address {
                 address: held.address,
@@ -128,18 +120,18 @@ fn asked<'t>(
         None => wire_or(
             inner,
             row,
-            Toward::Address(Addr::V4(to)),
-            Frame::ArpAsk { src, from, to },
+            Toward::Address(ends.destination()),
+            Frame::NeighbourAsk { src, ends: *ends },
             DropCause::NoHolder,
         ),
     }
 }
 
 fn bridge_in<'t>(tables: &'t HostTables, inner: bool, row: &'t TagRow, frame: Frame) -> Step<'t>
-    ensures { AreOrdered tables.now → step_seen result ≡ bridged_in tables.now inner row.now frame }
+    ensures { step_seen result ≡ bridged_in tables.now inner row.now frame }
 {
     match frame {
-        Frame::Ip4 { dst, .. } => bridged(
+        Frame::Ip { dst, .. } => bridged(
             tables,
             inner,
             row,
@@ -148,7 +140,7 @@ fn bridge_in<'t>(tables: &'t HostTables, inner: bool, row: &'t TagRow, frame: Fr
             frame,
             DropCause::Unknown,
         ),
-        Frame::ArpAsk { src, from, to } => asked(tables, inner, row, src, from, to),
+        Frame::NeighbourAsk { src, ends } => asked(tables, inner, row, src, &ends),
         Frame::Dhcp { .. } => bridged(
             tables,
             inner,
@@ -171,7 +163,7 @@ pub(crate) fn bridge_step<'t>(
     tag: u16,
     frame: Frame,
 ) -> Step<'t>
-    ensures { AreOrdered tables.now → step_seen result ≡ bridged_at_tag tables.now inner tag frame }
+    ensures { step_seen result ≡ bridged_at_tag tables.now inner tag frame }
 {
     match tag_row(tables, tag) {
         Some(row) => bridge_in(tables, inner, row, frame),
@@ -185,7 +177,7 @@ pub(crate) fn inward_step<'t>(
     frame: Frame,
     found: Option<&'t InwardRow>,
 ) -> Step<'t>
-    ensures { AreOrdered tables.now → step_seen result ≡ bridged_inward tables.now frame (option_copied found.entry) }
+    ensures { step_seen result ≡ bridged_inward tables.now frame (option_copied found.entry) }
 {
     match found {
         Some(row) => bridge_step(tables, true, row.tag, frame),
@@ -197,8 +189,8 @@ fn sender(frame: &Frame) -> Mac
     ensures { result ≡ sender_of frame.now }
 {
     match *frame {
-        Frame::Ip4 { src, .. } => src,
-        Frame::ArpAsk { src, .. } => src,
+        Frame::Ip { src, .. } => src,
+        Frame::NeighbourAsk { src, .. } => src,
         Frame::Dhcp { src, .. } => src,
         Frame::Other { src, .. } => src,
     }

@@ -39,8 +39,9 @@ fn row_fits(tables: &HostTables, direction: Direction, key: &Key, row: &FilterRo
 {
     let far = far_of(direction, key);
     row.direction == direction
-        && is_protocol(row.protocol, key.kind)
-        && in_range(row.low, row.high, key.kind, key.dport)
+        && row.ethertype == key.ends.ethertype()
+        && is_protocol(row.protocol, &key.ends, key.kind)
+        && in_range(row.low, row.high, &key.ends, key.kind, key.dport)
         && far_fits(tables, row, &far)
 }
 

@@ -1,7 +1,6 @@
 ghost use Rattle.std.specs.Prelude.{◌≡◌, ◌++◌};
 ghost use Rattle.plane_types.specs.TableStep.{router_by_leg as by_port, router_in as routed_in, tagged_leg as leg_by_port};
 ghost use Rattle.plane_types.specs.Parts.{packet_of};
-ghost use Rattle.host_plane.specs.Ordered.{AreOrdered};
 ghost use Rattle.host_plane.specs.Seen.{stepped_seen};
 
 use crate::ending::{Stepped, dropped};
@@ -19,7 +18,7 @@ fn routed<'t>(
     port: Id,
     packet: &Packet,
 ) -> Stepped<'t>
-    ensures { AreOrdered tables.now → stepped_seen result ≡ by_port tables.now (entries.now ++ fresh.now) router.now (packet_of packet.now) (leg_by_port router.now port) }
+    ensures { stepped_seen result ≡ by_port tables.now (entries.now ++ fresh.now) router.now (packet_of packet.now) (leg_by_port router.now port) }
 {
     match port_of(router, port) {
         Some(port) => route(tables, entries, fresh, router, port, packet),
@@ -36,29 +35,13 @@ pub(crate) fn router_in<'t>(
     router: Id,
     frame: Frame,
 ) -> Stepped<'t>
-    ensures { AreOrdered tables.now → stepped_seen result ≡ routed_in tables.now (entries.now ++ fresh.now) port router frame }
+    ensures { stepped_seen result ≡ routed_in tables.now (entries.now ++ fresh.now) port router frame }
 {
-    let Frame::Ip4 {
-        src,
-        dst,
-        from,
-        to,
-        ttl,
-        part,
-    } = frame
-    else {
+    let Some(packet) = Packet::of(&frame) else {
         return dropped(DropCause::Unknown);
     };
     let Some(router) = router_at(tables, router) else {
         return dropped(DropCause::Unknown);
-    };
-    let packet = Packet {
-        src,
-        dst,
-        from,
-        to,
-        ttl,
-        part,
     };
     routed(tables, entries, fresh, router, port, &packet)
 }

@@ -3,8 +3,8 @@
 //! `step` tells where a frame at a place of a host goes on, or how it ends, and adds the entry that
 //! this makes. It stands on the tables of `plane_types` and on its rules for single packets; no row
 //! of the API is looked at. It takes no memory and refuses nothing, whatever the tables say; what
-//! comes of it borrows from them. Its contract is the definition of
-//! `plane_types`, where the two maps of the tables ascend by key.
+//! comes of it borrows from them. Its contract is the definition of `plane_types`; the two maps are
+//! searched by halving, since they ascend by their type.
 #![tactic(auto)]
 
 mod bridge;
@@ -23,5 +23,5 @@ mod ways;
 
 pub use ending::{Ended, Ending, Step};
 pub use look::{inward_tunnel, inward_wire, tag_row, tap_at};
-pub use map::{bridge_at, is_ordered, neighbour_at};
+pub use map::{bridge_at, neighbour_at};
 pub use place::step;

@@ -1,9 +1,8 @@
-ghost use Rattle.std.specs.Prelude.{◌≡◌, ◌+◌, ◌*◌, ◌&&◌, ◌==◌, ◌↔◌, IsTrue, find, option_copied};
+ghost use Rattle.std.specs.Prelude.{◌≡◌, ◌+◌, ◌*◌, ◌&&◌, ◌==◌, find, option_copied};
 ghost use Rattle.std.specs.List.Sorted.{IsSortedBy};
 ghost use Rattle.net_addr.specs.Addresses.{addr_eq, number, width};
 ghost use Rattle.plane_types.specs.Hosts.{key_place as place_of_key, neighbour_before, pair_before};
 ghost use Rattle.plane_types.specs.TableStep.{bridge_at as bridge_by_key, neighbour_at as neighbour_by_address};
-ghost use Rattle.host_plane.specs.Ordered.{AreOrdered};
 
 use net_addr::Addr;
 use plane_types::{BridgeKey, BridgeRow, HostTables, NeighbourRow};
@@ -96,7 +95,8 @@ fn is_at<R: Mapped>(row: &R, first: u32, second: u128) -> bool
     row.first() == first && row.second() == second
 }
 
-// The row with a key, of rows that ascend by key. Its cost grows with the logarithm of their number.
+// The row with a key, of rows that ascend by key. Its cost grows with the logarithm of how many
+// they are.
 fn row_at<R: Mapped>(rows: &[R], first: u32, second: u128) -> Option<&R>
     ensures { IsSortedBy (λ r s. pair_before (R.first_of r) (R.second_of r) (R.first_of s) (R.second_of s)) rows.now → option_copied result ≡ find (λ r. (R.first_of r == first) && (R.second_of r == second)) rows.now }
 {
@@ -112,34 +112,9 @@ fn row_at<R: Mapped>(rows: &[R], first: u32, second: u128) -> Option<&R>
     }
 }
 
-fn ascends<R: Mapped>(rows: &[R]) -> bool
-    ensures { IsTrue result ↔ IsSortedBy (λ r s. pair_before (R.first_of r) (R.second_of r) (R.first_of s) (R.second_of s)) rows.now }
-{
-    for at in 1..rows.len() {
-        let last = &rows[at - 1];
-        if is_before(&rows[at], last.first(), last.second()) {
-            return false;
-        }
-    }
-    true
-}
-
-fn neighbours_ascend(rows: &[NeighbourRow]) -> bool
-    ensures { IsTrue result ↔ IsSortedBy neighbour_before rows.now }
-{
-    ascends(rows)
-}
-
-/// Whether bridge and neighbours ascend. Its cost grows with their rows.
-pub fn is_ordered(tables: &HostTables) -> bool
-    ensures { IsTrue result ↔ AreOrdered tables.now }
-{
-    ascends(tables.bridge.as_slice()) && neighbours_ascend(tables.neighbours.as_slice())
-}
-
-/// The entry of the bridge with this tag and key.
+/// The entry of the bridge with this tag and key. Its cost grows with the logarithm of the rows.
 pub fn bridge_at(tables: &HostTables, tag: u16, key: BridgeKey) -> Option<&BridgeRow>
-    ensures { AreOrdered tables.now → option_copied result ≡ bridge_by_key tables.now tag key }
+    ensures { option_copied result ≡ bridge_by_key tables.now tag key }
 {
     row_at(
         tables.bridge.as_slice(),
@@ -160,13 +135,14 @@ fn neighbour_among<'t>(
     row_at(rows, first, second)
 }
 
-/// The entry of the neighbours with this tag and address.
+/// The entry of the neighbours with this tag and address. Its cost grows with the logarithm of the
+/// rows.
 pub fn neighbour_at<'t>(
     tables: &'t HostTables,
     tag: u16,
     address: &Addr,
 ) -> Option<&'t NeighbourRow>
-    ensures { AreOrdered tables.now → option_copied result ≡ neighbour_by_address tables.now tag address.now }
+    ensures { option_copied result ≡ neighbour_by_address tables.now tag address.now }
 {
     neighbour_among(tables.neighbours.as_slice(), tag, address)
 }

@@ -2,7 +2,6 @@ ghost use Rattle.std.specs.Prelude.{◌≡◌};
 ghost use Rattle.plane_types.specs.Packets.{ip_frame};
 ghost use Rattle.plane_types.specs.TableStep.{neighbour_at as neighbour_by_address, sent_at as sent_at_port, sent_by as sent_by_neighbour, tag_row as row_of_tag, tagged_leg as leg_by_port, unheld as unheld_by};
 ghost use Rattle.plane_types.specs.Parts.{packet_of};
-ghost use Rattle.host_plane.specs.Ordered.{AreOrdered};
 ghost use Rattle.host_plane.specs.Seen.{step_seen};
 
 use crate::ending::{Ended, Ending, Step, drops};
@@ -45,7 +44,7 @@ fn unheld<'t>(tables: &'t HostTables, tag: u16, hop: &Addr, packet: &Packet) -> 
 
 // The neighbour at the next hop gets it, by the bridge.
 fn sent_by<'t>(tables: &'t HostTables, tag: u16, hop: &Addr, packet: &Packet) -> Step<'t>
-    ensures { AreOrdered tables.now → step_seen result ≡ sent_by_neighbour tables.now tag hop.now (packet_of packet.now) (neighbour_by_address tables.now tag hop.now) }
+    ensures { step_seen result ≡ sent_by_neighbour tables.now tag hop.now (packet_of packet.now) (neighbour_by_address tables.now tag hop.now) }
 {
     let Some(held) = neighbour_at(tables, tag, hop) else {
         return unheld(tables, tag, hop, packet);
@@ -64,7 +63,7 @@ pub(crate) fn sent_at<'t>(
     hop: &Addr,
     packet: &Packet,
 ) -> Step<'t>
-    ensures { AreOrdered tables.now → step_seen result ≡ sent_at_port tables.now hop.now (packet_of packet.now) (leg_by_port router.now out) }
+    ensures { step_seen result ≡ sent_at_port tables.now hop.now (packet_of packet.now) (leg_by_port router.now out) }
 {
     match port_of(router, out) {
         Some(port) => sent_by(tables, port.tag, hop, packet),

@@ -1,7 +1,6 @@
 ghost use Rattle.std.specs.Prelude.{◌≡◌, ◌+◌, ◌≤◌, ◌++◌, length};
 ghost use Rattle.plane_types.specs.Places.{place_seen};
 ghost use Rattle.plane_types.specs.TableStep.{table_step};
-ghost use Rattle.host_plane.specs.Ordered.{AreOrdered};
 ghost use Rattle.host_plane.specs.Seen.{step_seen, stepped_seen};
 
 use crate::bridge::{bridge_step, dhcp_in, inward_step};
@@ -17,7 +16,7 @@ fn stepped<'t>(
     fresh: &[Entry],
     place: &Place<'t>,
 ) -> Stepped<'t>
-    ensures { AreOrdered tables.now → stepped_seen result ≡ table_step tables.now (entries.now ++ fresh.now) (place_seen place.now) }
+    ensures { stepped_seen result ≡ table_step tables.now (entries.now ++ fresh.now) (place_seen place.now) }
 {
     match place {
         Place::TapIn { port, frame } => tap_in(tables, entries, fresh, *port, *frame),
@@ -50,14 +49,15 @@ fn stepped<'t>(
     }
 }
 
-/// One look-up at a host: where a frame at this place goes on, or how it ends, by the host's tables,
-/// its tracked entries, and those that the event has made so far, to which the one that this step
-/// makes is added. It takes no memory and refuses nothing.
+/// One look-up at a host: where a frame at this place goes on, or how it ends, by the host's
+/// tables, its tracked entries, and those that the event has made so far, to which the one that
+/// this step makes is added. It takes no memory and refuses nothing.
 ///
-/// Bridge and neighbours are searched by halving, so what is told is the definition's where they
-/// ascend. Its cost grows with the logarithm of their rows, and with the rows of one other table at
-/// a tap or a tag; at a filter with the host's filters and entries, at a router with its ports, the
-/// routes and floating addresses and the entries.
+/// Bridge and neighbours are searched by halving, so its cost grows with the logarithm of their
+/// rows. All else is stepped over: the taps and a tap's allowed pairs, the tags, what comes inward
+/// and the leases; at a filter the host's filter rows, the entries, and the sets for each row of
+/// the tap that names a group; at a router the routers, its ports with their addresses, the routes,
+/// the floating addresses, and the entries, for a new translation as often as ports are taken.
 pub fn step<'t>(
     tables: &'t HostTables,
     entries: &Entries,
@@ -65,8 +65,8 @@ pub fn step<'t>(
     place: &Place<'t>,
 ) -> Step<'t>
     requires { 2 ≤ fresh.old.spare }
-    ensures step { AreOrdered tables.now → step_seen result ≡ (table_step tables.now (entries.now.items ++ fresh.old.items) (place_seen place.now)).step }
-    ensures made { AreOrdered tables.now → fresh.new.items ≡ fresh.old.items ++ (table_step tables.now (entries.now.items ++ fresh.old.items) (place_seen place.now)).made }
+    ensures step { step_seen result ≡ (table_step tables.now (entries.now.items ++ fresh.old.items) (place_seen place.now)).step }
+    ensures made { fresh.new.items ≡ fresh.old.items ++ (table_step tables.now (entries.now.items ++ fresh.old.items) (place_seen place.now)).made }
     ensures room { fresh.old.spare + length fresh.old.items ≤ fresh.new.spare + length fresh.new.items }
 {
     let Stepped { step, made } = stepped(tables, entries.as_slice(), fresh.as_slice(), place);

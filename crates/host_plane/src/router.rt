@@ -2,12 +2,11 @@ ghost use Rattle.std.specs.Prelude.{◌≡◌, ◌++◌, Some, option_map};
 ghost use Rattle.std.specs.List.{list_any};
 ghost use Rattle.std.specs.Option.{unwrap_or};
 ghost use Rattle.net_addr.specs.Addresses.{addr_eq};
-ghost use Rattle.net_addr.specs.declared.address.Addr.TheVariants.{V4};
+ghost use Rattle.plane_types.specs.Ends.{destination as destined_for};
 ghost use Rattle.plane_types.specs.Routing.{best_way as best_of_ways, destined as destined_by, is_own as is_own_by, routed as routed_by_view, routed_to as to_by_view, routed_way as way_by_view, sent as sent_by, uses_by};
 ghost use Rattle.plane_types.specs.TableStep.{leg_at, plain, stops, table_routed as led_by, table_view, way_at, ways_at};
 ghost use Rattle.plane_types.specs.declared.verdict.Outcome.TheVariants.{Absorbed};
 ghost use Rattle.plane_types.specs.Parts.{changed_of, destined_of, packet_of, sourced_of};
-ghost use Rattle.host_plane.specs.Ordered.{AreOrdered};
 ghost use Rattle.host_plane.specs.Seen.{stepped_seen};
 
 use crate::ending::{Ended, Ending, Step, Stepped, dropped};
@@ -20,7 +19,7 @@ use api_types::Id;
 use net_addr::Addr;
 use plane_types::{
     Changed, Destined, DropCause, Entry, HostTables, Packet, RouteRow, RouterPort, RouterTable,
-    Sourced, answered_to, lower, with_destination,
+    Sourced, answered_to, lower, with_ends,
 };
 
 // A floating address of this router becomes the fixed address; else an entry that the packet
@@ -34,9 +33,9 @@ fn find_destination(
 ) -> Destined
     ensures { destined_of result ≡ destined_by (table_view tables.now router.now) (uses_by router.now.snat router.now.gateway router.now.router (entries.now ++ fresh.now)) (packet_of packet.now) }
 {
-    if let Some(to) = fixed_behind(tables, router.router, packet.to) {
+    if let Some(to) = fixed_behind(tables, router.router, &packet.ends.destination()) {
         return Destined {
-            packet: with_destination(packet, to, packet.part),
+            packet: with_ends(packet, packet.ends.with_destination(to), packet.part),
             by: Changed::Floating,
         };
     }
@@ -81,7 +80,7 @@ fn send_on<'t>(
     hop: &Addr,
     sourced: Option<Sourced>,
 ) -> Stepped<'t>
-    ensures { AreOrdered tables.now → stepped_seen result ≡ led_by tables.now router.now (sent_by (leg_at out.now) hop.now (option_map sourced_of sourced)) }
+    ensures { stepped_seen result ≡ led_by tables.now router.now (sent_by (leg_at out.now) hop.now (option_map sourced_of sourced)) }
 {
     let Some(sourced) = sourced else {
         return dropped(DropCause::TranslationFull);
@@ -98,11 +97,11 @@ fn send_on<'t>(
 
 // The route's next hop, or the destination where it has none.
 fn next_hop(row: &RouteRow, packet: &Packet) -> Addr
-    ensures { result ≡ unwrap_or row.now.next (V4 packet.now.to) }
+    ensures { result ≡ unwrap_or row.now.next (destined_for packet.now.ends) }
 {
     match row.next {
         Some(next) => next,
-        None => Addr::V4(packet.to),
+        None => packet.ends.destination(),
     }
 }
 
@@ -116,7 +115,7 @@ fn routed_by<'t>(
     destined: &Destined,
     row: &RouteRow,
 ) -> Stepped<'t>
-    ensures { AreOrdered tables.now → stepped_seen result ≡ led_by tables.now router.now (way_by_view (table_view tables.now router.now) (uses_by router.now.snat router.now.gateway router.now.router (entries.now ++ fresh.now)) (leg_at port.now) (changed_of destined.now.by) (packet_of destined.now.packet) (Some (way_at row.now))) }
+    ensures { stepped_seen result ≡ led_by tables.now router.now (way_by_view (table_view tables.now router.now) (uses_by router.now.snat router.now.gateway router.now.router (entries.now ++ fresh.now)) (leg_at port.now) (changed_of destined.now.by) (packet_of destined.now.packet) (Some (way_at row.now))) }
 {
     match port_of(router, row.port) {
         Some(out) => {
@@ -137,9 +136,9 @@ fn routed_on<'t>(
     port: &RouterPort,
     destined: &Destined,
 ) -> Stepped<'t>
-    ensures { AreOrdered tables.now → stepped_seen result ≡ led_by tables.now router.now (way_by_view (table_view tables.now router.now) (uses_by router.now.snat router.now.gateway router.now.router (entries.now ++ fresh.now)) (leg_at port.now) (changed_of destined.now.by) (packet_of destined.now.packet) (best_of_ways (V4 destined.now.packet.to) (ways_at router.now.router tables.now.routes))) }
+    ensures { stepped_seen result ≡ led_by tables.now router.now (way_by_view (table_view tables.now router.now) (uses_by router.now.snat router.now.gateway router.now.router (entries.now ++ fresh.now)) (leg_at port.now) (changed_of destined.now.by) (packet_of destined.now.packet) (best_of_ways (destined_for destined.now.packet.ends) (ways_at router.now.router tables.now.routes))) }
 {
-    let to = Addr::V4(destined.packet.to);
+    let to = destined.packet.ends.destination();
     match best_way(tables, router.router, &to) {
         Some(row) => routed_by(tables, entries, fresh, router, port, destined, row),
         None => dropped(DropCause::NoRoute),
@@ -167,9 +166,9 @@ fn routed_to<'t>(
     port: &RouterPort,
     destined: &Destined,
 ) -> Stepped<'t>
-    ensures { AreOrdered tables.now → stepped_seen result ≡ led_by tables.now router.now (to_by_view (table_view tables.now router.now) (uses_by router.now.snat router.now.gateway router.now.router (entries.now ++ fresh.now)) (leg_at port.now) (destined_of destined.now)) }
+    ensures { stepped_seen result ≡ led_by tables.now router.now (to_by_view (table_view tables.now router.now) (uses_by router.now.snat router.now.gateway router.now.router (entries.now ++ fresh.now)) (leg_at port.now) (destined_of destined.now)) }
 {
-    if is_own(tables, router, &Addr::V4(destined.packet.to)) {
+    if is_own(tables, router, &destined.packet.ends.destination()) {
         return absorbed(router.router);
     }
     if destined.packet.ttl <= 1 {
@@ -190,7 +189,7 @@ pub(crate) fn route<'t>(
     port: &RouterPort,
     packet: &Packet,
 ) -> Stepped<'t>
-    ensures { AreOrdered tables.now → stepped_seen result ≡ led_by tables.now router.now (routed_by_view (table_view tables.now router.now) (entries.now ++ fresh.now) (leg_at port.now) (packet_of packet.now)) }
+    ensures { stepped_seen result ≡ led_by tables.now router.now (routed_by_view (table_view tables.now router.now) (entries.now ++ fresh.now) (leg_at port.now) (packet_of packet.now)) }
 {
     if !router.up {
         return dropped(DropCause::RouterDown);

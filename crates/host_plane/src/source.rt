@@ -1,5 +1,8 @@
-ghost use Rattle.std.specs.Prelude.{◌≡◌, ◌++◌, ◌==◌, ◌&&◌, ◌||◌, find, not, option_map, true};
+ghost use Rattle.std.specs.Prelude.{◌≡◌, ◌++◌, ◌&&◌, ◌||◌, find, not, option_map, true};
 ghost use Rattle.std.specs.List.{list_any};
+ghost use Rattle.net_addr.specs.Addresses.{addr_eq};
+ghost use Rattle.net_addr.specs.declared.address.Addr.TheVariants.{V4};
+ghost use Rattle.plane_types.specs.Ends.{source};
 ghost use Rattle.plane_types.specs.Packets.{key_of};
 ghost use Rattle.plane_types.specs.Routing.{by_float as changed_by_float, is_gateway_live, new_port as new_port_of, sourced as sourced_by, sourced_float as sourced_by_float, sourced_gateway as sourced_by_gateway, sourced_new as sourced_anew, uses_at, uses_by};
 ghost use Rattle.api_types.specs.RouterViews.{Float};
@@ -9,19 +12,19 @@ ghost use Rattle.plane_types.specs.Parts.{changed_of, packet_of, sourced_of};
 
 use crate::translation::{new_port, with_key};
 use api_types::Id;
-use net_addr::Addr4;
+use net_addr::{Addr, Addr4};
 use plane_types::{
     Changed, Destined, Entry, HostTables, Packet, RouterPort, RouterTable, Sourced, by_any,
-    by_float, kept_source, sourced_at,
+    by_float, kept_source, sourced_at, with_ends,
 };
 
-/// The fixed address for which a floating address of the router stands. Its cost grows with the
-/// floating addresses.
-pub(crate) fn fixed_behind(tables: &HostTables, router: Id, floating: Addr4) -> Option<Addr4>
-    ensures { result ≡ option_map (λ (f : Float). f.fixed) (find (λ (f : Float). f.floating == floating) (floats_at_router router tables.now.floats)) }
+/// The fixed address for which a floating address of the router stands; for an address of version 6
+/// there is none. Its cost grows with the floating addresses.
+pub(crate) fn fixed_behind(tables: &HostTables, router: Id, floating: &Addr) -> Option<Addr4>
+    ensures { result ≡ option_map (λ (f : Float). f.fixed) (find (λ (f : Float). addr_eq (V4 f.floating) floating.now) (floats_at_router router tables.now.floats)) }
 {
     for row in tables.floats.as_slice() {
-        if router == row.router && row.floating == floating {
+        if router == row.router && Addr::V4(row.floating) == *floating {
             return Some(row.fixed);
         }
     }
@@ -29,11 +32,11 @@ pub(crate) fn fixed_behind(tables: &HostTables, router: Id, floating: Addr4) -> 
 }
 
 // The floating address of the router that stands for a fixed address.
-fn floating_for(tables: &HostTables, router: Id, fixed: Addr4) -> Option<Addr4>
-    ensures { result ≡ option_map (λ (f : Float). f.floating) (find (λ (f : Float). f.fixed == fixed) (floats_at_router router tables.now.floats)) }
+fn floating_for(tables: &HostTables, router: Id, fixed: &Addr) -> Option<Addr4>
+    ensures { result ≡ option_map (λ (f : Float). f.floating) (find (λ (f : Float). addr_eq (V4 f.fixed) fixed.now) (floats_at_router router tables.now.floats)) }
 {
     for row in tables.floats.as_slice() {
-        if router == row.router && row.fixed == fixed {
+        if router == row.router && Addr::V4(row.fixed) == *fixed {
             return Some(row.floating);
         }
     }
@@ -112,12 +115,12 @@ fn sourced_float(
     out: &RouterPort,
     destined: &Destined,
 ) -> Option<Sourced>
-    ensures { option_map sourced_of result ≡ sourced_by_float (table_view tables.now router.now) (uses_by router.now.snat router.now.gateway router.now.router (entries.now ++ fresh.now)) (leg_at out.now) (changed_of destined.now.by) (packet_of destined.now.packet) (find (λ (f : Float). f.fixed == destined.now.packet.from) (floats_at_router router.now.router tables.now.floats)) }
+    ensures { option_map sourced_of result ≡ sourced_by_float (table_view tables.now router.now) (uses_by router.now.snat router.now.gateway router.now.router (entries.now ++ fresh.now)) (leg_at out.now) (changed_of destined.now.by) (packet_of destined.now.packet) (find (λ (f : Float). addr_eq (V4 f.fixed) (source destined.now.packet.ends)) (floats_at_router router.now.router tables.now.floats)) }
 {
     let packet = &destined.packet;
-    if let Some(from) = floating_for(tables, router.router, packet.from) {
+    if let Some(from) = floating_for(tables, router.router, &packet.ends.source()) {
         return Some(Sourced {
-            packet: Packet { from, ..*packet },
+            packet: with_ends(packet, packet.ends.with_source(from), packet.part),
             made: None,
         });
     }
@@ -128,9 +131,9 @@ fn sourced_float(
     }
 }
 
-/// The packet with the source that it leaves with, or none where no port is left. Only a packet
-/// that came in by an interface, and leaves by the gateway port or had its destination changed, is
-/// looked at.
+/// The packet with the source that it leaves with, or none where no port is left. Only a packet of
+/// version 4 that came in by an interface, and leaves by the gateway port or had its destination
+/// changed, is looked at.
 pub(crate) fn find_source(
     tables: &HostTables,
     entries: &[Entry],
@@ -143,7 +146,7 @@ pub(crate) fn find_source(
     ensures { option_map sourced_of result ≡ sourced_by (table_view tables.now router.now) (uses_by router.now.snat router.now.gateway router.now.router (entries.now ++ fresh.now)) (leg_at port.now) (leg_at out.now) (changed_of destined.now.by) (packet_of destined.now.packet) }
 {
     let leaves = !out.inside || by_any(destined.by);
-    if port.inside && leaves {
+    if destined.packet.ends.are_four() && port.inside && leaves {
         sourced_float(tables, entries, fresh, router, out, destined)
     } else {
         kept_source(&destined.packet)

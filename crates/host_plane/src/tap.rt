@@ -1,7 +1,9 @@
 ghost use Rattle.std.specs.Prelude.{◌≡◌, ◌++◌};
+ghost use Rattle.api_types.specs.declared.group.Direction.TheVariants.{Egress, Ingress};
+ghost use Rattle.plane_types.specs.Packets.{ip_frame};
 ghost use Rattle.plane_types.specs.Places.{Bridge, Next};
-ghost use Rattle.plane_types.specs.TableStep.{stops as stop_step, tap_at as tap_by_port, tap_delivers as delivered_to, tap_filtered as filtered_by, tap_guards as guarded, tap_in as taken_in, tap_out as taken_out, tap_out_by as taken_out_by, tap_sends as sent_by};
-ghost use Rattle.plane_types.specs.Parts.{passage_of};
+ghost use Rattle.plane_types.specs.TableStep.{stops as stop_step, tap_at as tap_by_port, tap_delivers as delivered_to, tap_filtered as filtered_by, tap_guards as guarded, tap_in as taken_in, tap_out as taken_out, tap_out_by as taken_out_by, tap_passage, tap_sends as sent_by};
+ghost use Rattle.plane_types.specs.Parts.{packet_of};
 ghost use Rattle.plane_types.specs.declared.verdict.Outcome.TheVariants.{Delivered};
 ghost use Rattle.host_plane.specs.Seen.{step_seen, stepped_seen};
 
@@ -11,7 +13,7 @@ use crate::look::tap_at;
 use api_types::{Direction, Id};
 use net_addr::Addr;
 use plane_types::{
-    DropCause, Entry, Frame, HostTables, Packet, Passage, Place, TapRow, has_pair_mac, is_allowed,
+    DropCause, Entry, Frame, HostTables, Packet, Place, TapRow, has_pair_mac, is_allowed,
     is_unsupported,
 };
 
@@ -22,8 +24,8 @@ fn guards(tap: &TapRow, frame: &Frame) -> bool
 {
     let allowed = tap.allowed.as_slice();
     match *frame {
-        Frame::Ip4 { src, from, .. } => is_allowed(allowed, src, Addr::V4(from)),
-        Frame::ArpAsk { src, from, .. } => is_allowed(allowed, src, Addr::V4(from)),
+        Frame::Ip { src, ends, .. } => is_allowed(allowed, src, ends.source()),
+        Frame::NeighbourAsk { src, ends } => is_allowed(allowed, src, ends.source()),
         Frame::Dhcp { src, from } => {
             if from.0 == 0 {
                 tap.mac == src || has_pair_mac(allowed, src)
@@ -45,12 +47,19 @@ fn to_bridge<'t>(tap: &TapRow, frame: Frame) -> Step<'t>
 }
 
 // A packet goes to the bridge where it passes the filter.
-fn filtered<'t>(tap: &TapRow, frame: Frame, passage: Passage) -> Stepped<'t>
-    ensures { stepped_seen result ≡ filtered_by frame tap.now (passage_of passage) }
+fn filtered<'t>(
+    tables: &HostTables,
+    entries: &[Entry],
+    fresh: &[Entry],
+    tap: &TapRow,
+    packet: &Packet,
+) -> Stepped<'t>
+    ensures { stepped_seen result ≡ filtered_by (ip_frame (packet_of packet.now)) tap.now (tap_passage tables.now (entries.now ++ fresh.now) tap.now Egress (packet_of packet.now)) }
 {
+    let passage = passage_at(tables, entries, fresh, tap, Direction::Egress, packet);
     if passage.passes {
         Stepped {
-            step: to_bridge(tap, frame),
+            step: to_bridge(tap, packet.frame()),
             made: passage.made,
         }
     } else {
@@ -67,27 +76,9 @@ fn sends<'t>(
 ) -> Stepped<'t>
     ensures { stepped_seen result ≡ sent_by tables.now (entries.now ++ fresh.now) tap.now frame }
 {
-    match frame {
-        Frame::Ip4 {
-            src,
-            dst,
-            from,
-            to,
-            ttl,
-            part,
-        } => {
-            let packet = Packet {
-                src,
-                dst,
-                from,
-                to,
-                ttl,
-                part,
-            };
-            let passage = passage_at(tables, entries, fresh, tap, Direction::Egress, &packet);
-            filtered(tap, frame, passage)
-        }
-        Frame::ArpAsk { .. } | Frame::Dhcp { .. } | Frame::Other { .. } => Stepped {
+    match Packet::of(&frame) {
+        Some(packet) => filtered(tables, entries, fresh, tap, &packet),
+        None => Stepped {
             step: to_bridge(tap, frame),
             made: None,
         },
@@ -126,12 +117,19 @@ fn deliver<'t>(port: Id, frame: Frame) -> Step<'t>
 }
 
 // A packet is delivered where it passes the filter.
-fn delivers<'t>(port: Id, frame: Frame, passage: Passage) -> Stepped<'t>
-    ensures { stepped_seen result ≡ delivered_to port frame (passage_of passage) }
+fn delivers<'t>(
+    tables: &HostTables,
+    entries: &[Entry],
+    fresh: &[Entry],
+    tap: &TapRow,
+    packet: &Packet,
+) -> Stepped<'t>
+    ensures { stepped_seen result ≡ delivered_to tap.now.port (ip_frame (packet_of packet.now)) (tap_passage tables.now (entries.now ++ fresh.now) tap.now Ingress (packet_of packet.now)) }
 {
+    let passage = passage_at(tables, entries, fresh, tap, Direction::Ingress, packet);
     if passage.passes {
         Stepped {
-            step: deliver(port, frame),
+            step: deliver(tap.port, packet.frame()),
             made: passage.made,
         }
     } else {
@@ -148,27 +146,9 @@ fn gets<'t>(
 ) -> Stepped<'t>
     ensures { stepped_seen result ≡ taken_out_by tables.now (entries.now ++ fresh.now) frame tap.now }
 {
-    match frame {
-        Frame::Ip4 {
-            src,
-            dst,
-            from,
-            to,
-            ttl,
-            part,
-        } => {
-            let packet = Packet {
-                src,
-                dst,
-                from,
-                to,
-                ttl,
-                part,
-            };
-            let passage = passage_at(tables, entries, fresh, tap, Direction::Ingress, &packet);
-            delivers(tap.port, frame, passage)
-        }
-        Frame::ArpAsk { .. } | Frame::Dhcp { .. } | Frame::Other { .. } => Stepped {
+    match Packet::of(&frame) {
+        Some(packet) => delivers(tables, entries, fresh, tap, &packet),
+        None => Stepped {
             step: deliver(tap.port, frame),
             made: None,
         },

@@ -1,8 +1,8 @@
 use crate::lab::{Lab, Node};
 use crate::office::{FIRST, INNER, SECOND, first_host, inner, lab_of, second_host};
-use crate::seen::{End, Seen, goes, makers, see, tcp};
+use crate::seen::{End, Seen, Sender, goes, makers, see, tcp};
 use net_addr::{Addr, Addr4, Mac, Seq};
-use plane_types::{DropCause, Event, Frame, Toward};
+use plane_types::{DropCause, Ends, Frame, Toward};
 use std::alloc::Global;
 use std::test::Fail;
 use test_rows::{id, mac};
@@ -13,20 +13,12 @@ fn office(alloc: Global) -> Result<Lab, Fail> {
 
 // TCP from one instance to another.
 fn packet(from: u8, to: u8, sport: u16, dport: u16) -> Frame {
-    Frame::Ip4 {
+    Frame::Ip {
         src: mac(from),
         dst: mac(to),
-        from: inner(from),
-        to: inner(to),
+        ends: Ends::four(inner(from), inner(to)),
         ttl: 64,
         part: tcp(sport, dport),
-    }
-}
-
-fn sent(from: u8, frame: Frame) -> Event {
-    Event::FromPort {
-        port: id(from),
-        frame,
     }
 }
 
@@ -35,85 +27,73 @@ fn packets_cross_a_tunnel(rt: HostRuntime) -> Result<(), Fail> {
     let alloc = rt.alloc();
     let mut lab = office(alloc)?;
     let ask = packet(FIRST, SECOND, 40000, 22);
-    let event = sent(FIRST, ask);
-    assert!(rt; goes(alloc, &lab, &event, ("c1", 1), ("c2", 7))?);
-    assert!(rt; makers(alloc, &lab, &event)? == Some((0, 1)));
-    let delivered = Seen {
-        end: End::Delivered(id(SECOND), ask),
-        passed: 1,
-        made: 2,
-        tags: 2,
-    };
-    assert!(rt; see(alloc, &mut lab, &event)? == delivered);
     let answer = packet(SECOND, FIRST, 22, 40000);
-    let answered = Seen {
-        end: End::Delivered(id(FIRST), answer),
-        passed: 1,
-        made: 2,
-        tags: 2,
-    };
-    assert!(rt; see(alloc, &mut lab, &sent(SECOND, answer))? == answered);
+    let first = Sender::Port(FIRST);
+    assert!(rt; goes(alloc, &lab, first, &ask, ("c1", 1), ("c2", 7))?);
+    assert!(rt; makers(alloc, &lab, first, &ask)? == Some((0, 1)));
+    for (from, to, frame) in [(FIRST, SECOND, ask), (SECOND, FIRST, answer)] {
+        let want = Seen {
+            end: End::Delivered(id(to), frame),
+            passed: 1,
+            made: 2,
+            tags: 2,
+        };
+        assert!(rt; see(alloc, &mut lab, Sender::Port(from), &frame)? == want);
+    }
     Ok(())
+}
+
+fn lease_ask(n: u8) -> Frame {
+    Frame::Dhcp {
+        src: mac(n),
+        from: Addr4(0),
+    }
+}
+
+fn leased(n: u8) -> End {
+    End::Lease(Addr::V4(inner(n)), 24)
 }
 
 #[test]
 fn asks_are_answered(rt: HostRuntime) -> Result<(), Fail> {
     let alloc = rt.alloc();
     let mut lab = office(alloc)?;
-    let ask_lease = |n: u8| sent(
-        n,
-        Frame::Dhcp {
-            src: mac(n),
-            from: Addr4(0),
-        },
-    );
-    let ask = Frame::ArpAsk {
+    let ask = Frame::NeighbourAsk {
         src: mac(SECOND),
-        from: inner(SECOND),
-        to: inner(FIRST),
+        ends: Ends::four(inner(SECOND), inner(FIRST)),
     };
-    let table = [
-        (ask_lease(FIRST), End::Lease(Addr::V4(inner(FIRST)), 24), 1),
-        (
-            ask_lease(SECOND),
-            End::Lease(Addr::V4(inner(SECOND)), 24),
-            2,
-        ),
-        (
-            sent(SECOND, ask),
-            End::Address(Addr::V4(inner(FIRST)), mac(FIRST)),
-            1,
-        ),
-    ];
-    for (event, end, tags) in &table {
+    let held = End::Address(Addr::V4(inner(FIRST)), mac(FIRST));
+    for (n, frame, end, tags) in [
+        (FIRST, lease_ask(FIRST), leased(FIRST), 1),
+        (SECOND, lease_ask(SECOND), leased(SECOND), 2),
+        (SECOND, ask, held, 1),
+    ] {
         let want = Seen {
-            end: *end,
+            end,
             passed: 1,
             made: 0,
-            tags: *tags,
+            tags,
         };
-        assert!(rt; see(alloc, &mut lab, event)? == want);
+        assert!(rt; see(alloc, &mut lab, Sender::Port(n), &frame)? == want);
     }
     Ok(())
 }
 
 fn foreign() -> Frame {
-    Frame::Ip4 {
+    Frame::Ip {
         src: mac(FIRST),
         dst: mac(SECOND),
-        from: Addr4(INNER + 99),
-        to: inner(SECOND),
+        ends: Ends::four(Addr4(INNER + 99), inner(SECOND)),
         ttl: 64,
         part: tcp(40000, 22),
     }
 }
 
 fn to_many() -> Frame {
-    Frame::Ip4 {
+    Frame::Ip {
         src: mac(FIRST),
         dst: Mac(0x0100_5e00_0001),
-        from: inner(FIRST),
-        to: Addr4(0xe000_0001),
+        ends: Ends::four(inner(FIRST), Addr4(0xe000_0001)),
         ttl: 1,
         part: tcp(1, 2),
     }
@@ -126,33 +106,26 @@ fn frames_are_dropped(rt: HostRuntime) -> Result<(), Fail> {
     let _address = Addr::V4(inner(1));
     let alloc = rt.alloc();
     let mut lab = office(alloc)?;
-    let ask = Frame::ArpAsk {
+    let ask = Frame::NeighbourAsk {
         src: mac(FIRST),
-        from: inner(FIRST),
-        to: inner(77),
+        ends: Ends::four(inner(FIRST), inner(77)),
     };
-    let table = [
-        (sent(8, packet(8, FIRST, 1, 2)), DropCause::Dead, 0, 0),
-        (sent(FIRST, to_many()), DropCause::Unsupported, 1, 0),
-        (sent(FIRST, foreign()), DropCause::Spoof, 1, 0),
-        (
-            sent(FIRST, packet(FIRST, 7, 1, 2)),
-            DropCause::Unknown,
-            1,
-            1,
-        ),
-        (sent(FIRST, ask), DropCause::NoHolder, 1, 1),
-    ];
-    for (event, cause, passed, tags) in &table {
-        let seen = see(alloc, &mut lab, event)?;
-        assert!(rt; seen.end == End::Dropped(*cause));
-        assert!(rt; seen.passed == *passed && seen.tags == *tags);
+    for (n, frame, cause, passed, tags) in [
+        (8, packet(8, FIRST, 1, 2), DropCause::Dead, 0, 0),
+        (FIRST, to_many(), DropCause::Unsupported, 1, 0),
+        (FIRST, foreign(), DropCause::Spoof, 1, 0),
+        (FIRST, packet(FIRST, 7, 1, 2), DropCause::Unknown, 1, 1),
+        (FIRST, ask, DropCause::NoHolder, 1, 1),
+    ] {
+        let seen = see(alloc, &mut lab, Sender::Port(n), &frame)?;
+        assert!(rt; seen.end == End::Dropped(cause));
+        assert!(rt; seen.passed == passed && seen.tags == tags);
     }
     Ok(())
 }
 
-// Without filters at the first host nothing leaves it, and without sets at the second nothing of the
-// group comes in there.
+// Without filters at the first host nothing leaves it, and without sets at the second nothing of
+// the group comes in there.
 fn strict(alloc: Global, with_filters: bool) -> Result<Lab, Fail> {
     let mut first = first_host(alloc)?;
     if !with_filters {
@@ -166,7 +139,7 @@ fn strict(alloc: Global, with_filters: bool) -> Result<Lab, Fail> {
 #[test]
 fn filters_drop(rt: HostRuntime) -> Result<(), Fail> {
     let alloc = rt.alloc();
-    let event = sent(FIRST, packet(FIRST, SECOND, 1, 2));
+    let frame = packet(FIRST, SECOND, 1, 2);
     for (with_filters, cause, made, tags) in [
         (false, DropCause::Egress, 0, 0),
         (true, DropCause::Ingress, 1, 2),
@@ -178,7 +151,7 @@ fn filters_drop(rt: HostRuntime) -> Result<(), Fail> {
             made,
             tags,
         };
-        assert!(rt; see(alloc, &mut lab, &event)? == want);
+        assert!(rt; see(alloc, &mut lab, Sender::Port(FIRST), &frame)? == want);
     }
     Ok(())
 }
@@ -197,10 +170,11 @@ fn hosts_that_lease_nothing(rt: HostRuntime) -> Result<(), Fail> {
         src: mac(FIRST),
         from: inner(FIRST),
     };
-    let seen = see(alloc, &mut lab, &sent(FIRST, ask))?;
+    let seen = see(alloc, &mut lab, Sender::Port(FIRST), &ask)?;
     assert!(rt; seen.end == End::Dropped(DropCause::NoLease));
     // the host to which the tunnel leads isn't there
-    let seen = see(alloc, &mut lab, &sent(FIRST, packet(FIRST, SECOND, 1, 2)))?;
+    let frame = packet(FIRST, SECOND, 1, 2);
+    let seen = see(alloc, &mut lab, Sender::Port(FIRST), &frame)?;
     assert!(rt; seen.end == End::Dropped(DropCause::Unknown));
     Ok(())
 }

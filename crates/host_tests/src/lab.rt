@@ -1,29 +1,43 @@
 ghost use Rattle.std.specs.Prelude.{◌≡◌, false};
 ghost use Rattle.std.specs.Str.{bytes_eq};
-ghost use Rattle.host_plane.specs.Ordered.{AreOrdered};
 
 use fabric_run::Fleet;
-use host_plane::is_ordered;
 use net_addr::{OutOfMemory, Text};
 use plane_types::{Entries, Entry, HostTables, Made};
 use std::alloc::Global;
 use std::test::Fail;
 
-/// A host with its tables, whose two maps ascend, and its tracked entries.
-#[derive(Drop)]
+/// A host with its tables and its tracked entries.
 pub(crate) struct Node {
     name: Text,
     tables: HostTables,
     entries: Entries,
-    ghost ordered: { AreOrdered tables },
+}
+
+impl Drop for Node {
+    fn drop(self) {
+        let Node {
+            name: _,
+            tables: _,
+            entries: _,
+        } = self;
+    }
 }
 
 /// Two hosts made by hand, whose names differ.
-#[derive(Drop)]
 pub(crate) struct Lab {
     first: Node,
     second: Node,
     ghost differ: { bytes_eq first.name second.name ≡ false },
+}
+
+impl Drop for Lab {
+    fn drop(self) {
+        let Lab {
+            first: _,
+            second: _,
+        } = self;
+    }
 }
 
 impl Fleet for Lab {
@@ -61,10 +75,7 @@ impl Fleet for Lab {
 }
 
 impl Node {
-    pub(crate) fn make(alloc: Global, name: &str, tables: HostTables) -> Result<Node, Fail> {
-        if !is_ordered(&tables) {
-            return Err(Fail::new("the maps ascend"));
-        }
+    pub(crate) fn make(alloc: Global, name: &str, tables: HostTables) -> Result<Node, OutOfMemory> {
         Ok(Node {
             name: Text::of(alloc, name)?,
             tables,

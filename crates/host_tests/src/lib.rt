@@ -1,7 +1,7 @@
 //! Tests of `fabric_run`: what frames come to by tables made by hand.
 //!
-//! Outcomes, paths, entries and trails were worked out by hand. A crate with tests is proved twice, so
-//! they stand here, above `fabric_run`, and not in it. It promises nothing by itself.
+//! Outcomes, paths, entries and trails were worked out by hand. A crate with tests is proved twice,
+//! so they stand here, above `fabric_run`, and not in it. It promises nothing by itself.
 #![tactic(auto)]
 
 #[cfg(test)]
@@ -16,5 +16,9 @@ mod outer;
 mod routed;
 #[cfg(test)]
 mod seen;
+#[cfg(test)]
+mod six;
+#[cfg(test)]
+mod six_routed;
 #[cfg(test)]
 mod wires;

@@ -1,8 +1,8 @@
 use crate::lab::{Lab, Node};
-use api_types::{Direction, Id, Lease, Pair, Wire};
+use api_types::{Direction, Ethertype, Id, Lease, Pair, Wire};
 use net_addr::{Addr, Addr4, Mac, OutOfMemory, Prefix, Seq, Text};
 use plane_types::{
-    BridgeKey, BridgeRow, BridgeTo, Carrier, FilterRow, HostTables, InwardRow, LeaseRow,
+    Ascending, BridgeKey, BridgeRow, BridgeTo, Carrier, FilterRow, HostTables, InwardRow, LeaseRow,
     NeighbourRow, SetRow, TagRow, TapRow,
 };
 use std::alloc::Global;
@@ -39,9 +39,9 @@ pub(crate) fn empty(alloc: Global) -> HostTables {
         taps: Seq::new(alloc),
         filters: Seq::new(alloc),
         sets: Seq::new(alloc),
-        bridge: Seq::new(alloc),
+        bridge: Ascending::new(alloc),
         inward: Seq::new(alloc),
-        neighbours: Seq::new(alloc),
+        neighbours: Ascending::new(alloc),
         routers: Seq::new(alloc),
         routes: Seq::new(alloc),
         floats: Seq::new(alloc),
@@ -57,12 +57,18 @@ pub(crate) fn tag_row(network: u8, tag: u16, wire: Option<Wire>) -> TagRow {
     }
 }
 
-/// A tap of an instance, which may send as 10.0.0.n with the MAC 02:00:00:00:00:n.
-pub(crate) fn tap(alloc: Global, n: u8, tag: u16, secured: bool) -> Result<TapRow, OutOfMemory> {
+/// A tap of an instance, which may send as an address of the prefix with the MAC 02:00:00:00:00:n.
+pub(crate) fn tap_with(
+    alloc: Global,
+    n: u8,
+    tag: u16,
+    secured: bool,
+    prefix: Prefix,
+) -> Result<TapRow, OutOfMemory> {
     let mut allowed = Seq::new(alloc);
     allowed.push(Pair {
         mac: mac(n),
-        prefix: prefix(INNER + u32::from(n), 32),
+        prefix,
     })?;
     Ok(TapRow {
         port: id(n),
@@ -71,6 +77,12 @@ pub(crate) fn tap(alloc: Global, n: u8, tag: u16, secured: bool) -> Result<TapRo
         secured,
         allowed,
     })
+}
+
+/// A tap of an instance, which may send as 10.0.0.n.
+pub(crate) fn tap(alloc: Global, n: u8, tag: u16, secured: bool) -> Result<TapRow, OutOfMemory> {
+    let own = prefix(INNER + u32::from(n), 32);
+    tap_with(alloc, n, tag, secured, own)
 }
 
 fn filter(
@@ -82,6 +94,7 @@ fn filter(
     FilterRow {
         port: id(n),
         direction,
+        ethertype: Ethertype::Ipv4,
         protocol: None,
         low: None,
         high: None,
@@ -113,10 +126,10 @@ pub(crate) fn tunnel(alloc: Global, host: &str) -> Result<BridgeTo, OutOfMemory>
     })
 }
 
-pub(crate) fn neighbour(tag: u16, address: Addr4, mac: Mac) -> NeighbourRow {
+pub(crate) fn neighbour(tag: u16, address: &Addr, mac: Mac) -> NeighbourRow {
     NeighbourRow {
         tag,
-        address: Addr::V4(address),
+        address: *address,
         mac,
     }
 }
@@ -166,11 +179,11 @@ pub(crate) fn first_host(alloc: Global) -> Result<HostTables, OutOfMemory> {
     add_filters(&mut tables, FIRST)?;
     add_sets(&mut tables)?;
     let dhcp = BridgeTo::Tap(id(DHCP));
-    tables.bridge.push(at_dhcp(HERE, dhcp))?;
+    tables.bridge.put(at_dhcp(HERE, dhcp))?;
     let first = BridgeTo::Tap(id(FIRST));
-    tables.bridge.push(at_mac(HERE, FIRST, first))?;
+    tables.bridge.put(at_mac(HERE, FIRST, first))?;
     let second = tunnel(alloc, "c2")?;
-    tables.bridge.push(at_mac(HERE, SECOND, second))?;
+    tables.bridge.put(at_mac(HERE, SECOND, second))?;
     tables.inward.push(InwardRow {
         carrier: Carrier::Tunnel(1),
         tag: HERE,
@@ -189,17 +202,18 @@ pub(crate) fn second_host(alloc: Global) -> Result<HostTables, OutOfMemory> {
     tables.taps.push(tap(alloc, SECOND, THERE, true)?)?;
     add_filters(&mut tables, SECOND)?;
     add_sets(&mut tables)?;
-    tables.bridge.push(at_dhcp(THERE, tunnel(alloc, "c1")?))?;
+    tables.bridge.put(at_dhcp(THERE, tunnel(alloc, "c1")?))?;
     let first = tunnel(alloc, "c1")?;
-    tables.bridge.push(at_mac(THERE, FIRST, first))?;
+    tables.bridge.put(at_mac(THERE, FIRST, first))?;
     let second = BridgeTo::Tap(id(SECOND));
-    tables.bridge.push(at_mac(THERE, SECOND, second))?;
+    tables.bridge.put(at_mac(THERE, SECOND, second))?;
     tables.inward.push(InwardRow {
         carrier: Carrier::Tunnel(1),
         tag: THERE,
     })?;
     for n in [FIRST, SECOND] {
-        tables.neighbours.push(neighbour(THERE, inner(n), mac(n)))?;
+        let row = neighbour(THERE, &Addr::V4(inner(n)), mac(n));
+        tables.neighbours.put(row)?;
     }
     Ok(tables)
 }

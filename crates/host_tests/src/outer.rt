@@ -43,12 +43,11 @@ fn router_port(
     alloc: Global,
     n: u8,
     tag: u16,
-    address: Addr4,
+    address: &Addr,
     inside: bool,
 ) -> Result<RouterPort, OutOfMemory> {
     let mut addresses = Seq::new(alloc);
-    let address = Addr::V4(address);
-    addresses.push(address)?;
+    addresses.push(*address)?;
     Ok(RouterPort {
         port: id(n),
         tag,
@@ -59,10 +58,16 @@ fn router_port(
     })
 }
 
-pub(crate) fn router(alloc: Global, up: bool) -> Result<RouterTable, OutOfMemory> {
+/// The router with an address inside and one outside, which translates sources to 203.0.113.2.
+pub(crate) fn router_with(
+    alloc: Global,
+    up: bool,
+    inside: &Addr,
+    outside: &Addr,
+) -> Result<RouterTable, OutOfMemory> {
     let mut ports = Seq::new(alloc);
-    ports.push(router_port(alloc, INSIDE, HERE, inner(1), true)?)?;
-    ports.push(router_port(alloc, OUTSIDE, BEYOND, outer(2), false)?)?;
+    ports.push(router_port(alloc, INSIDE, HERE, inside, true)?)?;
+    ports.push(router_port(alloc, OUTSIDE, BEYOND, outside, false)?)?;
     Ok(RouterTable {
         router: id(ROUTER),
         up,
@@ -72,7 +77,11 @@ pub(crate) fn router(alloc: Global, up: bool) -> Result<RouterTable, OutOfMemory
     })
 }
 
-fn route(prefix: Prefix, rank: RouteRank, next: Option<Addr>, port: u8) -> RouteRow {
+pub(crate) fn router(alloc: Global, up: bool) -> Result<RouterTable, OutOfMemory> {
+    router_with(alloc, up, &Addr::V4(inner(1)), &Addr::V4(outer(2)))
+}
+
+pub(crate) fn route(prefix: Prefix, rank: RouteRank, next: Option<Addr>, port: u8) -> RouteRow {
     RouteRow {
         router: id(ROUTER),
         prefix,
@@ -101,16 +110,14 @@ fn add_neighbours(tables: &mut HostTables) -> Result<(), OutOfMemory> {
     // the prover asks that a value of this type is at hand
     let _address = Addr::V4(inner(1));
     for (n, port) in [(1, INSIDE), (FIRST, FIRST), (SECOND, SECOND)] {
-        tables
-            .neighbours
-            .push(neighbour(HERE, inner(n), mac(port)))?;
+        let row = neighbour(HERE, &Addr::V4(inner(n)), mac(port));
+        tables.neighbours.put(row)?;
     }
-    tables
-        .neighbours
-        .push(neighbour(BEYOND, outer(2), mac(OUTSIDE)))
+    let row = neighbour(BEYOND, &Addr::V4(outer(2)), mac(OUTSIDE));
+    tables.neighbours.put(row)
 }
 
-fn to_router(port: u8) -> BridgeTo {
+pub(crate) fn to_router(port: u8) -> BridgeTo {
     BridgeTo::Router {
         router: id(ROUTER),
         port: id(port),
@@ -122,10 +129,10 @@ pub(crate) fn routing_host(alloc: Global) -> Result<HostTables, OutOfMemory> {
     let mut tables = first_host(alloc)?;
     let beyond = tag_row(EXTERNAL, BEYOND, Some(wire(alloc)?));
     tables.tags.push(beyond)?;
-    tables.bridge.push(at_mac(HERE, INSIDE, to_router(INSIDE)))?;
+    tables.bridge.put(at_mac(HERE, INSIDE, to_router(INSIDE)))?;
     tables
         .bridge
-        .push(at_mac(BEYOND, OUTSIDE, to_router(OUTSIDE)))?;
+        .put(at_mac(BEYOND, OUTSIDE, to_router(OUTSIDE)))?;
     tables.inward.push(InwardRow {
         carrier: Carrier::Wire(wire(alloc)?),
         tag: BEYOND,
@@ -149,6 +156,6 @@ pub(crate) fn add_float(tables: &mut HostTables) -> Result<(), OutOfMemory> {
 pub(crate) fn lab_with(alloc: Global, first: HostTables) -> Result<Lab, Fail> {
     let mut second = second_host(alloc)?;
     let inside = tunnel(alloc, "c1")?;
-    second.bridge.push(at_mac(THERE, INSIDE, inside))?;
+    second.bridge.put(at_mac(THERE, INSIDE, inside))?;
     lab_of(alloc, first, second)
 }

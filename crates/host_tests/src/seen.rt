@@ -6,8 +6,9 @@ use plane_types::{
     AskAnswer, DropCause, Event, Frame, KeyPart, Outcome, Toward, TrailItem, Verdict,
 };
 use std::alloc::Global;
+use test_rows::id;
 
-/// How an event ended.
+/// How a frame ended.
 #[derive(Clone, Copy, PartialEq, Eq)]
 pub(crate) enum End {
     Delivered(Id, Frame),
@@ -34,8 +35,8 @@ fn end_of(outcome: &Outcome) -> End {
     }
 }
 
-/// What is kept of a verdict: how it ended, how many places it passed, how many entries it made, and
-/// by how many tags it went.
+/// What is kept of a verdict: how it ended, how many places it passed, how many entries it made,
+/// and by how many tags it went.
 #[derive(Clone, Copy, PartialEq, Eq)]
 pub(crate) struct Seen {
     pub(crate) end: End,
@@ -44,13 +45,45 @@ pub(crate) struct Seen {
     pub(crate) tags: usize,
 }
 
-fn verdict_of(alloc: Global, lab: &Lab, event: &Event) -> Result<Verdict, OutOfMemory> {
-    send(alloc, lab, event)
+/// Who sends a frame: a port, or somebody on the wire.
+#[derive(Clone, Copy)]
+pub(crate) enum Sender {
+    Port(u8),
+    Wire,
 }
 
-/// What an event comes to; each host keeps the entries that it made.
-pub(crate) fn see(alloc: Global, lab: &mut Lab, event: &Event) -> Result<Seen, OutOfMemory> {
-    let verdict = verdict_of(alloc, lab, event)?;
+fn event_of(alloc: Global, sender: Sender, frame: &Frame) -> Result<Event, OutOfMemory> {
+    match sender {
+        Sender::Port(n) => Ok(Event::FromPort {
+            port: id(n),
+            frame: *frame,
+        }),
+        Sender::Wire => Ok(Event::FromWire {
+            physical: Text::of(alloc, "physnet1")?,
+            tag: None,
+            frame: *frame,
+        }),
+    }
+}
+
+fn verdict_of(
+    alloc: Global,
+    lab: &Lab,
+    sender: Sender,
+    frame: &Frame,
+) -> Result<Verdict, OutOfMemory> {
+    let event = event_of(alloc, sender, frame)?;
+    send(alloc, lab, &event)
+}
+
+/// What a frame comes to; each host keeps the entries that it made.
+pub(crate) fn see(
+    alloc: Global,
+    lab: &mut Lab,
+    sender: Sender,
+    frame: &Frame,
+) -> Result<Seen, OutOfMemory> {
+    let verdict = verdict_of(alloc, lab, sender, frame)?;
     lab.keep_all(verdict.fresh.as_slice())?;
     Ok(Seen {
         end: end_of(&verdict.outcome),
@@ -60,14 +93,15 @@ pub(crate) fn see(alloc: Global, lab: &mut Lab, event: &Event) -> Result<Seen, O
     })
 }
 
-/// Whether the event passes these networks and routers.
+/// Whether the frame passes these networks and routers.
 pub(crate) fn passes(
     alloc: Global,
     lab: &Lab,
-    event: &Event,
+    sender: Sender,
+    frame: &Frame,
     path: &[Id],
 ) -> Result<bool, OutOfMemory> {
-    let verdict = verdict_of(alloc, lab, event)?;
+    let verdict = verdict_of(alloc, lab, sender, frame)?;
     Ok(verdict.path.as_slice() == path)
 }
 
@@ -75,28 +109,30 @@ fn is_item(item: &TrailItem, (host, tag): (&str, u16)) -> bool {
     item.host.as_str() == host && item.tag == tag
 }
 
-/// Whether the event goes by two tags, the first and the last.
+/// Whether the frame goes by two tags, the first and the last.
 pub(crate) fn goes(
     alloc: Global,
     lab: &Lab,
-    event: &Event,
+    sender: Sender,
+    frame: &Frame,
     first: (&str, u16),
     last: (&str, u16),
 ) -> Result<bool, OutOfMemory> {
-    let verdict = verdict_of(alloc, lab, event)?;
+    let verdict = verdict_of(alloc, lab, sender, frame)?;
     Ok(match verdict.trail.as_slice() {
         [one, two] => is_item(one, first) && is_item(two, last),
         _ => false,
     })
 }
 
-/// The hosts that made the event's two entries.
+/// The hosts that made the frame's two entries.
 pub(crate) fn makers(
     alloc: Global,
     lab: &Lab,
-    event: &Event,
+    sender: Sender,
+    frame: &Frame,
 ) -> Result<Option<(usize, usize)>, OutOfMemory> {
-    let verdict = verdict_of(alloc, lab, event)?;
+    let verdict = verdict_of(alloc, lab, sender, frame)?;
     Ok(match verdict.fresh.as_slice() {
         [one, two] => one.host.zip(two.host),
         _ => None,
@@ -105,12 +141,4 @@ pub(crate) fn makers(
 
 pub(crate) fn tcp(sport: u16, dport: u16) -> KeyPart {
     KeyPart::Tcp { sport, dport }
-}
-
-pub(crate) fn from_wire(alloc: Global, frame: Frame) -> Result<Event, OutOfMemory> {
-    Ok(Event::FromWire {
-        physical: Text::of(alloc, "physnet1")?,
-        tag: None,
-        frame,
-    })
 }

@@ -1,9 +1,9 @@
 use crate::lab::Lab;
 use crate::office::{FIRST, SECOND, at_mac, empty, inner, lab_of, neighbour, tag_row, tap};
 use crate::outer::{EXTERNAL, wire};
-use crate::seen::{End, Seen, from_wire, goes, see, tcp};
+use crate::seen::{End, Seen, Sender, goes, see, tcp};
 use net_addr::{Addr, Mac, OutOfMemory};
-use plane_types::{BridgeTo, Carrier, DropCause, Event, Frame, HostTables, InwardRow, Toward};
+use plane_types::{BridgeTo, Carrier, DropCause, Ends, Frame, HostTables, InwardRow, Toward};
 use std::alloc::Global;
 use std::test::Fail;
 use test_rows::{id, mac};
@@ -17,12 +17,13 @@ fn host_with(alloc: Global, n: u8, tag: u16) -> Result<HostTables, OutOfMemory> 
         .tags
         .push(tag_row(EXTERNAL, tag, Some(wire(alloc)?)))?;
     tables.taps.push(tap(alloc, n, tag, false)?)?;
-    tables.bridge.push(at_mac(tag, n, BridgeTo::Tap(id(n))))?;
+    tables.bridge.put(at_mac(tag, n, BridgeTo::Tap(id(n))))?;
     tables.inward.push(InwardRow {
         carrier: Carrier::Wire(wire(alloc)?),
         tag,
     })?;
-    tables.neighbours.push(neighbour(tag, inner(n), mac(n)))?;
+    let row = neighbour(tag, &Addr::V4(inner(n)), mac(n));
+    tables.neighbours.put(row)?;
     Ok(tables)
 }
 
@@ -33,28 +34,19 @@ fn wired(alloc: Global) -> Result<Lab, Fail> {
 }
 
 fn packet(src: Mac, dst: Mac) -> Frame {
-    Frame::Ip4 {
+    Frame::Ip {
         src,
         dst,
-        from: inner(FIRST),
-        to: inner(SECOND),
+        ends: Ends::four(inner(FIRST), inner(SECOND)),
         ttl: 64,
         part: tcp(1, 2),
     }
 }
 
 fn asking(src: Mac) -> Frame {
-    Frame::ArpAsk {
+    Frame::NeighbourAsk {
         src,
-        from: inner(FIRST),
-        to: inner(SECOND),
-    }
-}
-
-fn sent(frame: Frame) -> Event {
-    Event::FromPort {
-        port: id(FIRST),
-        frame,
+        ends: Ends::four(inner(FIRST), inner(SECOND)),
     }
 }
 
@@ -63,7 +55,8 @@ fn frames_cross_a_wire(rt: HostRuntime) -> Result<(), Fail> {
     let alloc = rt.alloc();
     let mut lab = wired(alloc)?;
     let there = packet(mac(FIRST), mac(SECOND));
-    assert!(rt; goes(alloc, &lab, &sent(there), ("c1", 2), ("c2", 3))?);
+    let first = Sender::Port(FIRST);
+    assert!(rt; goes(alloc, &lab, first, &there, ("c1", 2), ("c2", 3))?);
     let stranger = Mac(0x0200_0000_0099);
     let out = packet(mac(FIRST), stranger);
     let ask = asking(mac(FIRST));
@@ -79,7 +72,7 @@ fn frames_cross_a_wire(rt: HostRuntime) -> Result<(), Fail> {
             made: 0,
             tags,
         };
-        assert!(rt; see(alloc, &mut lab, &sent(frame))? == want);
+        assert!(rt; see(alloc, &mut lab, first, &frame)? == want);
     }
     Ok(())
 }
@@ -113,8 +106,7 @@ fn frames_from_outside(rt: HostRuntime) -> Result<(), Fail> {
             made: 0,
             tags: passed,
         };
-        let event = from_wire(alloc, frame)?;
-        assert!(rt; see(alloc, &mut lab, &event)? == want);
+        assert!(rt; see(alloc, &mut lab, Sender::Wire, &frame)? == want);
     }
     Ok(())
 }

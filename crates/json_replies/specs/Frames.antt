@@ -7,10 +7,13 @@ use Rattle.api_types.specs.Ident.{Ident, ident_text}
 use Rattle.api_types.specs.Printed.{Tree, number, word, NamedTree}
 use Rattle.api_types.specs.declared.group.Direction.{Direction}
 use Rattle.api_types.specs.declared.group.Direction.TheVariants.{Ingress, Egress}
+use Rattle.api_types.specs.declared.group.Ethertype.{Ethertype}
+use Rattle.api_types.specs.declared.group.Ethertype.TheVariants.{Ipv4, Ipv6}
+use Rattle.plane_types.specs.Ends.{Ends, Ends4, Ends6, destination, source}
 use Rattle.plane_types.specs.declared.entry.Entry.{Entry}
 use Rattle.plane_types.specs.declared.entry.Entry.TheVariants.{Flow, Snat}
 use Rattle.plane_types.specs.declared.frame.Frame.{Frame}
-use Rattle.plane_types.specs.declared.frame.Frame.TheVariants.{Ip4, ArpAsk, Dhcp, Other}
+use Rattle.plane_types.specs.declared.frame.Frame.TheVariants.{Dhcp, Ip, NeighbourAsk, Other}
 use Rattle.plane_types.specs.declared.frame.KeyPart.{KeyPart}
 use Rattle.plane_types.specs.declared.frame.KeyPart.TheVariants as part
 use Rattle.plane_types.specs.declared.frame.KeyKind.{KeyKind}
@@ -38,6 +41,10 @@ abbrev pub direction_tree : Direction → Tree
 direction_tree Ingress = word (codes "ingress")
 direction_tree Egress = word (codes "egress")
 
+abbrev pub ethertype_tree : Ethertype → Tree
+ethertype_tree Ipv4 = word (codes "IPv4")
+ethertype_tree Ipv6 = word (codes "IPv6")
+
 -- what a packet carries
 abbrev pub part_members : KeyPart → List NamedTree
 part_members (part.Tcp sport dport) = (codes "dport", number dport) ∷ (codes "proto", word (codes "tcp")) ∷ (codes "sport", number sport) ∷ []
@@ -46,13 +53,22 @@ part_members (part.EchoAsk id) = (codes "id", number id) ∷ (codes "proto", wor
 part_members (part.EchoReply id) = (codes "id", number id) ∷ (codes "proto", word (codes "echo_reply")) ∷ []
 part_members (part.Proto n) = (codes "number", number n) ∷ (codes "proto", word (codes "other")) ∷ []
 
+-- the kinds of packets, and of asks for addresses, by the version
+abbrev pub packet_word : Ends → List ℕ
+packet_word (Ends4 from to) = codes "ip4"
+packet_word (Ends6 from to) = codes "ip6"
+
+abbrev pub ask_word : Ends → List ℕ
+ask_word (Ends4 from to) = codes "arp_ask"
+ask_word (Ends6 from to) = codes "neigh_ask"
+
 abbrev pub frame_members : Frame → List NamedTree
-frame_members (Ip4 src dst from to ttl part) =
-    (codes "dst", mac_tree dst) ∷ (codes "from", four_tree from) ∷ (codes "kind", word (codes "ip4"))
-    ∷ (codes "src", mac_tree src) ∷ (codes "to", four_tree to) ∷ (codes "ttl", number ttl) ∷ part_members part
-frame_members (ArpAsk src from to) =
-    (codes "from", four_tree from) ∷ (codes "kind", word (codes "arp_ask"))
-    ∷ (codes "src", mac_tree src) ∷ (codes "to", four_tree to) ∷ []
+frame_members (Ip src dst ends ttl part) =
+    (codes "dst", mac_tree dst) ∷ (codes "from", address_tree (source ends)) ∷ (codes "kind", word (packet_word ends))
+    ∷ (codes "src", mac_tree src) ∷ (codes "to", address_tree (destination ends)) ∷ (codes "ttl", number ttl) ∷ part_members part
+frame_members (NeighbourAsk src ends) =
+    (codes "from", address_tree (source ends)) ∷ (codes "kind", word (ask_word ends))
+    ∷ (codes "src", mac_tree src) ∷ (codes "to", address_tree (destination ends)) ∷ []
 frame_members (Dhcp src from) =
     (codes "from", four_tree from) ∷ (codes "kind", word (codes "dhcp_ask")) ∷ (codes "src", mac_tree src) ∷ []
 frame_members (Other src dst ethertype) =
@@ -72,8 +88,8 @@ kind_members (Proto n) = (codes "number", number n) ∷ (codes "proto", word (co
 
 abbrev pub key_members : Key → List NamedTree
 key_members key =
-    (codes "dport", number key.dport) ∷ (codes "from", four_tree key.from) ∷ (codes "sport", number key.sport)
-    ∷ (codes "to", four_tree key.to) ∷ kind_members key.kind
+    (codes "dport", number key.dport) ∷ (codes "from", address_tree (source key.ends)) ∷ (codes "sport", number key.sport)
+    ∷ (codes "to", address_tree (destination key.ends)) ∷ kind_members key.kind
 
 abbrev pub key_tree : Key → Tree
 key_tree key = fields (key_members key)

@@ -26,7 +26,7 @@ use Rattle.plane_types.specs.declared.table.LeaseRow.{LeaseRow}
 use Rattle.api_types.specs.declared.wire.Wire.{Wire}
 use Rattle.plane_types.specs.declared.tables.HostTables.{HostTables}
 use Rattle.json_replies.specs.Printed.{fields, list, or_null}
-use Rattle.json_replies.specs.Frames.{id_tree, address_tree, four_tree, mac_tree, prefix_tree, direction_tree}
+use Rattle.json_replies.specs.Frames.{id_tree, address_tree, four_tree, mac_tree, prefix_tree, direction_tree, ethertype_tree}
 use Rattle.json_replies.specs.Verdicts.{hop_tree}
 
 abbrev pub physical_tree : Option Wire → Tree
@@ -51,8 +51,8 @@ tap_tree row = fields (
 
 abbrev pub filter_tree : FilterRow → Tree
 filter_tree row = fields (
-    (codes "direction", direction_tree row.direction) ∷ (codes "high", or_null number row.high)
-    ∷ (codes "low", or_null number row.low) ∷ (codes "port", id_tree row.port) ∷ (codes "protocol", or_null number row.protocol)
+    (codes "direction", direction_tree row.direction) ∷ (codes "ethertype", ethertype_tree row.ethertype)
+    ∷ (codes "high", or_null number row.high) ∷ (codes "low", or_null number row.low) ∷ (codes "port", id_tree row.port) ∷ (codes "protocol", or_null number row.protocol)
     ∷ (codes "remote_group", or_null id_tree row.remote_group) ∷ (codes "remote_prefix", or_null prefix_tree row.remote_prefix) ∷ [])
 
 abbrev pub set_tree : SetRow → Tree

@@ -4,11 +4,12 @@ ghost use Rattle.serde_json.specs.Data.{no_members};
 ghost use Rattle.api_types.specs.Printed.{number, word};
 ghost use Rattle.serde_json.specs.View.{members_view};
 ghost use Rattle.json_replies.specs.Printed.{members_data, tree_data};
-ghost use Rattle.json_replies.specs.Frames.{part_members, frame_tree, mac_tree, four_tree, kind_members, key_tree, entry_tree};
+ghost use Rattle.plane_types.specs.Ends.{destination, source};
+ghost use Rattle.json_replies.specs.Frames.{address_tree, ask_word as word_of_ask, entry_tree, frame_tree, key_tree, kind_members, mac_tree, packet_word as word_of_packet, part_members};
 
 use crate::printed::Prints;
-use net_addr::{Addr4, Mac, OutOfMemory};
-use plane_types::{Entry, Frame, Key, KeyKind, KeyPart};
+use net_addr::{Mac, OutOfMemory};
+use plane_types::{Ends, Entry, Frame, Key, KeyKind, KeyPart};
 use serde_json::{Map, Value};
 use std::alloc::Global;
 
@@ -63,24 +64,41 @@ fn put_part(map: &mut Map<String, Value>, alloc: Global, part: KeyPart) -> Resul
     }
 }
 
-// A packet of IPv4 without what it carries.
+// The kind of packets between two ends.
+fn packet_word(ends: &Ends) -> &'static str
+    ensures { result.now ≡ word_of_packet ends.now }
+{
+    if ends.are_four() { "ip4" } else { "ip6" }
+}
+
+// The kind of asks between two ends.
+fn ask_word(ends: &Ends) -> &'static str
+    ensures { result.now ≡ word_of_ask ends.now }
+{
+    if ends.are_four() {
+        "arp_ask"
+    } else {
+        "neigh_ask"
+    }
+}
+
+// A packet without what it carries.
 fn packet(
     alloc: Global,
     src: Mac,
     dst: Mac,
-    from: Addr4,
-    to: Addr4,
+    ends: &Ends,
     ttl: u8,
 ) -> Result<Map<String, Value>, OutOfMemory>
-    ensures { IfOk result (λ m. members_view m.entries ≡ members_data ((codes "dst", mac_tree dst) ∷ (codes "from", four_tree from) ∷ (codes "kind", word (codes "ip4"))
-        ∷ (codes "src", mac_tree src) ∷ (codes "to", four_tree to) ∷ (codes "ttl", number ttl) ∷ []) no_members) }
+    ensures { IfOk result (λ m. members_view m.entries ≡ members_data ((codes "dst", mac_tree dst) ∷ (codes "from", address_tree (source ends.now)) ∷ (codes "kind", word (word_of_packet ends.now))
+        ∷ (codes "src", mac_tree src) ∷ (codes "to", address_tree (destination ends.now)) ∷ (codes "ttl", number ttl) ∷ []) no_members) }
 {
     let mut map = Map::new(alloc);
     put(&mut map, alloc, "dst", &dst)?;
-    put(&mut map, alloc, "from", &from)?;
-    put(&mut map, alloc, "kind", &"ip4")?;
+    put(&mut map, alloc, "from", &ends.source())?;
+    put(&mut map, alloc, "kind", &packet_word(ends))?;
     put(&mut map, alloc, "src", &src)?;
-    put(&mut map, alloc, "to", &to)?;
+    put(&mut map, alloc, "to", &ends.destination())?;
     put(&mut map, alloc, "ttl", &ttl)?;
     Ok(map)
 }
@@ -90,24 +108,23 @@ impl Prints for Frame {
 
     fn value(&self, alloc: Global) -> Result<Value, OutOfMemory> {
         match *self {
-            Frame::Ip4 {
+            Frame::Ip {
                 src,
                 dst,
-                from,
-                to,
+                ends,
                 ttl,
                 part,
             } => {
-                let mut map = packet(alloc, src, dst, from, to, ttl)?;
+                let mut map = packet(alloc, src, dst, &ends, ttl)?;
                 put_part(&mut map, alloc, part)?;
                 Ok(Value::Object(map))
             }
-            Frame::ArpAsk { src, from, to } => {
+            Frame::NeighbourAsk { src, ends } => {
                 let mut map = Map::new(alloc);
-                put(&mut map, alloc, "from", &from)?;
-                put(&mut map, alloc, "kind", &"arp_ask")?;
+                put(&mut map, alloc, "from", &ends.source())?;
+                put(&mut map, alloc, "kind", &ask_word(&ends))?;
                 put(&mut map, alloc, "src", &src)?;
-                put(&mut map, alloc, "to", &to)?;
+                put(&mut map, alloc, "to", &ends.destination())?;
                 Ok(Value::Object(map))
             }
             Frame::Dhcp { src, from } => {
@@ -155,9 +172,9 @@ impl Prints for Key {
     fn value(&self, alloc: Global) -> Result<Value, OutOfMemory> {
         let mut map = Map::new(alloc);
         put(&mut map, alloc, "dport", &self.dport)?;
-        put(&mut map, alloc, "from", &self.from)?;
+        put(&mut map, alloc, "from", &self.ends.source())?;
         put(&mut map, alloc, "sport", &self.sport)?;
-        put(&mut map, alloc, "to", &self.to)?;
+        put(&mut map, alloc, "to", &self.ends.destination())?;
         put_kind(&mut map, alloc, self.kind)?;
         Ok(Value::Object(map))
     }

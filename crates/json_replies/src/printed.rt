@@ -5,8 +5,9 @@ ghost use Rattle.serde_json.specs.View.{view, members_view};
 ghost use Rattle.api_types.specs.Printed.{tree_of, member_of};
 ghost use Rattle.json_replies.specs.Printed.{tree_data, members_data, list, or_null};
 
-use api_types::Printed;
+use api_types::{Ordered, Printed};
 use net_addr::{OutOfMemory, Seq, Text};
+use plane_types::Ascending;
 use serde_json::{Map, Value};
 use std::alloc::Global;
 
@@ -74,6 +75,14 @@ fn values<T: Prints>(alloc: Global, items: &[T]) -> Result<Vec<Value>, OutOfMemo
 }
 
 impl<T: Prints> Prints for Seq<T> {
+    ghost tree = { λ xs. list (map T.tree xs) };
+
+    fn value(&self, alloc: Global) -> Result<Value, OutOfMemory> {
+        Ok(Value::Array(values(alloc, self.as_slice())?))
+    }
+}
+
+impl<T: Prints + Ordered> Prints for Ascending<T> {
     ghost tree = { λ xs. list (map T.tree xs) };
 
     fn value(&self, alloc: Global) -> Result<Value, OutOfMemory> {

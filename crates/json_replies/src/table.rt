@@ -79,6 +79,7 @@ impl Prints for FilterRow {
     fn value(&self, alloc: Global) -> Result<Value, OutOfMemory> {
         let mut map = Map::new(alloc);
         put(&mut map, alloc, "direction", &self.direction)?;
+        put(&mut map, alloc, "ethertype", &self.ethertype)?;
         put(&mut map, alloc, "high", &self.high)?;
         put(&mut map, alloc, "low", &self.low)?;
         put(&mut map, alloc, "port", &self.port)?;

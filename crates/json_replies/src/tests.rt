@@ -1,9 +1,10 @@
 use super::*;
-use api_types::{Answer, Direction, Id, Kind, Lease, Members, Printed, Refusal, Shown};
-use net_addr::{Addr, Addr4, Mac, OutOfMemory, Seq, Text};
+use api_types::{Answer, Direction, Ethertype, Id, Kind, Lease, Members, Printed, Refusal, Shown};
+use net_addr::{Addr, Addr4, Addr6, Mac, OutOfMemory, Seq, Text};
 use plane_types::{
-    AskAnswer, BridgeKey, BridgeRow, BridgeTo, DropCause, Entry, Frame, Heard, HostState,
-    HostTables, Key, KeyKind, KeyPart, LabAnswer, Made, Outcome, Reply, Toward, TrailItem, Verdict,
+    Ascending, AskAnswer, BridgeKey, BridgeRow, BridgeTo, DropCause, Ends, Entry, FilterRow, Frame,
+    Heard, HostState, HostTables, Key, KeyKind, KeyPart, LabAnswer, Made, Outcome, Reply, Toward,
+    TrailItem, Verdict,
 };
 use std::alloc::Global;
 use std::test::Fail;
@@ -120,13 +121,12 @@ fn refusals(rt: HostRuntime) -> Result<(), Fail> {
 }
 
 // A packet of TCP.
-fn packet(src: Mac, dst: Mac, from: Addr4, to: Addr4, sport: u16, dport: u16, ttl: u8) -> Frame {
+fn packet(src: Mac, dst: Mac, ends: Ends, sport: u16, dport: u16, ttl: u8) -> Frame {
     let part = KeyPart::Tcp { sport, dport };
-    Frame::Ip4 {
+    Frame::Ip {
         src,
         dst,
-        from,
-        to,
+        ends,
         ttl,
         part,
     }
@@ -148,16 +148,14 @@ fn delivered(rt: HostRuntime) -> Result<(), Fail> {
     let alloc = rt.alloc();
     let key = Key {
         kind: KeyKind::Tcp,
-        from: Addr4(0x0a00_0005),
+        ends: Ends::four(Addr4(0x0a00_0005), Addr4(0x0a00_0006)),
         sport: 40000,
-        to: Addr4(0x0a00_0006),
         dport: 22,
     };
     let frame = packet(
         Mac(0x0200_0000_0005),
         Mac(0x0200_0000_0006),
-        key.from,
-        key.to,
+        key.ends,
         40000,
         22,
         64,
@@ -201,12 +199,12 @@ fn translated(rt: HostRuntime) -> Result<(), Fail> {
     let outer = Addr4(0xcb00_7102);
     let key = Key {
         kind: KeyKind::Tcp,
-        from: Addr4(0x0a00_0005),
+        ends: Ends::four(Addr4(0x0a00_0005), Addr4(0xc633_6409)),
         sport: 40000,
-        to: Addr4(0xc633_6409),
         dport: 80,
     };
-    let frame = packet(Mac(0xfa16_3e00_0000), Mac(0), outer, key.to, 40000, 80, 63);
+    let ends = key.ends.with_source(outer);
+    let frame = packet(Mac(0xfa16_3e00_0000), Mac(0), ends, 40000, 80, 63);
     let toward = Toward::Address(Addr::V4(Addr4(0xcb00_7101)));
     let network = Id::make(2, 6);
     let mut seen = verdict(
@@ -228,6 +226,43 @@ fn translated(rt: HostRuntime) -> Result<(), Fail> {
     })?;
     let body =
         "{\"verdict\":{\"fresh\":[{\"key\":{\"dport\":80,\"from\":\"10.0.0.5\",\"proto\":\"tcp\",\"sport\":40000,\"to\":\"198.51.100.9\"},\"kind\":\"snat\",\"outer\":\"203.0.113.2\",\"outer_port\":40000,\"router\":\"00000001-0000-8000-8000-000000000009\"}],\"outcome\":{\"frame\":{\"dport\":80,\"dst\":\"00:00:00:00:00:00\",\"from\":\"203.0.113.2\",\"kind\":\"ip4\",\"proto\":\"tcp\",\"sport\":40000,\"src\":\"fa:16:3e:00:00:00\",\"to\":\"198.51.100.9\",\"ttl\":63},\"kind\":\"Out\",\"network\":\"00000002-0000-8000-8000-000000000006\",\"toward\":\"203.0.113.1\"},\"path\":[],\"trail\":[]}}";
+    assert!(rt; prints(alloc, Reply::LabDone(LabAnswer::Seen(seen)), body)?);
+    Ok(())
+}
+
+// Packets and asks of version 6.
+#[test]
+fn version_6(rt: HostRuntime) -> Result<(), Fail> {
+    let alloc = rt.alloc();
+    let one = Addr6(0x2001_0db8_0000_0001_f816_3eff_fe00_0001);
+    let two = Addr6(0x2001_0db8_0000_0001_f816_3eff_fe00_0002);
+    let frame = Frame::Ip {
+        src: Mac(0xfa16_3e00_0001),
+        dst: Mac(0xfa16_3e00_0002),
+        ends: Ends::six(one, two),
+        ttl: 64,
+        part: KeyPart::EchoAsk { id: 7 },
+    };
+    let port = Id::make(2, 20);
+    let seen = verdict(alloc, Outcome::Delivered { port, frame });
+    let body =
+        "{\"verdict\":{\"fresh\":[],\"outcome\":{\"frame\":{\"dst\":\"fa:16:3e:00:00:02\",\"from\":\"2001:db8:0:1:f816:3eff:fe00:1\",\"id\":7,\"kind\":\"ip6\",\"proto\":\"echo_ask\",\"src\":\"fa:16:3e:00:00:01\",\"to\":\"2001:db8:0:1:f816:3eff:fe00:2\",\"ttl\":64},\"kind\":\"Delivered\",\"port\":\"00000002-0000-8000-8000-000000000014\"},\"path\":[],\"trail\":[]}}";
+    assert!(rt; prints(alloc, Reply::LabDone(LabAnswer::Seen(seen)), body)?);
+    let wanted = Addr6(0x2001_0db8_000f_0001_f816_3eff_fe00_0003);
+    let frame = Frame::NeighbourAsk {
+        src: Mac(0xfa16_3e00_0000),
+        ends: Ends::six(Addr6(0x2001_0db8_000f_0001_f816_3eff_fe00_0000), wanted),
+    };
+    let seen = verdict(
+        alloc,
+        Outcome::Out {
+            network: Id::make(1, 6),
+            toward: Toward::Address(Addr::V6(wanted)),
+            frame,
+        },
+    );
+    let body =
+        "{\"verdict\":{\"fresh\":[],\"outcome\":{\"frame\":{\"from\":\"2001:db8:f:1:f816:3eff:fe00:0\",\"kind\":\"neigh_ask\",\"src\":\"fa:16:3e:00:00:00\",\"to\":\"2001:db8:f:1:f816:3eff:fe00:3\"},\"kind\":\"Out\",\"network\":\"00000001-0000-8000-8000-000000000006\",\"toward\":\"2001:db8:f:1:f816:3eff:fe00:3\"},\"path\":[],\"trail\":[]}}";
     assert!(rt; prints(alloc, Reply::LabDone(LabAnswer::Seen(seen)), body)?);
     Ok(())
 }
@@ -290,10 +325,10 @@ fn hosts(rt: HostRuntime) -> Result<(), Fail> {
     Ok(())
 }
 
-// Tables without rows but for one of the bridge.
+// Tables without rows but for one of the bridge and one of the filters.
 fn tables(alloc: Global) -> Result<HostTables, OutOfMemory> {
-    let mut bridge = Seq::new(alloc);
-    bridge.push(BridgeRow {
+    let mut bridge = Ascending::new(alloc);
+    bridge.put(BridgeRow {
         tag: 1,
         key: BridgeKey::Mac(Mac(0x0200_0000_0005)),
         to: BridgeTo::Tunnel {
@@ -301,14 +336,25 @@ fn tables(alloc: Global) -> Result<HostTables, OutOfMemory> {
             number: 7,
         },
     })?;
+    let mut filters = Seq::new(alloc);
+    filters.push(FilterRow {
+        port: Id::make(1, 9),
+        direction: Direction::Egress,
+        ethertype: Ethertype::Ipv4,
+        protocol: None,
+        low: None,
+        high: None,
+        remote_prefix: None,
+        remote_group: None,
+    })?;
     Ok(HostTables {
         tags: Seq::new(alloc),
         taps: Seq::new(alloc),
-        filters: Seq::new(alloc),
+        filters,
         sets: Seq::new(alloc),
         bridge,
         inward: Seq::new(alloc),
-        neighbours: Seq::new(alloc),
+        neighbours: Ascending::new(alloc),
         routers: Seq::new(alloc),
         routes: Seq::new(alloc),
         floats: Seq::new(alloc),
@@ -322,7 +368,7 @@ fn host_tables(rt: HostRuntime) -> Result<(), Fail> {
     let alloc = rt.alloc();
     let reply = Reply::LabDone(LabAnswer::Tables(tables(alloc)?));
     let body =
-        "{\"tables\":{\"bridge\":[{\"mac\":\"02:00:00:00:00:05\",\"tag\":1,\"to\":{\"host\":\"c2\",\"kind\":\"tunnel\",\"number\":7}}],\"filters\":[],\"floats\":[],\"inward\":[],\"leases\":[],\"neighbours\":[],\"routers\":[],\"routes\":[],\"sets\":[],\"tags\":[],\"taps\":[]}}";
+        "{\"tables\":{\"bridge\":[{\"mac\":\"02:00:00:00:00:05\",\"tag\":1,\"to\":{\"host\":\"c2\",\"kind\":\"tunnel\",\"number\":7}}],\"filters\":[{\"direction\":\"egress\",\"ethertype\":\"IPv4\",\"high\":null,\"low\":null,\"port\":\"00000001-0000-8000-8000-000000000009\",\"protocol\":null,\"remote_group\":null,\"remote_prefix\":null}],\"floats\":[],\"inward\":[],\"leases\":[],\"neighbours\":[],\"routers\":[],\"routes\":[],\"sets\":[],\"tags\":[],\"taps\":[]}}";
     assert!(rt; prints(alloc, reply, body)?);
     Ok(())
 }

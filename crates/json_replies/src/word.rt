@@ -1,10 +1,10 @@
 //! Truth values, numbers, texts, ids and addresses as JSON.
 ghost use Rattle.std.specs.Prelude.{◌≡◌, IfOk};
 ghost use Rattle.api_types.specs.Printed.{truth, number, word};
-ghost use Rattle.json_replies.specs.Frames.{id_tree, address_tree, four_tree, mac_tree, prefix_tree, direction_tree};
+ghost use Rattle.json_replies.specs.Frames.{id_tree, address_tree, four_tree, mac_tree, prefix_tree, direction_tree, ethertype_tree};
 
 use crate::printed::Prints;
-use api_types::{Direction, Id};
+use api_types::{Direction, Ethertype, Id};
 use net_addr::{Addr, Addr4, Mac, OutOfMemory, Prefix, Text};
 use serde_json::Value;
 use std::alloc::Global;
@@ -102,6 +102,17 @@ impl Prints for Prefix {
 
     fn value(&self, alloc: Global) -> Result<Value, OutOfMemory> {
         self.print(alloc)?.value(alloc)
+    }
+}
+
+impl Prints for Ethertype {
+    ghost tree = { ethertype_tree };
+
+    fn value(&self, alloc: Global) -> Result<Value, OutOfMemory> {
+        match *self {
+            Ethertype::Ipv4 => "IPv4".value(alloc),
+            Ethertype::Ipv6 => "IPv6".value(alloc),
+        }
     }
 }
 

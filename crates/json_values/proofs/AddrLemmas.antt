@@ -11,7 +11,7 @@ use Rattle.std.proofs.lemmas.List.Sums.{passes_at_first, split_at_first}
 use Rattle.net_addr.proofs.FormLemmas.{address6_once, address_once, has, no_slash, one_version}
 use Rattle.net_addr.specs.Addresses.{width}
 use Rattle.net_addr.specs.Prefixes.{Written}
-use Rattle.net_addr.specs.Spelling.{SpellsAddr, SpellsAddress, SpellsCidr, IsAddrText, IsCidrText}
+use Rattle.net_addr.specs.Spelling.{SpellsAddr, SpellsAddress, SpellsAddress6, SpellsCidr, IsAddrText, IsAddress6Text, IsCidrText}
 use Rattle.net_addr.specs.declared.address.Addr.{Addr}
 use Rattle.net_addr.specs.declared.address.Addr.TheVariants.{V4, V6}
 use Rattle.json_values.proofs.AddressLemmas.{four_read, four_spelled, no_four, number_is, number_read}
@@ -40,6 +40,18 @@ four_first f s n e = ap (λ (o : Option ℕ). or_else (option_map V4 o) (option_
 
 six_next : (f s : Option ℕ) (n : ℕ) → None ≡ f → s ≡ Some n → Some (V6 n) ≡ or_else (option_map V4 f) (option_map V6 s)
 six_next f s n e g = ap (λ (o : Option ℕ). option_map V6 o) (sym g) ∙ ap (λ (o : Option ℕ). or_else (option_map V4 o) (option_map V6 s)) e
+
+pub six_read : (text : List ℕ) (n : ℕ) → SpellsAddress6 text n → ((m : ℕ) → SpellsAddress6 text m → m ≡ n) → Some n ≡ six_in text
+six_read text n h only =
+    let g = six_given text n h in
+    ap Some (sym (only g.0 (six_spelled text g.0 g.1))) ∙ sym g.1
+
+no_six_by : (text : List ℕ) (o : Option ℕ) → six_in text ≡ o → (IsAddress6Text text → ⊥) → None ≡ o
+no_six_by text None is none = refl
+no_six_by text (Some n) is none = absurd (none (n, six_spelled text n is))
+
+pub no_six : (text : List ℕ) → (IsAddress6Text text → ⊥) → None ≡ six_in text
+no_six text none = no_six_by text (six_in text) refl none
 
 pub addr_given : (text : List ℕ) (a : Addr) → SpellsAddr text a → Some a ≡ address_in text
 addr_given text (V4 n) h = four_first (four_in text) (six_in text) n (four_given text n h)

@@ -13,6 +13,7 @@ use Rattle.api_types.specs.declared.form.GatewayAsked.{GatewayAsked}
 use Rattle.api_types.specs.declared.form.PairAsked.{PairAsked}
 use Rattle.api_types.specs.declared.subnet.Hop.{Hop}
 use Rattle.json_values.specs.Numbers.{four_in, mac_in}
+use Rattle.json_values.specs.Six.{six_in}
 use Rattle.json_values.specs.Texts.{id_in, address_in, written_in, prefix_in}
 use Rattle.json_values.specs.Values.{kept, applied, said_by, object_of, member_of, maybe_of}
 
@@ -22,6 +23,10 @@ id_of = said_by id_in
 -- the number of an address of version 4
 abbrev pub four_of : Data → Option ℕ
 four_of = said_by four_in
+
+-- and of one of version 6
+abbrev pub six_of : Data → Option ℕ
+six_of = said_by six_in
 
 abbrev pub address_of : Data → Option Addr
 address_of = said_by address_in

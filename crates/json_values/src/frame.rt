@@ -2,14 +2,15 @@
 ghost use Rattle.std.specs.Prelude.{◌≡◌, ◌++◌, IfOk};
 ghost use Rattle.serde_json.specs.Find.{as_object};
 ghost use Rattle.serde_json.specs.View.{view};
-ghost use Rattle.json_values.specs.Frames.{sixteen_bits, eight_bits, other_protocol, carried_of, packet_names, part_names, part_of, packet_with, packet_of, arp_of, dhcp_of, other_of, kind_of, frame_by, frame_of};
+ghost use Rattle.json_values.specs.Frames.{sixteen_bits, eight_bits, echo_protocol, other_protocol, ends_of, carried_of, packet_names, part_names, part_of, packet_with, packet_of, ask_of, dhcp_of, other_of, kind_of, frame_by, frame_of};
 ghost use Rattle.json_values.specs.Values.{member_of, is_only};
-ghost use Rattle.json_values.specs.Items.{mac_of, four_of};
+ghost use Rattle.json_values.specs.Items.{mac_of, four_of, six_of};
 
 use crate::object::is_object_of;
-use crate::value::{four_of, mac_of, whole_of};
-use net_addr::{Addr4, Mac};
-use plane_types::{Frame, KeyPart};
+use crate::value::{four_of, mac_of, six_of, whole_of};
+use api_types::Ethertype;
+use net_addr::{Addr4, Addr6, Mac};
+use plane_types::{Ends, Frame, KeyPart};
 use serde_json::Value;
 
 /// What a packet carries, as its `proto` names it.
@@ -26,7 +27,9 @@ enum Carried {
 #[derive(Clone, Copy)]
 enum FrameKind {
     Ip4,
+    Ip6,
     ArpAsk,
+    NeighAsk,
     Dhcp,
     Other,
 }
@@ -49,12 +52,22 @@ fn eight_bits(value: &Value) -> Option<u8>
     }
 }
 
-// A protocol that has no name of its own.
-fn other_protocol(value: &Value) -> Option<u8>
-    ensures { result ≡ other_protocol (view value.now) }
+fn echo_protocol(version: Ethertype) -> u8
+    ensures { result ≡ echo_protocol version }
 {
+    match version {
+        Ethertype::Ipv4 => 1,
+        Ethertype::Ipv6 => 58,
+    }
+}
+
+// A protocol that has no name of its own in a packet of this version.
+fn other_protocol(value: &Value, version: Ethertype) -> Option<u8>
+    ensures { result ≡ other_protocol version (view value.now) }
+{
+    let echo = echo_protocol(version);
     match eight_bits(value) {
-        Some(number) if !(number == 1 || (number == 6 || number == 17)) => Some(number),
+        Some(number) if !(number == echo || (number == 6 || number == 17)) => Some(number),
         _ => None,
     }
 }
@@ -106,14 +119,38 @@ fn four_at(frame: &Value, name: &str) -> Option<Addr4>
     four_of(frame.get(name)?)
 }
 
+fn six_at(frame: &Value, name: &str) -> Option<Addr6>
+    ensures { result ≡ member_of six_of name.now (view frame.now) }
+{
+    six_of(frame.get(name)?)
+}
+
+// Source and destination, of this version.
+fn ends_of(frame: &Value, version: Ethertype) -> Option<Ends>
+    ensures { result ≡ ends_of version (view frame.now) }
+{
+    match version {
+        Ethertype::Ipv4 => {
+            let from = four_at(frame, "from")?;
+            let to = four_at(frame, "to")?;
+            Some(Ends::four(from, to))
+        }
+        Ethertype::Ipv6 => {
+            let from = six_at(frame, "from")?;
+            let to = six_at(frame, "to")?;
+            Some(Ends::six(from, to))
+        }
+    }
+}
+
 fn number_at(frame: &Value, name: &str) -> Option<u16>
     ensures { result ≡ member_of sixteen_bits name.now (view frame.now) }
 {
     sixteen_bits(frame.get(name)?)
 }
 
-fn part_of(frame: &Value, carries: Carried) -> Option<KeyPart>
-    ensures { result ≡ part_of carries (view frame.now) }
+fn part_of(frame: &Value, version: Ethertype, carries: Carried) -> Option<KeyPart>
+    ensures { result ≡ part_of version carries (view frame.now) }
 {
     match carries {
         Carried::Tcp => {
@@ -135,52 +172,50 @@ fn part_of(frame: &Value, carries: Carried) -> Option<KeyPart>
             Some(KeyPart::EchoReply { id })
         }
         Carried::Other => {
-            let number = other_protocol(frame.get("number")?)?;
+            let number = other_protocol(frame.get("number")?, version)?;
             Some(KeyPart::Proto { number })
         }
     }
 }
 
-// A packet that carries this.
-fn packet_with(frame: &Value, carries: Carried) -> Option<Frame>
-    ensures { result ≡ packet_with carries (view frame.now) }
+// A packet of this version that carries this.
+fn packet_with(frame: &Value, version: Ethertype, carries: Carried) -> Option<Frame>
+    ensures { result ≡ packet_with version carries (view frame.now) }
 {
     if !is_packet_of(frame, carries) {
         return None;
     }
     let src = mac_at(frame, "src")?;
     let dst = mac_at(frame, "dst")?;
-    let from = four_at(frame, "from")?;
-    let to = four_at(frame, "to")?;
+    let ends = ends_of(frame, version)?;
     let ttl = eight_bits(frame.get("ttl")?)?;
-    let part = part_of(frame, carries)?;
-    Some(Frame::Ip4 {
+    let part = part_of(frame, version, carries)?;
+    Some(Frame::Ip {
         src,
         dst,
-        from,
-        to,
+        ends,
         ttl,
         part,
     })
 }
 
-fn packet_of(frame: &Value) -> Option<Frame>
-    ensures { result ≡ packet_of (view frame.now) }
+fn packet_of(frame: &Value, version: Ethertype) -> Option<Frame>
+    ensures { result ≡ packet_of version (view frame.now) }
 {
     let carries = carried_of(frame.get("proto")?)?;
-    packet_with(frame, carries)
+    packet_with(frame, version, carries)
 }
 
-fn arp_of(frame: &Value) -> Option<Frame>
-    ensures { result ≡ arp_of (view frame.now) }
+// An ask for the MAC of an address of this version.
+fn ask_of(frame: &Value, version: Ethertype) -> Option<Frame>
+    ensures { result ≡ ask_of version (view frame.now) }
 {
     if !is_object_of(frame, &["kind", "src", "from", "to"]) {
         return None;
     }
     let src = mac_at(frame, "src")?;
-    let from = four_at(frame, "from")?;
-    let to = four_at(frame, "to")?;
-    Some(Frame::ArpAsk { src, from, to })
+    let ends = ends_of(frame, version)?;
+    Some(Frame::NeighbourAsk { src, ends })
 }
 
 fn dhcp_of(frame: &Value) -> Option<Frame>
@@ -215,7 +250,9 @@ fn kind_of(value: &Value) -> Option<FrameKind>
 {
     match value.as_str()? {
         "ip4" => Some(FrameKind::Ip4),
+        "ip6" => Some(FrameKind::Ip6),
         "arp_ask" => Some(FrameKind::ArpAsk),
+        "neigh_ask" => Some(FrameKind::NeighAsk),
         "dhcp_ask" => Some(FrameKind::Dhcp),
         "other" => Some(FrameKind::Other),
         _ => None,
@@ -227,8 +264,10 @@ pub(crate) fn frame_of(frame: &Value) -> Option<Frame>
     ensures { result ≡ frame_of (view frame.now) }
 {
     match kind_of(frame.get("kind")?)? {
-        FrameKind::Ip4 => packet_of(frame),
-        FrameKind::ArpAsk => arp_of(frame),
+        FrameKind::Ip4 => packet_of(frame, Ethertype::Ipv4),
+        FrameKind::Ip6 => packet_of(frame, Ethertype::Ipv6),
+        FrameKind::ArpAsk => ask_of(frame, Ethertype::Ipv4),
+        FrameKind::NeighAsk => ask_of(frame, Ethertype::Ipv6),
         FrameKind::Dhcp => dhcp_of(frame),
         FrameKind::Other => other_of(frame),
     }

@@ -1,10 +1,11 @@
 //! Ids, addresses, MACs, prefixes and numbers in texts.
 ghost use Rattle.std.specs.Prelude.{◌≡◌};
 ghost use Rattle.json_values.specs.Numbers.{number_in, four_in, mac_in};
+ghost use Rattle.json_values.specs.Six.{six_in};
 ghost use Rattle.json_values.specs.Texts.{address_in, written_in, id_in};
 
 use api_types::Id;
-use net_addr::{Addr, Addr4, Cidr, Mac};
+use net_addr::{Addr, Addr4, Addr6, Cidr, Mac};
 
 /// The id that a text spells in the hyphenated form (RFC 9562), in either case, or None where it
 /// spells none that a project can have drawn.
@@ -21,6 +22,17 @@ pub(crate) fn read_four(text: &[u8]) -> Option<Addr4>
     ensures { result ≡ four_in text.now }
 {
     match Addr4::read(text) {
+        Ok(address) => Some(address),
+        Err(_) => None,
+    }
+}
+
+/// The address of version 6 that a text spells.
+#[tactic(auto, using(crate::proofs::AddrLemmas::six_read, crate::proofs::AddrLemmas::no_six))]
+pub(crate) fn read_six(text: &[u8]) -> Option<Addr6>
+    ensures { result ≡ six_in text.now }
+{
+    match Addr6::read(text) {
         Ok(address) => Some(address),
         Err(_) => None,
     }

@@ -2,11 +2,11 @@
 ghost use Rattle.std.specs.Prelude.{◌≡◌};
 ghost use Rattle.serde_json.specs.View.{view};
 ghost use Rattle.json_values.specs.Values.{whole_of};
-ghost use Rattle.json_values.specs.Items.{id_of, four_of, address_of, mac_of, card_of, prefix_said, exact_of};
+ghost use Rattle.json_values.specs.Items.{id_of, four_of, six_of, address_of, mac_of, card_of, prefix_said, exact_of};
 
-use crate::text::{read_address, read_cidr, read_four, read_id, read_mac};
+use crate::text::{read_address, read_cidr, read_four, read_id, read_mac, read_six};
 use api_types::Id;
-use net_addr::{Addr, Addr4, Mac, Prefix};
+use net_addr::{Addr, Addr4, Addr6, Mac, Prefix};
 use serde_json::Value;
 
 /// A whole number from one to another, written without fraction and exponent.
@@ -29,6 +29,12 @@ pub(crate) fn four_of(value: &Value) -> Option<Addr4>
     ensures { result ≡ four_of (view value.now) }
 {
     read_four(value.as_str()?.as_bytes())
+}
+
+pub(crate) fn six_of(value: &Value) -> Option<Addr6>
+    ensures { result ≡ six_of (view value.now) }
+{
+    read_six(value.as_str()?.as_bytes())
 }
 
 pub(crate) fn address_of(value: &Value) -> Option<Addr>

@@ -3,10 +3,10 @@ ghost use Rattle.std.specs.List.{filter_map};
 ghost use Rattle.api_types.specs.Live.{segment};
 ghost use Rattle.plane_types.specs.TableRows.{bridge_row as bridge_row_of, bridge_rows as bridge_rows_of, dhcp_row as dhcp_row_of, end_of as end_for, mac_row, to_here as to_tap_or_router, to_there as to_tunnel};
 
-use api_types::{PortRow, Rows, Segment, ascending, is_dhcp, is_router_port};
-use net_addr::{Copies, OutOfMemory, Seq, Text};
+use api_types::{PortRow, Rows, Segment, is_dhcp, is_router_port};
+use net_addr::{Copies, OutOfMemory, Text};
 use plane_rows::{is_at, is_live, router_of, segment_of};
-use plane_types::{BridgeKey, BridgeRow, BridgeTo, TagRow, tag_of};
+use plane_types::{Ascending, BridgeKey, BridgeRow, BridgeTo, TagRow, tag_of};
 use std::alloc::Global;
 
 // To a port of this host.
@@ -136,11 +136,11 @@ pub(crate) fn bridge_rows(
     rows: &Rows,
     host: &Text,
     tags: &[TagRow],
-) -> Result<Seq<BridgeRow>, OutOfMemory>
+) -> Result<Ascending<BridgeRow>, OutOfMemory>
     ensures { IfOk result (λ b. b ≡ bridge_rows_of rows.now host.now tags.now) }
 {
     let mut bridge = Vec::new(alloc);
     add_macs(alloc, &mut bridge, rows, host, tags)?;
     add_dhcp(alloc, &mut bridge, rows, host, tags)?;
-    Ok(Seq::from_vec(ascending(bridge)?))
+    Ascending::of(bridge)
 }

@@ -2,21 +2,22 @@ ghost use Rattle.std.specs.Prelude.{◌≡◌, ◌++◌, IfOk, OnOk};
 ghost use Rattle.plane_types.specs.TableRows.{filter_by as filter_of_rule, filter_rows as filter_rows_of, filters_of, filters_of_group};
 
 use crate::taps::is_tap;
-use api_types::{Ethertype, GroupRow, PortRow, Rows, RuleRow, names_group};
+use api_types::{GroupRow, PortRow, Rows, RuleRow, names_group};
 use net_addr::{OutOfMemory, Seq, Text};
 use plane_types::FilterRow;
 use std::alloc::Global;
 
-// The row of a rule of this group, where it is for IPv4.
+// The row of a rule, where it is of this group.
 fn filter_by(port: &PortRow, group: &GroupRow, rule: &RuleRow) -> Option<FilterRow>
     ensures { result ≡ filter_of_rule port.now group.now rule.now }
 {
-    if rule.ethertype != Ethertype::Ipv4 || rule.group != group.id {
+    if rule.group != group.id {
         return None;
     }
     Some(FilterRow {
         port: port.id,
         direction: rule.direction,
+        ethertype: rule.ethertype,
         protocol: rule.protocol,
         low: rule.low,
         high: rule.high,
@@ -64,7 +65,7 @@ fn add_port(
     Ok(())
 }
 
-/// A row for each IPv4 rule of each group of each secured tap. Its cost grows with the ports times
+/// A row for each rule of each group of each secured tap. Its cost grows with the ports times
 /// the groups times the rules.
 #[tactic(auto, unfolding(plane_types::specs::TableRows::filter_rows))]
 pub(crate) fn filter_rows(

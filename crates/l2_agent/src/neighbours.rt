@@ -3,10 +3,10 @@ ghost use Rattle.std.specs.List.{filter_map};
 ghost use Rattle.api_types.specs.declared.port.Fixed.{Fixed as TheFixed};
 ghost use Rattle.plane_types.specs.TableRows.{floating_neighbour, neighbour_rows as neighbour_rows_of, neighbours_of};
 
-use api_types::{Fixed, FloatingRow, PortRow, Rows, ascending};
-use net_addr::{Addr, Mac, OutOfMemory, Seq, Text};
+use api_types::{Fixed, FloatingRow, PortRow, Rows};
+use net_addr::{Addr, Mac, OutOfMemory, Text};
 use plane_rows::{floating_holder, is_joined, is_live};
-use plane_types::{NeighbourRow, TagRow, tag_of};
+use plane_types::{Ascending, NeighbourRow, TagRow, tag_of};
 use std::alloc::Global;
 
 // Adds an entry for each address.
@@ -108,11 +108,11 @@ pub(crate) fn neighbour_rows(
     rows: &Rows,
     host: &Text,
     tags: &[TagRow],
-) -> Result<Seq<NeighbourRow>, OutOfMemory>
+) -> Result<Ascending<NeighbourRow>, OutOfMemory>
     ensures { IfOk result (λ n. n ≡ neighbour_rows_of rows.now host.now tags.now) }
 {
     let mut neighbours = Vec::new(alloc);
     add_ports(&mut neighbours, rows, host, tags)?;
     add_floatings(&mut neighbours, rows, host, tags)?;
-    Ok(Seq::from_vec(ascending(neighbours)?))
+    Ascending::of(neighbours)
 }

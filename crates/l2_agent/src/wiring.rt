@@ -13,7 +13,7 @@ use crate::tags::retagged;
 use crate::taps::tap_rows;
 use api_types::Rows;
 use net_addr::{OutOfMemory, Seq, Text};
-use plane_types::{BridgeRow, FilterRow, InwardRow, NeighbourRow, SetRow, Tags, TapRow};
+use plane_types::{Ascending, BridgeRow, FilterRow, InwardRow, NeighbourRow, SetRow, Tags, TapRow};
 use std::alloc::Global;
 
 /// The tables of a host by which its ports send and receive.
@@ -23,9 +23,9 @@ pub struct L2Tables {
     pub taps: Seq<TapRow>,
     pub filters: Seq<FilterRow>,
     pub sets: Seq<SetRow>,
-    pub bridge: Seq<BridgeRow>,
+    pub bridge: Ascending<BridgeRow>,
     pub inward: Seq<InwardRow>,
-    pub neighbours: Seq<NeighbourRow>,
+    pub neighbours: Ascending<NeighbourRow>,
 }
 
 /// The tables of a host whose tags were these: each is the list that the rows and the new tags give.

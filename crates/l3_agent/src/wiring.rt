@@ -22,7 +22,8 @@ pub struct L3Tables {
 ///
 /// A router has a row where it names the host, whatever its administrative state, with those of its
 /// live ports whose networks have a tag. Its routes lead to the subnets of its live ports, then come
-/// its extra ones, then the default one while its gateway port is live; its floating addresses are
+/// its extra ones, then while its gateway port is live the default ones, for the addresses of that
+/// port in ascending order; its floating addresses are
 /// the associated ones (`routers` and `floatingips` of the Networking API). Rows are in the order of
 /// creation of what they come from. The cost grows with the floating addresses and the routers; for
 /// each router of the host with the ports, and for each of its live ports with the tags and the

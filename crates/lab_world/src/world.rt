@@ -274,7 +274,7 @@ fn lifetime_of(frame: &Frame) -> u16
     ensures bound { life_of frame.now ≤ 256 }
 {
     match *frame {
-        Frame::Ip4 { ttl, .. } => u16::from(ttl) + 1,
-        Frame::ArpAsk { .. } | Frame::Dhcp { .. } | Frame::Other { .. } => 0,
+        Frame::Ip { ttl, .. } => u16::from(ttl) + 1,
+        Frame::NeighbourAsk { .. } | Frame::Dhcp { .. } | Frame::Other { .. } => 0,
     }
 }

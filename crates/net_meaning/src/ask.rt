@@ -3,9 +3,9 @@ ghost use Rattle.plane_types.specs.Meaning.{answered as lease_answer, asked as a
 ghost use Rattle.plane_types.specs.Packets.{address_ask, lease_ask};
 
 use api_types::{Id, Lease, PortRow, Rows};
-use net_addr::{Addr, Addr4, Mac, OutOfMemory, Text};
+use net_addr::{Addr4, Mac, OutOfMemory, Text};
 use plane_rows::{dhcp_port, has_wire, holder, joined_with, lease_for, port_at};
-use plane_types::{AskAnswer, DropCause, Frame, Outcome, Toward};
+use plane_types::{AskAnswer, DropCause, Ends, Frame, Outcome, Toward};
 use std::alloc::Global;
 
 /// Out on a network that a physical one carries, else dropped.
@@ -29,28 +29,21 @@ pub(crate) fn out_of(
     }
 }
 
-/// What an ask for an address (RFC 826) by a port of a host comes to: its holder's MAC, where that
-/// is joined with the asker.
-pub(crate) fn asked(
-    rows: &Rows,
-    network: Id,
-    host: &Text,
-    src: Mac,
-    from: Addr4,
-    to: Addr4,
-) -> Outcome
-    ensures { result ≡ address_asked rows.now network host.now (address_ask src from to) }
+/// What an ask for an address (RFC 826, RFC 4861) by a port of a host comes to: its holder's MAC,
+/// where that is joined with the asker.
+pub(crate) fn asked(rows: &Rows, network: Id, host: &Text, src: Mac, ends: &Ends) -> Outcome
+    ensures { result ≡ address_asked rows.now network host.now (address_ask src ends.now) }
 {
-    match joined_with(rows, host, holder(rows, network, &Addr::V4(to))) {
+    match joined_with(rows, host, holder(rows, network, &ends.destination())) {
         Some(port) => Outcome::Answered(AskAnswer::Arp {
-            address: Addr::V4(to),
+            address: ends.destination(),
             mac: port.mac,
         }),
         None => out_of(
             rows,
             network,
-            Toward::Address(Addr::V4(to)),
-            Frame::ArpAsk { src, from, to },
+            Toward::Address(ends.destination()),
+            Frame::NeighbourAsk { src, ends: *ends },
             DropCause::NoHolder,
         ),
     }

@@ -16,7 +16,7 @@ use crate::guard::passes_guard;
 use crate::passage::passage_at;
 use crate::turn::{Fate, Trace, got};
 use api_types::{Direction, Id, NetworkRow, PortRow, Rows, is_router_port};
-use net_addr::{Addr, OutOfMemory, Seq, Text};
+use net_addr::{OutOfMemory, Seq, Text};
 use plane_rows::{dhcp_port, holder, is_live, joined_with, network_on, port_at};
 use plane_types::{
     AskAnswer, DropCause, Entries, Entry, Event, Frame, Made, Outcome, Packet, Toward, Verdict,
@@ -127,29 +127,14 @@ fn from_sender(
     ensures { IfOk result (λ f. fate_of f ≡ from_sender_by rows.now entries.now (life_of frame) sender.now (record { path = sender.now.network ∷ []; fresh = [] }) frame) }
 {
     let trace = on_network(alloc, sender.network)?;
+    if let Some(packet) = Packet::of(&frame) {
+        return sent_out(alloc, rows, entries, sender, &packet, trace);
+    }
     let network = sender.network;
     let outcome = match frame {
-        Frame::Ip4 {
-            src,
-            dst,
-            from,
-            to,
-            ttl,
-            part,
-        } => {
-            let packet = Packet {
-                src,
-                dst,
-                from,
-                to,
-                ttl,
-                part,
-            };
-            return sent_out(alloc, rows, entries, sender, &packet, trace);
-        }
-        Frame::ArpAsk { src, from, to } => asked(rows, network, &sender.host, src, from, to),
+        Frame::NeighbourAsk { src, ends } => asked(rows, network, &sender.host, src, &ends),
         Frame::Dhcp { src, from } => lease_asked(alloc, rows, network, &sender.host, src, from)?,
-        Frame::Other { .. } => Outcome::Dropped(DropCause::Unsupported),
+        Frame::Ip { .. } | Frame::Other { .. } => Outcome::Dropped(DropCause::Unsupported),
     };
     Ok(Fate { outcome, trace })
 }
@@ -227,28 +212,13 @@ fn from_network(
 ) -> Result<Fate, OutOfMemory>
     ensures { IfOk result (λ f. fate_of f ≡ from_network_by rows.now entries.now (life_of frame) network.now frame) }
 {
+    if let Some(packet) = Packet::of(&frame) {
+        return wire_packet(alloc, rows, entries, network, &packet);
+    }
     let outcome = match frame {
-        Frame::Ip4 {
-            src,
-            dst,
-            from,
-            to,
-            ttl,
-            part,
-        } => {
-            let packet = Packet {
-                src,
-                dst,
-                from,
-                to,
-                ttl,
-                part,
-            };
-            return wire_packet(alloc, rows, entries, network, &packet);
-        }
-        Frame::ArpAsk { to, .. } => match holder(rows, network.id, &Addr::V4(to)) {
+        Frame::NeighbourAsk { ends, .. } => match holder(rows, network.id, &ends.destination()) {
             Some(port) => Outcome::Answered(AskAnswer::Arp {
-                address: Addr::V4(to),
+                address: ends.destination(),
                 mac: port.mac,
             }),
             None => return Ok(dropped(alloc, DropCause::Unknown)),
@@ -257,7 +227,9 @@ fn from_network(
             Some(dhcp) => leased(alloc, rows, network.id, src, from, dhcp)?,
             None => return Ok(dropped(alloc, DropCause::Unknown)),
         },
-        Frame::Other { .. } => return Ok(dropped(alloc, DropCause::Unsupported)),
+        Frame::Ip { .. } | Frame::Other { .. } => {
+            return Ok(dropped(alloc, DropCause::Unsupported));
+        }
     };
     Ok(Fate {
         outcome,

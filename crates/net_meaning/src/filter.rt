@@ -1,9 +1,9 @@
 ghost use Rattle.std.specs.Prelude.{◌≡◌};
-ghost use Rattle.plane_types.specs.Filter.{far_fits as fits_far, is_ipv4 as of_ipv4, parts_fit as fits_parts, rule_matches as matches_rule, rules_allow as allowed_by_rules};
+ghost use Rattle.plane_types.specs.Filter.{far_fits as fits_far, rule_matches as matches_rule, rules_allow as allowed_by_rules};
 ghost use Rattle.api_types.specs.Members.{is_member as is_member_of};
 
 use api_secgroup::is_member;
-use api_types::{Direction, Ethertype, PortRow, Rows, RuleRow, names_group};
+use api_types::{Direction, PortRow, Rows, RuleRow, names_group};
 use net_addr::Addr;
 use plane_types::{Key, far_of, in_range, is_protocol};
 
@@ -19,30 +19,16 @@ fn far_fits(rows: &Rows, rule: &RuleRow, far: &Addr) -> bool
     }
 }
 
-fn parts_fit(rows: &Rows, rule: &RuleRow, direction: Direction, key: &Key) -> bool
-    ensures { result ≡ fits_parts (is_member_of rows.now) rule.now.direction rule.now.protocol rule.now.low rule.now.high rule.now.remote_prefix rule.now.remote_group direction key.now }
-{
-    let far = far_of(direction, key);
-    rule.direction == direction
-        && is_protocol(rule.protocol, key.kind)
-        && in_range(rule.low, rule.high, key.kind, key.dport)
-        && far_fits(rows, rule, &far)
-}
-
-fn is_ipv4(ethertype: Ethertype) -> bool
-    ensures { result ≡ of_ipv4 ethertype }
-{
-    match ethertype {
-        Ethertype::Ipv4 => true,
-        Ethertype::Ipv6 => false,
-    }
-}
-
 #[tactic(auto, unfolding(plane_types::specs::Filter::rule_matches))]
 fn rule_matches(rows: &Rows, direction: Direction, key: &Key, rule: &RuleRow) -> bool
     ensures { result ≡ matches_rule rows.now direction key.now rule.now }
 {
-    is_ipv4(rule.ethertype) && parts_fit(rows, rule, direction, key)
+    let far = far_of(direction, key);
+    rule.direction == direction
+        && rule.ethertype == key.ends.ethertype()
+        && is_protocol(rule.protocol, &key.ends, key.kind)
+        && in_range(rule.low, rule.high, &key.ends, key.kind, key.dport)
+        && far_fits(rows, rule, &far)
 }
 
 /// Whether some rule of some group of the port lets a key pass in a direction. Its cost grows with

@@ -1,17 +1,15 @@
 ghost use Rattle.std.specs.Prelude.{◌≡◌};
-ghost use Rattle.net_addr.specs.declared.address.Addr.TheVariants.{V4};
 ghost use Rattle.plane_types.specs.Guard.{guards as guarded, may_ask_lease as may_ask, may_send as may_send_from, passes_guard as passes};
 
 use api_types::{PortRow, holds};
-use net_addr::{Addr, Addr4, Mac};
+use net_addr::{Addr, Mac};
 use plane_types::{Frame, has_pair_mac, is_allowed};
 
 // With its own MAC and one of its addresses, or by an allowed pair.
-fn may_send(port: &PortRow, mac: Mac, from: Addr4) -> bool
-    ensures { result ≡ may_send_from port.now mac (V4 from) }
+fn may_send(port: &PortRow, mac: Mac, from: &Addr) -> bool
+    ensures { result ≡ may_send_from port.now mac from.now }
 {
-    (port.mac == mac && holds(port, &Addr::V4(from)))
-        || is_allowed(port.pairs.as_slice(), mac, Addr::V4(from))
+    (port.mac == mac && holds(port, from)) || is_allowed(port.pairs.as_slice(), mac, *from)
 }
 
 // Without an address, with its own MAC or a pair's.
@@ -25,13 +23,13 @@ fn guards(port: &PortRow, frame: &Frame) -> bool
     ensures { result ≡ guarded port.now frame.now }
 {
     match *frame {
-        Frame::Ip4 { src, from, .. } => may_send(port, src, from),
-        Frame::ArpAsk { src, from, .. } => may_send(port, src, from),
+        Frame::Ip { src, ends, .. } => may_send(port, src, &ends.source()),
+        Frame::NeighbourAsk { src, ends } => may_send(port, src, &ends.source()),
         Frame::Dhcp { src, from } => {
             if from.0 == 0 {
                 may_ask_lease(port, src)
             } else {
-                may_send(port, src, from)
+                may_send(port, src, &Addr::V4(from))
             }
         }
         Frame::Other { .. } => true,

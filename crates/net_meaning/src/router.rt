@@ -1,8 +1,11 @@
 ghost use Rattle.std.specs.Prelude.{◌≡◌, ◌++◌, IfOk, Some, find, if◌then◌else◌, map, option_map};
+ghost use Rattle.std.specs.List.{list_any};
 ghost use Rattle.std.specs.Option.{unwrap_or};
 ghost use Rattle.net_addr.specs.Prefixes.{contains};
-ghost use Rattle.net_addr.specs.declared.address.Addr.TheVariants.{V4};
-ghost use Rattle.api_types.specs.RouterRows.{gateway_address as gateway_by_rows, leg_of, router_view, ways_of as ways_by_rows};
+ghost use Rattle.api_types.specs.declared.port.PortRow.{PortRow as ThePort};
+ghost use Rattle.api_types.specs.Holders.{holds as holds_address};
+ghost use Rattle.api_types.specs.RouterRows.{gateway_address as gateway_by_rows, leg_of, legs_of, router_view, ways_of as ways_by_rows};
+ghost use Rattle.plane_types.specs.Ends.{destination as destined_to};
 ghost use Rattle.plane_types.specs.Routing.{answers as answers_to, best_way as best_of_ways, better as better_of, destined as destined_by, beats as way_beats, routed as routed_by_view, routed_to as to_by_view, routed_way as way_by_view, sent as sent_by};
 ghost use Rattle.plane_rows.specs.Ways.{way_of};
 ghost use Rattle.plane_types.specs.Parts.{changed_of, destined_of, packet_of, sourced_of, use_of};
@@ -15,7 +18,7 @@ use net_addr::{Addr, OutOfMemory};
 use plane_rows::{Way, fixed_behind, gateway_address, is_own_address, leg, ways_of};
 use plane_types::{
     Changed, Destined, DropCause, Entry, Outcome, Packet, Sourced, Use, answered_to, lower,
-    rank_place, with_destination,
+    rank_place, with_ends,
 };
 use std::alloc::Global;
 
@@ -52,9 +55,10 @@ fn answer(rows: &Rows, router: &RouterRow, uses: &[Use], packet: &Packet) -> Opt
 fn find_destination(rows: &Rows, router: &RouterRow, uses: &[Use], packet: &Packet) -> Destined
     ensures { destined_of result ≡ destined_by (router_view rows.now router.now) (map use_of uses.now) (packet_of packet.now) }
 {
-    if let Some(to) = fixed_behind(rows, router, packet.to) {
+    if let Some(fixed) = fixed_behind(rows, router, &packet.ends.destination()) {
+        let ends = packet.ends.with_destination(fixed);
         return Destined {
-            packet: with_destination(packet, to, packet.part),
+            packet: with_ends(packet, ends, packet.part),
             by: Changed::Floating,
         };
     }
@@ -130,11 +134,11 @@ fn send_on<'r>(out: &'r PortRow, hop: &Addr, sourced: Option<Sourced>) -> Routed
 
 // The route's next hop, or the destination where it has none.
 fn next_hop(way: &Way, packet: &Packet) -> Addr
-    ensures { result ≡ unwrap_or way.now.next (V4 packet.now.to) }
+    ensures { result ≡ unwrap_or way.now.next (destined_to packet.now.ends) }
 {
     match way.next {
         Some(next) => next,
-        None => Addr::V4(packet.to),
+        None => packet.ends.destination(),
     }
 }
 
@@ -169,14 +173,20 @@ fn routed_on<'r>(
     port: &PortRow,
     destined: &Destined,
 ) -> Result<Routed<'r>, OutOfMemory>
-    ensures { IfOk result (λ r. routed_of r ≡ way_by_view (router_view rows.now router.now) (map use_of uses.now) (leg_of port.now) (changed_of destined.now.by) (packet_of destined.now.packet) (best_of_ways (V4 destined.now.packet.to) (ways_by_rows rows.now router.now))) }
+    ensures { IfOk result (λ r. routed_of r ≡ way_by_view (router_view rows.now router.now) (map use_of uses.now) (leg_of port.now) (changed_of destined.now.by) (packet_of destined.now.packet) (best_of_ways (destined_to destined.now.packet.ends) (ways_by_rows rows.now router.now))) }
 {
     let ways = ways_of(alloc, rows, router)?;
-    let to = Addr::V4(destined.packet.to);
-    match best_way(&to, ways) {
+    match best_way(&destined.packet.ends.destination(), ways) {
         Some(way) => Ok(routed_by(rows, router, uses, port, destined, &way)),
         None => Ok(Routed::Ends(Outcome::Dropped(DropCause::NoRoute))),
     }
+}
+
+// Whether a live port of the router has the packet's destination.
+fn is_own(rows: &Rows, router: &RouterRow, packet: &Packet) -> bool
+    ensures { result ≡ list_any (λ (p : ThePort). holds_address p (destined_to packet.now.ends)) (legs_of rows.now router.now) }
+{
+    is_own_address(rows, router, &packet.ends.destination())
 }
 
 // What is the router's own ends, and what has lived; what goes on has one step less to live.
@@ -190,7 +200,7 @@ fn routed_to<'r>(
 ) -> Result<Routed<'r>, OutOfMemory>
     ensures { IfOk result (λ r. routed_of r ≡ to_by_view (router_view rows.now router.now) (map use_of uses.now) (leg_of port.now) (destined_of destined.now)) }
 {
-    if is_own_address(rows, router, &Addr::V4(destined.packet.to)) {
+    if is_own(rows, router, &destined.packet) {
         return Ok(Routed::Ends(Outcome::Absorbed { router: router.id }));
     }
     if destined.packet.ttl <= 1 {

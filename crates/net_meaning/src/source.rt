@@ -1,4 +1,7 @@
-ghost use Rattle.std.specs.Prelude.{◌≡◌, ◌==◌, ◌&&◌, ◌||◌, find, not, map, option_map};
+ghost use Rattle.std.specs.Prelude.{◌≡◌, ◌&&◌, ◌||◌, find, not, map, option_map};
+ghost use Rattle.net_addr.specs.Addresses.{addr_eq};
+ghost use Rattle.net_addr.specs.declared.address.Addr.TheVariants.{V4};
+ghost use Rattle.plane_types.specs.Ends.{source as sent_from};
 ghost use Rattle.plane_types.specs.Packets.{key_of};
 ghost use Rattle.api_types.specs.RouterRows.{floats_of, gateway_address as gateway_by_rows, leg_of, router_view};
 ghost use Rattle.plane_types.specs.Routing.{by_float as changed_by_float, is_gateway_live, new_port as new_port_of, sourced as sourced_by, sourced_float as sourced_by_float, sourced_gateway as sourced_by_gateway, sourced_new as sourced_anew};
@@ -11,6 +14,7 @@ use net_addr::Addr4;
 use plane_rows::{floating_for, gateway_address, has_live_gateway};
 use plane_types::{
     Changed, Destined, Entry, Packet, Sourced, Use, by_any, by_float, kept_source, sourced_at,
+    with_ends,
 };
 
 // With a new entry, where a port is left.
@@ -74,12 +78,13 @@ fn sourced_float(
     out: &PortRow,
     destined: &Destined,
 ) -> Option<Sourced>
-    ensures { option_map sourced_of result ≡ sourced_by_float (router_view rows.now router.now) (map use_of uses.now) (leg_of out.now) (changed_of destined.now.by) (packet_of destined.now.packet) (find (λ (f : Float). f.fixed == destined.now.packet.from) (floats_of rows.now router.now)) }
+    ensures { option_map sourced_of result ≡ sourced_by_float (router_view rows.now router.now) (map use_of uses.now) (leg_of out.now) (changed_of destined.now.by) (packet_of destined.now.packet) (find (λ (f : Float). addr_eq (V4 f.fixed) (sent_from destined.now.packet.ends)) (floats_of rows.now router.now)) }
 {
     let packet = &destined.packet;
-    if let Some(from) = floating_for(rows, router, packet.from) {
+    if let Some(floating) = floating_for(rows, router, &packet.ends.source()) {
+        let ends = packet.ends.with_source(floating);
         return Some(Sourced {
-            packet: Packet { from, ..*packet },
+            packet: with_ends(packet, ends, packet.part),
             made: None,
         });
     }
@@ -90,9 +95,9 @@ fn sourced_float(
     }
 }
 
-/// The packet with the source that it leaves with, or none where no port is left. Only a packet
-/// that came in by an interface, and leaves by the gateway port or had its destination changed, is
-/// looked at.
+/// The packet with the source that it leaves with, or none where no port is left. Only a packet of
+/// version 4 that came in by an interface, and leaves by the gateway port or had its destination
+/// changed, is looked at.
 #[tactic(auto, unfolding(api_types::specs::RouterRows::router_view))]
 pub(crate) fn find_source(
     rows: &Rows,
@@ -105,7 +110,7 @@ pub(crate) fn find_source(
     ensures { option_map sourced_of result ≡ sourced_by (router_view rows.now router.now) (map use_of uses.now) (leg_of port.now) (leg_of out.now) (changed_of destined.now.by) (packet_of destined.now.packet) }
 {
     let leaves = !is_interface(&out.owner) || by_any(destined.by);
-    if is_interface(&port.owner) && leaves {
+    if destined.packet.ends.are_four() && is_interface(&port.owner) && leaves {
         sourced_float(rows, router, uses, out, destined)
     } else {
         kept_source(&destined.packet)

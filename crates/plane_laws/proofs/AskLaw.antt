@@ -28,6 +28,7 @@ use Rattle.api_types.specs.declared.network.Segment.TheVariants.{Flat, Local, Vl
 use Rattle.api_types.specs.declared.port.Fixed.{Fixed}
 use Rattle.api_types.specs.declared.port.Pair.{Pair}
 use Rattle.api_types.specs.declared.port.PortRow.{PortRow}
+use Rattle.plane_types.specs.Ends.{source, destination}
 use Rattle.plane_types.specs.Fabric.{Run, after_step, meant, moved, takes, takes_at, walk, wired}
 use Rattle.plane_types.specs.Guard.{guards, has_pair_mac, may_ask_lease, may_send}
 use Rattle.api_types.specs.Holders.{has_mac, holder}
@@ -35,12 +36,12 @@ use Rattle.plane_types.specs.Hosts.{Host, is_named}
 use Rattle.api_types.specs.Live.{is_joined, is_live, is_local, joined_with, network_of, segment}
 use Rattle.api_types.specs.Wires.{wire_of}
 use Rattle.plane_types.specs.Meaning.{asked, asked_by, ended, out_or}
-use Rattle.plane_types.specs.Packets.{AddressAsk, address_ask, arp_frame, lease_ask, packet}
+use Rattle.plane_types.specs.Packets.{AddressAsk, address_ask, ask_frame, lease_ask, packet}
 use Rattle.plane_types.specs.Places.{Bridge, Step, ToWire}
 use Rattle.plane_types.specs.TableRows.{allowed_of, tag_of, tap_of}
-use Rattle.plane_types.specs.TableStep.{arp_by, bridge_at_tag, bridge_step, drops, may_send_as, plain, stops, tap_guards, wire_or}
+use Rattle.plane_types.specs.TableStep.{asked_at, bridge_at_tag, bridge_step, drops, may_send_as, plain, stops, tap_guards, wire_or}
 use Rattle.plane_types.specs.declared.frame.Frame.{Frame}
-use Rattle.plane_types.specs.declared.frame.Frame.TheVariants.{ArpAsk, Dhcp, Ip4, Other}
+use Rattle.plane_types.specs.declared.frame.Frame.TheVariants.{Dhcp, Ip, NeighbourAsk, Other}
 use Rattle.plane_types.specs.declared.table.Carrier.TheVariants.{Wire as ByWire}
 use Rattle.api_types.specs.declared.wire.Wire.{Wire}
 use Rattle.plane_types.specs.declared.verdict.AskAnswer.TheVariants.{Arp as ArpAnswer}
@@ -68,8 +69,8 @@ may-lease-same p mac =
     go false (f ∷ fs) = go false fs
 
 pub guards-same : (p : PortRow) (tag : ℕ) (frame : Frame) → tap_guards (tap_of p tag) frame ≡ guards p frame
-guards-same p tag (Ip4 src dst from to ttl part) = may-send-same p (packet src dst from to ttl part).src (V4 from)
-guards-same p tag (ArpAsk src from to) = may-send-same p (address_ask src from to).src (V4 from)
+guards-same p tag (Ip src dst ends ttl part) = may-send-same p (packet src dst ends ttl part).src (source ends)
+guards-same p tag (NeighbourAsk src ends) = may-send-same p (address_ask src ends).src (source ends)
 guards-same p tag (Dhcp src from) = ap (λ b. if (lease_ask src from).from == 0 then b else may_send_as (allowed_of p) (lease_ask src from).src (V4 (lease_ask src from).from)) (may-lease-same p (lease_ask src from).src) ∙ ap (λ b. if (lease_ask src from).from == 0 then may_ask_lease p (lease_ask src from).src else b) (may-send-same p (lease_ask src from).src (V4 (lease_ask src from).from))
 guards-same p tag (Other s d y) = refl
 
@@ -77,12 +78,12 @@ module _ (rows : RowLists) (hosts : List Host) (good : FrameFacts rows) (synced 
   real : HostFacts rows h.name h.tables
   real = find-each (λ (y : Host). HostFacts rows y.name y.tables) (is_named h.name) hosts h synced.realise named
 
-  no-taker : (w : Wire) → wire_of (segment rows n) ≡ Some w → holder rows n (V4 a.to) ≡ None → (x : Host) → HostFacts rows x.name x.tables → takes w (arp_frame a) x ≡ false
+  no-taker : (w : Wire) → wire_of (segment rows n) ≡ Some w → holder rows n (destination a.ends) ≡ None → (x : Host) → HostFacts rows x.name x.tables → takes w (ask_frame a) x ≡ false
   no-taker w f none x r = go (tag_of x.tables.tags n) refl
     where
-      go : (o : Option ℕ) → tag_of x.tables.tags n ≡ o → takes w (arp_frame a) x ≡ false
-      go None e = ap (takes_at x.tables (arp_frame a)) (inward-none rows x.name x.tables r good n net (ByWire w) there e (wire_carrier (segment rows n) w f) (wire_self w))
-      go (Some other) e = ap (takes_at x.tables (arp_frame a)) (inward-located rows x.name x.tables r good n other (ByWire w) e (wire_carrier (segment rows n) w f) (wire_self w)) ∙ ap is_some (neighbour-located rows x.name x.tables r good n other e (V4 a.to) ∙ ap (λ o. option_map (row_at other (V4 a.to)) (joined_with rows x.name o)) none)
+      go : (o : Option ℕ) → tag_of x.tables.tags n ≡ o → takes w (ask_frame a) x ≡ false
+      go None e = ap (takes_at x.tables (ask_frame a)) (inward-none rows x.name x.tables r good n net (ByWire w) there e (wire_carrier (segment rows n) w f) (wire_self w))
+      go (Some other) e = ap (takes_at x.tables (ask_frame a)) (inward-located rows x.name x.tables r good n other (ByWire w) e (wire_carrier (segment rows n) w f) (wire_self w)) ∙ ap is_some (neighbour-located rows x.name x.tables r good n other e (destination a.ends) ∙ ap (λ o. option_map (row_at other (destination a.ends)) (joined_with rows x.name o)) none)
 
   pub wire_far : (s : Segment) (w : Wire) → wire_of s ≡ Some w → is_local s ≡ false
   wire_far Local w e = cc
@@ -90,38 +91,38 @@ module _ (rows : RowLists) (hosts : List Host) (good : FrameFacts rows) (synced 
   wire_far (Vlan p t) w e = refl
   wire_far (Vxlan m) w e = refl
 
-  nobody-asked : (w : Wire) → wire_of (segment rows n) ≡ Some w → (o : Option PortRow) → holder rows n (V4 a.to) ≡ o → joined_with rows h.name o ≡ None → o ≡ None
+  nobody-asked : (w : Wire) → wire_of (segment rows n) ≡ Some w → (o : Option PortRow) → holder rows n (destination a.ends) ≡ o → joined_with rows h.name o ≡ None → o ≡ None
   nobody-asked w f None e j = refl
   nobody-asked w f (Some q) e j =
-      let at = holder-at rows good n (V4 a.to) q e in
+      let at = holder-at rows good n (destination a.ends) q e in
       let hit = find-passes (has_mac rows n q.mac) rows.ports q at in
       let same : n ≡ q.network = ident_same n q.network (and_parts (ident_eq n q.network) (q.mac == q.mac) (and_parts (ident_eq n q.network && (q.mac == q.mac)) (is_live rows q) hit).0).0 in
       let joined : is_joined rows q h.name ≡ true = ap (λ i. not (is_local (segment rows i)) || bytes_eq q.host h.name) (sym same) ∙ ap (λ b. not b || bytes_eq q.host h.name) (wire_far (segment rows n) w f) in
       let bad : Some q ≡ None = sym (ap (λ b. if b then Some q else None) joined) ∙ j in
       cc
 
-  step-is : (o : Option PortRow) → joined_with rows h.name (holder rows n (V4 a.to)) ≡ o → bridge_step h.tables false tag (arp_frame a) ≡ arp_by false (record { network = n; tag = tag; wire = wire_of (segment rows n) }) a (option_map (row_at tag (V4 a.to)) o)
-  step-is o e = ap (bridge_at_tag h.tables false (arp_frame a)) (tag-row rows h.name h.tables.tags real.tags n tag is_tagged) ∙ ap (arp_by false (record { network = n; tag = tag; wire = wire_of (segment rows n) }) a) (neighbour-located rows h.name h.tables real good n tag is_tagged (V4 a.to) ∙ ap (option_map (row_at tag (V4 a.to))) e)
+  step-is : (o : Option PortRow) → joined_with rows h.name (holder rows n (destination a.ends)) ≡ o → bridge_step h.tables false tag (ask_frame a) ≡ asked_at false (record { network = n; tag = tag; wire = wire_of (segment rows n) }) a (option_map (row_at tag (destination a.ends)) o)
+  step-is o e = ap (bridge_at_tag h.tables false (ask_frame a)) (tag-row rows h.name h.tables.tags real.tags n tag is_tagged) ∙ ap (asked_at false (record { network = n; tag = tag; wire = wire_of (segment rows n) }) a) (neighbour-located rows h.name h.tables real good n tag is_tagged (destination a.ends) ∙ ap (option_map (row_at tag (destination a.ends))) e)
 
-  by-step : (s : Step) → bridge_step h.tables false tag (arp_frame a) ≡ s → meant (walk hosts steps h (Bridge tag (arp_frame a)) run) ≡ meant (moved hosts (walk hosts (steps - 1)) h (after_step h (Bridge tag (arp_frame a)) (plain s) run) s)
-  by-step s e = ap meant (walk-on hosts steps h (Bridge tag (arp_frame a)) run enough) ∙ ap (λ x. meant (moved hosts (walk hosts (steps - 1)) h (after_step h (Bridge tag (arp_frame a)) (plain x) run) x)) e
+  by-step : (s : Step) → bridge_step h.tables false tag (ask_frame a) ≡ s → meant (walk hosts steps h (Bridge tag (ask_frame a)) run) ≡ meant (moved hosts (walk hosts (steps - 1)) h (after_step h (Bridge tag (ask_frame a)) (plain s) run) s)
+  by-step s e = ap meant (walk-on hosts steps h (Bridge tag (ask_frame a)) run enough) ∙ ap (λ x. meant (moved hosts (walk hosts (steps - 1)) h (after_step h (Bridge tag (ask_frame a)) (plain x) run) x)) e
 
-  pub arp-law : meant (walk hosts steps h (Bridge tag (arp_frame a)) run) ≡ ended (trace_of run) (asked rows n h.name a)
-  arp-law = go (joined_with rows h.name (holder rows n (V4 a.to))) refl (wire_of (segment rows n)) refl
+  pub arp-law : meant (walk hosts steps h (Bridge tag (ask_frame a)) run) ≡ ended (trace_of run) (asked rows n h.name a)
+  arp-law = go (joined_with rows h.name (holder rows n (destination a.ends))) refl (wire_of (segment rows n)) refl
     where
-      go : (o : Option PortRow) → joined_with rows h.name (holder rows n (V4 a.to)) ≡ o → (w : Option Wire) → wire_of (segment rows n) ≡ w → meant (walk hosts steps h (Bridge tag (arp_frame a)) run) ≡ ended (trace_of run) (asked rows n h.name a)
+      go : (o : Option PortRow) → joined_with rows h.name (holder rows n (destination a.ends)) ≡ o → (w : Option Wire) → wire_of (segment rows n) ≡ w → meant (walk hosts steps h (Bridge tag (ask_frame a)) run) ≡ ended (trace_of run) (asked rows n h.name a)
       go (Some q) e w f =
-          by-step (stops (Answered (ArpAnswer (V4 a.to) q.mac))) (step-is (Some q) e)
-          ∙ ap (λ t. ended t (Answered (ArpAnswer (V4 a.to) q.mac))) (trace-plain h (Bridge tag (arp_frame a)) (stops (Answered (ArpAnswer (V4 a.to) q.mac))) run refl)
+          by-step (stops (Answered (ArpAnswer (destination a.ends) q.mac))) (step-is (Some q) e)
+          ∙ ap (λ t. ended t (Answered (ArpAnswer (destination a.ends) q.mac))) (trace-plain h (Bridge tag (ask_frame a)) (stops (Answered (ArpAnswer (destination a.ends) q.mac))) run refl)
           ∙ sym (ap (λ o. ended (trace_of run) (asked_by rows n a o)) e)
       go None e None f =
-          by-step (drops NoHolder) (step-is None e ∙ ap (λ w. wire_or false n w (TowardAddress (V4 a.to)) (arp_frame a) NoHolder) f)
-          ∙ ap (λ t. ended t (Dropped NoHolder)) (trace-plain h (Bridge tag (arp_frame a)) (drops NoHolder) run refl)
-          ∙ sym (ap (λ o. ended (trace_of run) (asked_by rows n a o)) e ∙ ap (λ w. ended (trace_of run) (out_or w n (TowardAddress (V4 a.to)) (arp_frame a) NoHolder)) f)
+          by-step (drops NoHolder) (step-is None e ∙ ap (λ w. wire_or false n w (TowardAddress (destination a.ends)) (ask_frame a) NoHolder) f)
+          ∙ ap (λ t. ended t (Dropped NoHolder)) (trace-plain h (Bridge tag (ask_frame a)) (drops NoHolder) run refl)
+          ∙ sym (ap (λ o. ended (trace_of run) (asked_by rows n a o)) e ∙ ap (λ w. ended (trace_of run) (out_or w n (TowardAddress (destination a.ends)) (ask_frame a) NoHolder)) f)
       go None e (Some w) f =
-          let none = nobody-asked w f (holder rows n (V4 a.to)) refl e in
-          let nobody = find-none_each (λ (x : Host). not (bytes_eq x.name h.name) && takes w (arp_frame a) x) hosts (AllOf-more (λ (y : Host). HostFacts rows y.name y.tables) (λ (x : Host). (not (bytes_eq x.name h.name) && takes w (arp_frame a) x) ≡ false) hosts (λ x r. and_right (not (bytes_eq x.name h.name)) (takes w (arp_frame a) x) (no-taker w f none x r)) synced.realise) in
-          by-step (ToWire w n (TowardAddress (V4 a.to)) (arp_frame a)) (step-is None e ∙ ap (λ w. wire_or false n w (TowardAddress (V4 a.to)) (arp_frame a) NoHolder) f)
-          ∙ ap (λ o. meant (wired (walk hosts (steps - 1)) w n (TowardAddress (V4 a.to)) (arp_frame a) (after_step h (Bridge tag (arp_frame a)) (plain (ToWire w n (TowardAddress (V4 a.to)) (arp_frame a))) run) o)) nobody
-          ∙ ap (λ t. ended t (Out n (TowardAddress (V4 a.to)) (arp_frame a))) (trace-plain h (Bridge tag (arp_frame a)) (ToWire w n (TowardAddress (V4 a.to)) (arp_frame a)) run refl)
-          ∙ sym (ap (λ o. ended (trace_of run) (asked_by rows n a o)) e ∙ ap (λ w. ended (trace_of run) (out_or w n (TowardAddress (V4 a.to)) (arp_frame a) NoHolder)) f)
+          let none = nobody-asked w f (holder rows n (destination a.ends)) refl e in
+          let nobody = find-none_each (λ (x : Host). not (bytes_eq x.name h.name) && takes w (ask_frame a) x) hosts (AllOf-more (λ (y : Host). HostFacts rows y.name y.tables) (λ (x : Host). (not (bytes_eq x.name h.name) && takes w (ask_frame a) x) ≡ false) hosts (λ x r. and_right (not (bytes_eq x.name h.name)) (takes w (ask_frame a) x) (no-taker w f none x r)) synced.realise) in
+          by-step (ToWire w n (TowardAddress (destination a.ends)) (ask_frame a)) (step-is None e ∙ ap (λ w. wire_or false n w (TowardAddress (destination a.ends)) (ask_frame a) NoHolder) f)
+          ∙ ap (λ o. meant (wired (walk hosts (steps - 1)) w n (TowardAddress (destination a.ends)) (ask_frame a) (after_step h (Bridge tag (ask_frame a)) (plain (ToWire w n (TowardAddress (destination a.ends)) (ask_frame a))) run) o)) nobody
+          ∙ ap (λ t. ended t (Out n (TowardAddress (destination a.ends)) (ask_frame a))) (trace-plain h (Bridge tag (ask_frame a)) (ToWire w n (TowardAddress (destination a.ends)) (ask_frame a)) run refl)
+          ∙ sym (ap (λ o. ended (trace_of run) (asked_by rows n a o)) e ∙ ap (λ w. ended (trace_of run) (out_or w n (TowardAddress (destination a.ends)) (ask_frame a) NoHolder)) f)

@@ -4,7 +4,6 @@ use Rattle.std.specs.Prelude.{length, find, if◌then◌else◌}
 use Rattle.std.proofs.lemmas.List.{length-append}
 use Rattle.plane_laws.proofs.RouterTables.{Lives, routed-lives}
 use Rattle.plane_laws.proofs.MadeLaw.{GivesRouted, routed-gives, gives-one, passage-one}
-use Rattle.net_addr.specs.declared.address.Addr.TheVariants.{V4}
 use Rattle.api_types.specs.Ident.{Ident}
 use Rattle.api_types.specs.Owners.{is_router_port}
 use Rattle.api_types.specs.RowLists.{RowLists}
@@ -13,6 +12,7 @@ use Rattle.api_types.specs.declared.group.Direction.TheVariants.{Egress, Ingress
 use Rattle.api_types.specs.declared.network.NetworkRow.{NetworkRow}
 use Rattle.api_types.specs.declared.port.PortRow.{PortRow}
 use Rattle.api_types.specs.declared.router.RouterRow.{RouterRow}
+use Rattle.plane_types.specs.Ends.{destination}
 use Rattle.plane_types.specs.Filter.{rules_allow}
 use Rattle.plane_types.specs.Guard.{passes_guard}
 use Rattle.api_types.specs.Holders.{dhcp_port, holder, port_at, router_of}
@@ -29,7 +29,7 @@ use Rattle.plane_types.specs.declared.entry.Entry.{Entry}
 use Rattle.plane_types.specs.declared.event.Event.{Event}
 use Rattle.plane_types.specs.declared.event.Event.TheVariants.{FromPort, FromWire}
 use Rattle.plane_types.specs.declared.frame.Frame.{Frame}
-use Rattle.plane_types.specs.declared.frame.Frame.TheVariants.{ArpAsk, Dhcp, Ip4, Other}
+use Rattle.plane_types.specs.declared.frame.Frame.TheVariants.{Dhcp, Ip, NeighbourAsk, Other}
 use Rattle.plane_types.specs.declared.verdict.DropCause.TheVariants.{Dead, Egress as EgressFilter, Ingress as IngressFilter, Spoof, Unknown, Unsupported}
 use Rattle.plane_types.specs.declared.verdict.Outcome.{Outcome}
 use Rattle.plane_types.specs.declared.verdict.Outcome.TheVariants.{Delivered, Dropped}
@@ -113,16 +113,16 @@ module _ (rows : RowLists) (entries : List Entry) where
       go (Some q) = let w = got-within many q x (record { path = p.network ∷ []; fresh = made }) in (omega (arith, w.path, fits), omega (arith, w.fresh, one, fits))
 
   sender-small : (p : PortRow) (frame : Frame) → life_of frame ≤ 256 → Small (from_sender rows entries (life_of frame) p (record { path = p.network ∷ []; fresh = [] }) frame)
-  sender-small p (Ip4 src dst from to ttl part) fits =
-      go (rows_passage rows (entries ++ []) p Egress (packet src dst from to ttl part)) (passage-one p.secured (rules_allow rows p) (entries ++ []) p.id Egress (key_of (packet src dst from to ttl part)))
+  sender-small p (Ip src dst ends ttl part) fits =
+      go (rows_passage rows (entries ++ []) p Egress (packet src dst ends ttl part)) (passage-one p.secured (rules_allow rows p) (entries ++ []) p.id Egress (key_of (packet src dst ends ttl part)))
     where
-      by : (made : List Entry) (b : Bool) → length made ≤ 1 → Small (if b then sent_on rows (got rows entries (suc ttl)) p.network p.host (packet src dst from to ttl part) (record { path = p.network ∷ []; fresh = made }) else dropped (record { path = p.network ∷ []; fresh = [] }) EgressFilter)
-      by made true one = sends-small p (suc ttl) made one (packet src dst from to ttl part) (omega (arith, fits))
+      by : (made : List Entry) (b : Bool) → length made ≤ 1 → Small (if b then sent_on rows (got rows entries (suc ttl)) p.network p.host (packet src dst ends ttl part) (record { path = p.network ∷ []; fresh = made }) else dropped (record { path = p.network ∷ []; fresh = [] }) EgressFilter)
+      by made true one = sends-small p (suc ttl) made one (packet src dst ends ttl part) (omega (arith, fits))
       by made false one = small-at p.network (Dropped EgressFilter)
 
-      go : (y : Passage) → length y.made ≤ 1 → Small (sent_out rows (got rows entries (suc ttl)) p (packet src dst from to ttl part) (record { path = p.network ∷ []; fresh = [] }) y)
+      go : (y : Passage) → length y.made ≤ 1 → Small (sent_out rows (got rows entries (suc ttl)) p (packet src dst ends ttl part) (record { path = p.network ∷ []; fresh = [] }) y)
       go y one = by y.made y.passes one
-  sender-small p (ArpAsk src from to) fits = small-at p.network (asked rows p.network p.host (address_ask src from to))
+  sender-small p (NeighbourAsk src ends) fits = small-at p.network (asked rows p.network p.host (address_ask src ends))
   sender-small p (Dhcp src from) fits = small-at p.network (lease_asked rows p.network p.host (lease_ask src from))
   sender-small p (Other src dst ethertype) fits = small-at p.network (Dropped Unsupported)
 
@@ -141,14 +141,14 @@ module _ (rows : RowLists) (entries : List Entry) where
 
   wire-small : (frame : Frame) → life_of frame ≤ 256 → (o : Option NetworkRow) → Small (from_wire rows entries (life_of frame) frame o)
   wire-small frame fits None = nothing-small (Dropped Unknown)
-  wire-small (Ip4 src dst from to ttl part) fits (Some n) = go (port_at rows n.id dst)
+  wire-small (Ip src dst ends ttl part) fits (Some n) = go (port_at rows n.id dst)
     where
-      go : (o : Option PortRow) → Small (wire_packet rows entries (suc ttl) n (packet src dst from to ttl part) o)
+      go : (o : Option PortRow) → Small (wire_packet rows entries (suc ttl) n (packet src dst ends ttl part) o)
       go None = nothing-small (Dropped Unknown)
-      go (Some q) = let w = got-within (suc ttl) q (packet src dst from to ttl part) (on_path n) in (omega (arith, w.path, fits), omega (arith, w.fresh, fits))
-  wire-small (ArpAsk src from to) fits (Some n) = go (holder rows n.id (V4 to))
+      go (Some q) = let w = got-within (suc ttl) q (packet src dst ends ttl part) (on_path n) in (omega (arith, w.path, fits), omega (arith, w.fresh, fits))
+  wire-small (NeighbourAsk src ends) fits (Some n) = go (holder rows n.id (destination ends))
     where
-      go : (o : Option PortRow) → Small (wire_ask n (address_ask src from to) o)
+      go : (o : Option PortRow) → Small (wire_ask n (address_ask src ends) o)
       go None = nothing-small (Dropped Unknown)
       go (Some q) = (omega arith, omega arith)
   wire-small (Dhcp src from) fits (Some n) = go (dhcp_port rows n.id)

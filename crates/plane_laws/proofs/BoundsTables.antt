@@ -6,22 +6,22 @@ use Rattle.std.proofs.lemmas.List.{length-append}
 use Rattle.plane_laws.proofs.RouterTables.{Lives, routed-lives}
 use Rattle.plane_laws.proofs.MadeLaw.{of_step, step-admits, admits-one}
 use Rattle.net_addr.specs.declared.address.Addr.{Addr}
-use Rattle.net_addr.specs.declared.address.Addr.TheVariants.{V4}
 use Rattle.api_types.specs.Ident.{Ident}
 use Rattle.api_types.specs.declared.group.Direction.TheVariants.{Egress, Ingress}
+use Rattle.plane_types.specs.Ends.{destination}
 use Rattle.plane_types.specs.Fabric.{FabricFate, Run, after_step, at_inward, at_tap, begun, fabric_fate, finished, from_outside, from_tap, moved, network_at, outside, path_at, step_path, steps_for, taken, takes, tunnelled, walk, wired}
 use Rattle.plane_types.specs.Hosts.{Host, is_named}
 use Rattle.plane_types.specs.Meaning.{life_of}
 use Rattle.plane_types.specs.Packets.{Packet, address_ask, ip_frame, is_unsupported, packet}
 use Rattle.plane_types.specs.Places.{Bridge, DhcpIn, End, Next, Place, RouterIn, Step, TapIn, TapOut, ToTunnel, ToWire, TunnelIn, WireIn}
 use Rattle.plane_types.specs.Routing.{RouteEnds, RouteSends, Routed, routed}
-use Rattle.plane_types.specs.TableStep.{Stepped, arp_by, bridge_at, bridge_at_tag, bridge_step, bridged_by, drops, inward_at, inward_step, lease_answer, lease_at, led, leg_at, neighbour_at, plain, router_at, router_by_leg, router_by_row, sent_at, sent_by, source_of, stops, table_routed, table_step, table_view, tag_row, tagged_leg, tap_at, tap_guards, tap_in, tap_out, tap_passage, tap_sends, unheld, wire_or}
+use Rattle.plane_types.specs.TableStep.{Stepped, asked_at, bridge_at, bridge_at_tag, bridge_step, bridged_by, drops, inward_at, inward_step, lease_answer, lease_at, led, leg_at, neighbour_at, plain, router_at, router_by_leg, router_by_row, sent_at, sent_by, source_of, stops, table_routed, table_step, table_view, tag_row, tagged_leg, tap_at, tap_guards, tap_in, tap_out, tap_passage, tap_sends, unheld, wire_or}
 use Rattle.plane_types.specs.Told.{fabric_verdict, told_fresh}
 use Rattle.plane_types.specs.declared.entry.Entry.{Entry}
 use Rattle.plane_types.specs.declared.event.Event.{Event}
 use Rattle.plane_types.specs.declared.event.Event.TheVariants.{FromPort, FromWire}
 use Rattle.plane_types.specs.declared.frame.Frame.{Frame}
-use Rattle.plane_types.specs.declared.frame.Frame.TheVariants.{ArpAsk, Dhcp, Ip4, Other}
+use Rattle.plane_types.specs.declared.frame.Frame.TheVariants.{Dhcp, Ip, NeighbourAsk, Other}
 use Rattle.plane_types.specs.declared.table.BridgeKey.TheVariants.{Dhcp as AtDhcp, Mac as AtMac}
 use Rattle.plane_types.specs.declared.table.BridgeRow.{BridgeRow}
 use Rattle.plane_types.specs.declared.table.BridgeTo.{BridgeTo}
@@ -45,8 +45,8 @@ use Rattle.plane_types.specs.declared.verdict.Toward.TheVariants.{Address as Tow
 use Rattle.plane_laws.specs.Bounds.{HasEightBits, IsBounded}
 
 abbrev ttl_of : Frame → ℕ
-ttl_of (Ip4 src dst from to ttl part) = ttl
-ttl_of (ArpAsk src from to) = 0
+ttl_of (Ip src dst ends ttl part) = ttl
+ttl_of (NeighbourAsk src ends) = 0
 ttl_of (Dhcp src from) = 0
 ttl_of (Other src dst ethertype) = 0
 
@@ -105,12 +105,12 @@ module _ (t : HostTables) (inner : Bool) where
       go false (Some x) = (omega arith, omega arith)
 
   led-carries : (b : Bool) (tag : ℕ) (f : Frame) (to : BridgeTo) → Carries f (led b tag f to)
-  led-carries b tag (Ip4 src dst from to ttl part) (ToTap port) = (omega arith, omega arith)
-  led-carries b tag (ArpAsk src from to) (ToTap port) = (omega arith, omega arith)
+  led-carries b tag (Ip src dst ends ttl part) (ToTap port) = (omega arith, omega arith)
+  led-carries b tag (NeighbourAsk src ends) (ToTap port) = (omega arith, omega arith)
   led-carries b tag (Dhcp src from) (ToTap port) = (omega arith, omega arith)
   led-carries b tag (Other src dst ethertype) (ToTap port) = (omega arith, omega arith)
-  led-carries b tag (Ip4 src dst from to ttl part) (ToRouter router port) = (omega arith, omega arith)
-  led-carries b tag (ArpAsk src from to) (ToRouter router port) = tt
+  led-carries b tag (Ip src dst ends ttl part) (ToRouter router port) = (omega arith, omega arith)
+  led-carries b tag (NeighbourAsk src ends) (ToRouter router port) = tt
   led-carries b tag (Dhcp src from) (ToRouter router port) = tt
   led-carries b tag (Other src dst ethertype) (ToRouter router port) = tt
   led-carries true tag f (ToHost host number) = tt
@@ -122,12 +122,12 @@ module _ (t : HostTables) (inner : Bool) where
 
   bridge-carries : (f : Frame) (o : Option TagRow) → Carries f (bridge_at_tag t inner f o)
   bridge-carries f None = tt
-  bridge-carries (Ip4 src dst from to ttl part) (Some row) = bridged-carries row (TowardMac dst) (Ip4 src dst from to ttl part) Unknown (bridge_at t row.tag (AtMac dst))
-  bridge-carries (ArpAsk src from to) (Some row) = go (neighbour_at t row.tag (V4 to))
+  bridge-carries (Ip src dst ends ttl part) (Some row) = bridged-carries row (TowardMac dst) (Ip src dst ends ttl part) Unknown (bridge_at t row.tag (AtMac dst))
+  bridge-carries (NeighbourAsk src ends) (Some row) = go (neighbour_at t row.tag (destination ends))
     where
-      go : (o : Option NeighbourRow) → Carries (ArpAsk src from to) (arp_by inner row (address_ask src from to) o)
+      go : (o : Option NeighbourRow) → Carries (NeighbourAsk src ends) (asked_at inner row (address_ask src ends) o)
       go (Some r) = tt
-      go None = wire-carries row.network row.wire (TowardAddress (V4 to)) (ArpAsk src from to) NoHolder
+      go None = wire-carries row.network row.wire (TowardAddress (destination ends)) (NeighbourAsk src ends) NoHolder
   bridge-carries (Dhcp src from) (Some row) = bridged-carries row TowardDhcp (Dhcp src from) NoLease (bridge_at t row.tag AtDhcp)
   bridge-carries (Other src dst ethertype) (Some row) = wire-carries row.network row.wire (TowardMac dst) (Other src dst ethertype) Unknown
 
@@ -148,13 +148,13 @@ module _ (h : Host) (entries : List Entry) where
 
   -- from a tap the frame goes on as it is
   sends-fine : (port : Ident) (frame : Frame) (tap : TapRow) → length (tap_sends h.tables entries tap frame).made ≤ 1 → FineStep (TapIn port frame) (tap_sends h.tables entries tap frame)
-  sends-fine port (Ip4 src dst from to ttl part) tap one = go (tap_passage h.tables entries tap Egress (packet src dst from to ttl part)).passes (tap_passage h.tables entries tap Egress (packet src dst from to ttl part)).made one
+  sends-fine port (Ip src dst ends ttl part) tap one = go (tap_passage h.tables entries tap Egress (packet src dst ends ttl part)).passes (tap_passage h.tables entries tap Egress (packet src dst ends ttl part)).made one
     where
-      go : (b : Bool) (made : List Entry) → length (of_step (if b then record { step = Next (Bridge tap.tag (Ip4 src dst from to ttl part)); made = made } else plain (drops EgressFilter))) ≤ 1
-          → FineStep (TapIn port (Ip4 src dst from to ttl part)) (if b then record { step = Next (Bridge tap.tag (Ip4 src dst from to ttl part)); made = made } else plain (drops EgressFilter))
+      go : (b : Bool) (made : List Entry) → length (of_step (if b then record { step = Next (Bridge tap.tag (Ip src dst ends ttl part)); made = made } else plain (drops EgressFilter))) ≤ 1
+          → FineStep (TapIn port (Ip src dst ends ttl part)) (if b then record { step = Next (Bridge tap.tag (Ip src dst ends ttl part)); made = made } else plain (drops EgressFilter))
       go true made k = (omega arith, omega (arith, k))
       go false made k = (omega arith, omega arith)
-  sends-fine port (ArpAsk src from to) tap one = (omega arith, omega arith)
+  sends-fine port (NeighbourAsk src ends) tap one = (omega arith, omega arith)
   sends-fine port (Dhcp src from) tap one = (omega arith, omega arith)
   sends-fine port (Other src dst ethertype) tap one = (omega arith, omega arith)
 
@@ -170,13 +170,13 @@ module _ (h : Host) (entries : List Entry) where
 
   tap-out-fine : (port : Ident) (frame : Frame) (o : Option TapRow) → length (tap_out h.tables entries frame o).made ≤ 1 → FineStep (TapOut port frame) (tap_out h.tables entries frame o)
   tap-out-fine port frame None one = (omega arith, omega arith)
-  tap-out-fine port (Ip4 src dst from to ttl part) (Some tap) one = go (tap_passage h.tables entries tap Ingress (packet src dst from to ttl part)).passes (tap_passage h.tables entries tap Ingress (packet src dst from to ttl part)).made one
+  tap-out-fine port (Ip src dst ends ttl part) (Some tap) one = go (tap_passage h.tables entries tap Ingress (packet src dst ends ttl part)).passes (tap_passage h.tables entries tap Ingress (packet src dst ends ttl part)).made one
     where
-      go : (b : Bool) (made : List Entry) → length (of_step (if b then record { step = stops (Delivered tap.port (Ip4 src dst from to ttl part)); made = made } else plain (drops IngressFilter))) ≤ 1
-          → FineStep (TapOut port (Ip4 src dst from to ttl part)) (if b then record { step = stops (Delivered tap.port (Ip4 src dst from to ttl part)); made = made } else plain (drops IngressFilter))
+      go : (b : Bool) (made : List Entry) → length (of_step (if b then record { step = stops (Delivered tap.port (Ip src dst ends ttl part)); made = made } else plain (drops IngressFilter))) ≤ 1
+          → FineStep (TapOut port (Ip src dst ends ttl part)) (if b then record { step = stops (Delivered tap.port (Ip src dst ends ttl part)); made = made } else plain (drops IngressFilter))
       go true made k = (omega arith, omega (arith, k))
       go false made k = (omega arith, omega arith)
-  tap-out-fine port (ArpAsk src from to) (Some tap) one = (omega arith, omega arith)
+  tap-out-fine port (NeighbourAsk src ends) (Some tap) one = (omega arith, omega arith)
   tap-out-fine port (Dhcp src from) (Some tap) one = (omega arith, omega arith)
   tap-out-fine port (Other src dst ethertype) (Some tap) one = (omega arith, omega arith)
 
@@ -221,8 +221,8 @@ module _ (h : Host) (entries : List Entry) where
   step-fine (Bridge tag frame) = quiet-fine h (Bridge tag frame) (λ s. refl) (bridge_step h.tables false tag frame) (bridge-carries h.tables false frame (tag_row h.tables tag))
   step-fine (TunnelIn number frame) = quiet-fine h (TunnelIn number frame) (λ s. refl) (inward_step h.tables frame (inward_at h.tables (ByTunnel number))) (inward-carries h.tables frame (inward_at h.tables (ByTunnel number)))
   step-fine (WireIn wire frame) = quiet-fine h (WireIn wire frame) (λ s. refl) (inward_step h.tables frame (inward_at h.tables (ByWire wire))) (inward-carries h.tables frame (inward_at h.tables (ByWire wire)))
-  step-fine (RouterIn port router (Ip4 src dst from to ttl part)) = router-fine port router (Ip4 src dst from to ttl part) (packet src dst from to ttl part) refl (router_at h.tables router) (admits-one h.tables entries (table_step h.tables entries (RouterIn port router (Ip4 src dst from to ttl part))).made (step-admits h.tables entries (RouterIn port router (Ip4 src dst from to ttl part))))
-  step-fine (RouterIn port router (ArpAsk src from to)) = (omega arith, omega arith)
+  step-fine (RouterIn port router (Ip src dst ends ttl part)) = router-fine port router (Ip src dst ends ttl part) (packet src dst ends ttl part) refl (router_at h.tables router) (admits-one h.tables entries (table_step h.tables entries (RouterIn port router (Ip src dst ends ttl part))).made (step-admits h.tables entries (RouterIn port router (Ip src dst ends ttl part))))
+  step-fine (RouterIn port router (NeighbourAsk src ends)) = (omega arith, omega arith)
   step-fine (RouterIn port router (Dhcp src from)) = (omega arith, omega arith)
   step-fine (RouterIn port router (Other src dst ethertype)) = (omega arith, omega arith)
   step-fine (DhcpIn tag frame) = lease-fine tag frame (lease_at h.tables tag (source_of frame))
@@ -263,8 +263,8 @@ module _ (hosts : List Host) where
           by (ToWire w n t g) f path fresh e = wire w n t g (after_step h place s run) (length (step_path h place (ToWire w n t g))) (length s.made) (path ∙ ap (λ x. length run.path + length (step_path h place x)) e) fresh f.0 f.1 (find (λ (x : Host). not (bytes_eq x.name h.name) && takes w g x) hosts)
 
   fits-ttl : (frame : Frame) → life_of frame ≤ 256 → ttl_of frame ≤ 255
-  fits-ttl (Ip4 src dst from to ttl part) fits = omega (arith, fits)
-  fits-ttl (ArpAsk src from to) fits = omega arith
+  fits-ttl (Ip src dst ends ttl part) fits = omega (arith, fits)
+  fits-ttl (NeighbourAsk src ends) fits = omega arith
   fits-ttl (Dhcp src from) fits = omega arith
   fits-ttl (Other src dst ethertype) fits = omega arith
 

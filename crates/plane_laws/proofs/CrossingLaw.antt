@@ -1,8 +1,7 @@
 -- Every path of the rows' verdict crosses at routers alone.
 use Rattle.std.proofs.Common.{◌≡◌, ℕ, zero, suc, List, [], ◌∷◌, ◌++◌, Bool, true, false, Option, Some, None, refl, ap, sym, subst, ◌∙◌, append_assoc}
-use Rattle.std.specs.Prelude.{find, ◌&&◌, ◌==◌, if◌then◌else◌}
+use Rattle.std.specs.Prelude.{find, is_some, ◌&&◌, ◌==◌, if◌then◌else◌}
 use Rattle.std.proofs.lemmas.Bool.{and_parts, and_from}
-use Rattle.std.proofs.lemmas.Option.{same_Some}
 use Rattle.std.proofs.lemmas.List.{append-nil}
 use Rattle.api_types.proofs.NameLemmas.{ident_same, ident_itself}
 use Rattle.plane_laws.proofs.ListLemmas.{find-passes, find-only, list_any-found}
@@ -15,11 +14,13 @@ use Rattle.api_types.specs.Owners.{device_is, is_router_port}
 use Rattle.api_types.specs.RowLists.{RowLists}
 use Rattle.api_types.specs.Table.{ident_eq, row_of}
 use Rattle.api_types.specs.declared.group.Direction.TheVariants.{Ingress}
+use Rattle.api_types.specs.declared.network.NetworkRow.{NetworkRow}
 use Rattle.api_types.specs.declared.port.PortRow.{PortRow}
 use Rattle.api_types.specs.declared.router.RouterRow.{RouterRow}
-use Rattle.plane_types.specs.Crossing.{CrossesFrom, EndsOn, PathCrosses, joins_networks, last_from, leg_on, not_delivered}
+use Rattle.plane_types.specs.Crossing.{CrossesFrom, EndsOn, PathCrosses, is_network, is_on, joins_networks, last_from, leg_on, not_delivered}
 use Rattle.api_types.specs.Holders.{has_mac, holder, router_named, router_of}
-use Rattle.api_types.specs.Live.{is_live, joined_with, segment}
+use Rattle.api_types.specs.Consistent.Carried.{is_bound}
+use Rattle.api_types.specs.Live.{is_live, joined_with, network_of, network_up, segment}
 use Rattle.api_types.specs.Wires.{wire_of}
 use Rattle.plane_types.specs.Meaning.{Fate, Trace, at_router, delivered_by, ended, got, handed, handed_out, handed_to, out_or, received, rows_passage, with_fresh, with_path}
 use Rattle.plane_types.specs.Packets.{Packet, ip_frame}
@@ -36,6 +37,15 @@ use Rattle.plane_laws.proofs.Facts.{FrameFacts, has_id}
 
 abbrev pub FateCrosses : RowLists → Fate → Type 0
 FateCrosses rows v = PathCrosses rows v.path v.outcome
+
+-- a live port's network is there
+pub live-network : (rows : RowLists) (p : PortRow) → is_live rows p ≡ true → is_network rows p.network ≡ true
+unfolding is_live
+live-network rows p live = go (network_of rows p.network) (and_parts (p.up && is_bound p.vif) (network_up (network_of rows p.network)) live).1
+  where
+    go : (o : Option NetworkRow) → network_up o ≡ true → is_some o ≡ true
+    go None e = cc
+    go (Some n) e = refl
 
 -- what is added to the path from a network on
 pub record Goes (rows : RowLists) (n : Ident) (t : Trace) (v : Fate) : Type 0 where
@@ -59,8 +69,8 @@ module _ (rows : RowLists) (good : FrameFacts rows) (entries : List Entry) where
     arrives : (p : Packet) (t : Trace) → Goes rows q.network t (received rows entries q p t)
     arrives p t = go (rows_passage rows (entries ++ t.fresh) q Ingress p)
       where
-        is : (x : PortRow) → row_of (λ (z : PortRow). z.id) q.id rows.ports ≡ Some x → q.network ≡ x.network
-        is x e = ap (λ (z : PortRow). z.network) (same_Some q x (sym (find-only test (has_id q.id) rows.ports q (good.port_ids q.id) found (ident_itself q.id)) ∙ e))
+        is : is_on q.network (row_of (λ (z : PortRow). z.id) q.id rows.ports) ≡ true
+        is = ap (is_on q.network) (find-only test (has_id q.id) rows.ports q (good.port_ids q.id) found (ident_itself q.id)) ∙ ident_itself q.network
 
         by : (b : Bool) (made : List Entry) → Goes rows q.network t (if b then ended (with_fresh t made) (Delivered q.id (ip_frame p)) else ended t (Dropped IngressFilter))
         by true made = record { added = []; path = sym (append-nil t.path); crosses = tt; on = is }
@@ -87,6 +97,9 @@ module _ (rows : RowLists) (good : FrameFacts rows) (entries : List Entry) where
             is_leg : is_leg_of rows r o ≡ true
             is_leg = passes-filter (has_id port) (is_leg_of rows r) rows.ports o leg
 
+            live_too : is_live rows o ≡ true
+            live_too = (and_parts (is_router_port o.owner && device_is o.device r.id) (is_live rows o) is_leg).1
+
             by_id : find (has_id o.id) rows.ports ≡ Some o
             by_id = from-filter (has_id port) (is_leg_of rows r) (has_id o.id) rows.ports o leg (ident_itself o.id) (good.port_ids o.id)
 
@@ -94,7 +107,8 @@ module _ (rows : RowLists) (good : FrameFacts rows) (entries : List Entry) where
             second = list_any-found (has_id o.id) (λ (p : PortRow). is_leg_of rows r p && ident_eq o.network p.network) rows.ports o by_id (and_from (is_leg_of rows r o) (ident_eq o.network o.network) is_leg (ident_itself o.network))
 
             crossing : joins_networks rows q.network o.network (router_named rows r.id) ≡ true
-            crossing = ap (joins_networks rows q.network o.network) named ∙ and_from (leg_on rows r q.network) (leg_on rows r o.network) first second
+            crossing = ap (joins_networks rows q.network o.network) named ∙ and_from (leg_on rows r q.network && leg_on rows r o.network) (is_network rows o.network)
+                (and_from (leg_on rows r q.network) (leg_on rows r o.network) first second) (live-network rows o live_too)
 
             out : (w : Option Wire) → not_delivered (out_or w o.network (TowardAddress hop) (ip_frame (record p { dst = 0 })) NoHolder) ≡ true
             out None = refl

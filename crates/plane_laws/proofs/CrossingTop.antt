@@ -1,14 +1,13 @@
 -- The rows' verdict on any event crosses at routers alone, and delivers on its path's last network.
-use Rattle.std.proofs.Common.{◌≡◌, ℕ, List, [], ◌∷◌, ◌++◌, Bool, true, false, not, Option, Some, None, refl, sym, subst}
-use Rattle.std.specs.Prelude.{◌<◌, ◌^◌, length, option_and_then, ◌&&◌, ◌==◌, if◌then◌else◌}
+use Rattle.std.proofs.Common.{◌≡◌, ℕ, List, [], ◌∷◌, ◌++◌, Bool, true, false, not, Option, Some, None, refl, ap, sym, subst}
+use Rattle.std.specs.Prelude.{is_some, ◌<◌, ◌^◌, length, option_and_then, ◌&&◌, ◌==◌, if◌then◌else◌}
 use Rattle.std.proofs.lemmas.Bool.{and_parts}
-use Rattle.api_types.proofs.NameLemmas.{ident_same}
-use Rattle.plane_laws.proofs.ListLemmas.{find-passes}
+use Rattle.api_types.proofs.NameLemmas.{ident_itself, ident_same}
+use Rattle.plane_laws.proofs.ListLemmas.{find-only, find-passes}
 use Rattle.plane_laws.proofs.FactsHold.{frame-facts}
 use Rattle.plane_laws.proofs.Theorem.{tables-mean-rows}
 use Rattle.plane_laws.proofs.RouterLaw.{joined-found}
-use Rattle.plane_laws.proofs.CrossingLaw.{FateCrosses, Goes, ends-on, got-goes}
-use Rattle.net_addr.specs.declared.address.Addr.TheVariants.{V4}
+use Rattle.plane_laws.proofs.CrossingLaw.{FateCrosses, Goes, ends-on, got-goes, live-network}
 use Rattle.api_types.specs.Consistent.{IsConsistent}
 use Rattle.api_types.specs.Ident.{Ident}
 use Rattle.api_types.specs.RowLists.{RowLists}
@@ -17,22 +16,24 @@ use Rattle.api_types.specs.declared.group.Direction.TheVariants.{Egress}
 use Rattle.api_types.specs.declared.network.NetworkRow.{NetworkRow}
 use Rattle.api_types.specs.declared.network.Segment.{Segment}
 use Rattle.api_types.specs.declared.port.PortRow.{PortRow}
-use Rattle.plane_types.specs.Crossing.{CrossesAtRouters, PathCrosses, not_delivered}
+use Rattle.plane_types.specs.Ends.{destination}
+use Rattle.plane_types.specs.Crossing.{CrossesAtRouters, PathCrosses, is_network, not_delivered}
 use Rattle.plane_types.specs.Guard.{passes_guard}
 use Rattle.api_types.specs.Holders.{dhcp_port, has_mac, holder, port_at}
 use Rattle.plane_types.specs.Hosts.{Host, all_entries}
 use Rattle.api_types.specs.Live.{is_live, joined_with, segment}
-use Rattle.api_types.specs.Wires.{wire_of, network_on}
+use Rattle.api_types.specs.Owners.{is_router_port}
+use Rattle.api_types.specs.Wires.{is_wire, wire_of, network_on}
 use Rattle.plane_types.specs.Meaning.{Fate, answered, asked, asked_by, dropped, ended, from_port, from_sender, from_wire, got, lease_asked, lease_asked_by, leased, life_of, may_begin, none_so_far, out_of, out_or, rows_fate, rows_passage, sent_on, sent_out, sent_to, wire_ask, wire_lease, wire_packet}
 use Rattle.api_types.specs.Leases.{lease_for}
-use Rattle.plane_types.specs.Packets.{Packet, address_ask, arp_frame, dhcp_frame, ip_frame, is_unsupported, lease_ask, packet}
+use Rattle.plane_types.specs.Packets.{Packet, address_ask, ask_frame, dhcp_frame, ip_frame, is_unsupported, lease_ask, packet}
 use Rattle.plane_types.specs.Passage.{Passage}
 use Rattle.plane_types.specs.Told.{fabric_verdict, rows_verdict}
 use Rattle.plane_types.specs.declared.entry.Entry.{Entry}
 use Rattle.plane_types.specs.declared.event.Event.{Event}
 use Rattle.plane_types.specs.declared.event.Event.TheVariants.{FromPort, FromWire}
 use Rattle.plane_types.specs.declared.frame.Frame.{Frame}
-use Rattle.plane_types.specs.declared.frame.Frame.TheVariants.{ArpAsk, Dhcp, Ip4, Other}
+use Rattle.plane_types.specs.declared.frame.Frame.TheVariants.{Dhcp, Ip, NeighbourAsk, Other}
 use Rattle.api_types.specs.declared.wire.Wire.{Wire}
 use Rattle.plane_types.specs.declared.verdict.DropCause.{DropCause}
 use Rattle.plane_types.specs.declared.verdict.DropCause.TheVariants.{Dead, Egress as EgressFilter, NoHolder, NoLease, Spoof, Unknown, Unsupported}
@@ -52,85 +53,94 @@ answered-not None = refl
 answered-not (Some l) = refl
 
 module _ (rows : RowLists) (good : FrameFacts rows) (entries : List Entry) where
-  one : (n : Ident) (fresh : List Entry) (o : Outcome) → not_delivered o ≡ true → FateCrosses rows (ended (record { path = n ∷ []; fresh = fresh }) o)
-  one n fresh o h = (tt, ends-on rows n o h)
+  one : (n : Ident) → is_network rows n ≡ true → (fresh : List Entry) (o : Outcome) → not_delivered o ≡ true → FateCrosses rows (ended (record { path = n ∷ []; fresh = fresh }) o)
+  one n there fresh o h = (there, tt, ends-on rows n o h)
 
-  from-goes : (n : Ident) (fresh : List Entry) (v : Fate) → Goes rows n (record { path = n ∷ []; fresh = fresh }) v → FateCrosses rows v
-  from-goes n fresh v g = subst (λ path. PathCrosses rows path v.outcome) (sym g.path) (g.crosses, g.on)
+  from-goes : (n : Ident) → is_network rows n ≡ true → (fresh : List Entry) (v : Fate) → Goes rows n (record { path = n ∷ []; fresh = fresh }) v → FateCrosses rows v
+  from-goes n there fresh v g = subst (λ path. PathCrosses rows path v.outcome) (sym g.path) (there, g.crosses, g.on)
 
-  packet-case : (n : Ident) (fresh : List Entry) (many : ℕ) (x : Packet) (mac : ℕ) (q : PortRow) → port_at rows n mac ≡ Some q → FateCrosses rows (got rows entries many q x (record { path = n ∷ []; fresh = fresh }))
-  packet-case n fresh many x mac q e =
+  packet-case : (n : Ident) → is_network rows n ≡ true → (fresh : List Entry) (many : ℕ) (x : Packet) (mac : ℕ) (q : PortRow) → port_at rows n mac ≡ Some q → FateCrosses rows (got rows entries many q x (record { path = n ∷ []; fresh = fresh }))
+  packet-case n there fresh many x mac q e =
       let parts = and_parts (ident_eq n q.network && (q.mac == mac)) (is_live rows q) (find-passes (has_mac rows n mac) rows.ports q e) in
       let same : n ≡ q.network = ident_same n q.network (and_parts (ident_eq n q.network) (q.mac == mac) parts.0).0 in
-      from-goes n fresh (got rows entries many q x (record { path = n ∷ []; fresh = fresh }))
+      from-goes n there fresh (got rows entries many q x (record { path = n ∷ []; fresh = fresh }))
       (subst (λ m. Goes rows m (record { path = n ∷ []; fresh = fresh }) (got rows entries many q x (record { path = n ∷ []; fresh = fresh }))) (sym same)
       (got-goes rows good entries many (has_mac rows n mac) q e parts.1 x (record { path = n ∷ []; fresh = fresh })))
 
-  sends : (p : PortRow) (fresh : List Entry) (many : ℕ) (x : Packet) → FateCrosses rows (sent_on rows (got rows entries many) p.network p.host x (record { path = p.network ∷ []; fresh = fresh }))
-  sends p fresh many x = go (joined_with rows p.host (port_at rows p.network x.dst)) refl
+  sends : (p : PortRow) → is_live rows p ≡ true → (fresh : List Entry) (many : ℕ) (x : Packet) → FateCrosses rows (sent_on rows (got rows entries many) p.network p.host x (record { path = p.network ∷ []; fresh = fresh }))
+  sends p live fresh many x = go (joined_with rows p.host (port_at rows p.network x.dst)) refl
     where
       go : (o : Option PortRow) → joined_with rows p.host (port_at rows p.network x.dst) ≡ o → FateCrosses rows (sent_to rows (got rows entries many) p.network x (record { path = p.network ∷ []; fresh = fresh }) o)
-      go None e = one p.network fresh (out_of rows p.network (TowardMac x.dst) (ip_frame x) Unknown) (out-not (wire_of (segment rows p.network)) p.network (TowardMac x.dst) (ip_frame x) Unknown)
-      go (Some q) e = packet-case p.network fresh many x x.dst q (joined-found rows p.host (port_at rows p.network x.dst) q e).0
+      go None e = one p.network (live-network rows p live) fresh (out_of rows p.network (TowardMac x.dst) (ip_frame x) Unknown) (out-not (wire_of (segment rows p.network)) p.network (TowardMac x.dst) (ip_frame x) Unknown)
+      go (Some q) e = packet-case p.network (live-network rows p live) fresh many x x.dst q (joined-found rows p.host (port_at rows p.network x.dst) q e).0
 
-  sender : (p : PortRow) (many : ℕ) (frame : Frame) → FateCrosses rows (from_sender rows entries many p (record { path = p.network ∷ []; fresh = [] }) frame)
-  sender p many (Ip4 src dst from to ttl part) = go (rows_passage rows (entries ++ []) p Egress (packet src dst from to ttl part))
+  sender : (p : PortRow) → is_live rows p ≡ true → (many : ℕ) (frame : Frame) → FateCrosses rows (from_sender rows entries many p (record { path = p.network ∷ []; fresh = [] }) frame)
+  sender p live many (Ip src dst ends ttl part) = go (rows_passage rows (entries ++ []) p Egress (packet src dst ends ttl part))
     where
-      by : (b : Bool) (made : List Entry) → FateCrosses rows (if b then sent_on rows (got rows entries many) p.network p.host (packet src dst from to ttl part) (record { path = p.network ∷ []; fresh = [] ++ made }) else dropped (record { path = p.network ∷ []; fresh = [] }) EgressFilter)
-      by true made = sends p ([] ++ made) many (packet src dst from to ttl part)
-      by false made = (tt, tt)
+      by : (b : Bool) (made : List Entry) → FateCrosses rows (if b then sent_on rows (got rows entries many) p.network p.host (packet src dst ends ttl part) (record { path = p.network ∷ []; fresh = [] ++ made }) else dropped (record { path = p.network ∷ []; fresh = [] }) EgressFilter)
+      by true made = sends p live ([] ++ made) many (packet src dst ends ttl part)
+      by false made = (live-network rows p live, tt, tt)
 
-      go : (y : Passage) → FateCrosses rows (sent_out rows (got rows entries many) p (packet src dst from to ttl part) (record { path = p.network ∷ []; fresh = [] }) y)
+      go : (y : Passage) → FateCrosses rows (sent_out rows (got rows entries many) p (packet src dst ends ttl part) (record { path = p.network ∷ []; fresh = [] }) y)
       go y = by y.passes y.made
-  sender p many (ArpAsk src from to) = one p.network [] (asked rows p.network p.host (address_ask src from to)) (go (joined_with rows p.host (holder rows p.network (V4 to))))
+  sender p live many (NeighbourAsk src ends) = one p.network (live-network rows p live) [] (asked rows p.network p.host (address_ask src ends)) (go (joined_with rows p.host (holder rows p.network (destination ends))))
     where
-      go : (o : Option PortRow) → not_delivered (asked_by rows p.network (address_ask src from to) o) ≡ true
-      go None = out-not (wire_of (segment rows p.network)) p.network (TowardAddress (V4 (address_ask src from to).to)) (arp_frame (address_ask src from to)) NoHolder
+      go : (o : Option PortRow) → not_delivered (asked_by rows p.network (address_ask src ends) o) ≡ true
+      go None = out-not (wire_of (segment rows p.network)) p.network (TowardAddress (destination (address_ask src ends).ends)) (ask_frame (address_ask src ends)) NoHolder
       go (Some q) = refl
-  sender p many (Dhcp src from) = one p.network [] (lease_asked rows p.network p.host (lease_ask src from)) (go (joined_with rows p.host (dhcp_port rows p.network)))
+  sender p live many (Dhcp src from) = one p.network (live-network rows p live) [] (lease_asked rows p.network p.host (lease_ask src from)) (go (joined_with rows p.host (dhcp_port rows p.network)))
     where
       go : (o : Option PortRow) → not_delivered (lease_asked_by rows p.network (lease_ask src from) o) ≡ true
       go None = out-not (wire_of (segment rows p.network)) p.network TowardDhcp (dhcp_frame (lease_ask src from)) NoLease
       go (Some d) = answered-not (option_and_then (lease_for rows d) (port_at rows p.network (lease_ask src from).src))
-  sender p many (Other s d y) = (tt, tt)
+  sender p live many (Other s d y) = (live-network rows p live, tt, tt)
 
   port : (many : ℕ) (frame : Frame) (o : Option PortRow) → FateCrosses rows (from_port rows entries many frame o)
   port many frame None = refl
-  port many frame (Some p) = go (may_begin rows p) (is_unsupported frame) (passes_guard p frame)
+  port many frame (Some p) = go (may_begin rows p) refl (is_unsupported frame) (passes_guard p frame)
     where
-      go : (b u g : Bool) → FateCrosses rows (if b then (if u then dropped (record { path = p.network ∷ []; fresh = [] }) Unsupported else if not g then dropped (record { path = p.network ∷ []; fresh = [] }) Spoof else from_sender rows entries many p (record { path = p.network ∷ []; fresh = [] }) frame) else dropped none_so_far Dead)
-      go false u g = refl
-      go true true g = (tt, tt)
-      go true false false = (tt, tt)
-      go true false true = sender p many frame
+      alive : may_begin rows p ≡ true → is_live rows p ≡ true
+      alive e = (and_parts (is_live rows p) (not (is_router_port p.owner)) e).0
 
-  wire : (many : ℕ) (frame : Frame) (o : Option NetworkRow) → FateCrosses rows (from_wire rows entries many frame o)
-  wire many frame None = refl
-  wire many (Ip4 src dst from to ttl part) (Some n) = go (port_at rows n.id dst) refl
+      go : (b : Bool) → may_begin rows p ≡ b → (u g : Bool) → FateCrosses rows (if b then (if u then dropped (record { path = p.network ∷ []; fresh = [] }) Unsupported else if not g then dropped (record { path = p.network ∷ []; fresh = [] }) Spoof else from_sender rows entries many p (record { path = p.network ∷ []; fresh = [] }) frame) else dropped none_so_far Dead)
+      go false e u g = refl
+      go true e true g = (live-network rows p (alive e), tt, tt)
+      go true e false false = (live-network rows p (alive e), tt, tt)
+      go true e false true = sender p (alive e) many frame
+
+  wire : (many : ℕ) (frame : Frame) (o : Option NetworkRow) → ((n : NetworkRow) → o ≡ Some n → is_network rows n.id ≡ true) → FateCrosses rows (from_wire rows entries many frame o)
+  wire many frame None there = refl
+  wire many (Ip src dst ends ttl part) (Some n) there = go (port_at rows n.id dst) refl
     where
-      go : (o : Option PortRow) → port_at rows n.id (packet src dst from to ttl part).dst ≡ o → FateCrosses rows (wire_packet rows entries many n (packet src dst from to ttl part) o)
+      go : (o : Option PortRow) → port_at rows n.id (packet src dst ends ttl part).dst ≡ o → FateCrosses rows (wire_packet rows entries many n (packet src dst ends ttl part) o)
       go None e = refl
-      go (Some q) e = packet-case n.id [] many (packet src dst from to ttl part) (packet src dst from to ttl part).dst q e
-  wire many (ArpAsk src from to) (Some n) = go (holder rows n.id (V4 to))
+      go (Some q) e = packet-case n.id (there n refl) [] many (packet src dst ends ttl part) (packet src dst ends ttl part).dst q e
+  wire many (NeighbourAsk src ends) (Some n) there = go (holder rows n.id (destination ends))
     where
-      go : (o : Option PortRow) → FateCrosses rows (wire_ask n (address_ask src from to) o)
+      go : (o : Option PortRow) → FateCrosses rows (wire_ask n (address_ask src ends) o)
       go None = refl
-      go (Some q) = (tt, tt)
-  wire many (Dhcp src from) (Some n) = go (dhcp_port rows n.id)
+      go (Some q) = (there n refl, tt, tt)
+  wire many (Dhcp src from) (Some n) there = go (dhcp_port rows n.id)
     where
       go : (o : Option PortRow) → FateCrosses rows (wire_lease rows n (lease_ask src from) o)
       go None = refl
-      go (Some d) = one n.id [] (leased rows n.id (lease_ask src from) d) (answered-not (option_and_then (lease_for rows d) (port_at rows n.id (lease_ask src from).src)))
-  wire many (Other s d y) (Some n) = refl
+      go (Some d) = one n.id (there n refl) [] (leased rows n.id (lease_ask src from) d) (answered-not (option_and_then (lease_for rows d) (port_at rows n.id (lease_ask src from).src)))
+  wire many (Other s d y) (Some n) there = refl
 
   pub crosses-law : (e : Event) → FateCrosses rows (rows_fate rows entries e)
   unfolding rows_fate
   crosses-law (FromPort i frame) = port (life_of frame) frame (row_of (λ (p : PortRow). p.id) i rows.ports)
   crosses-law (FromWire physical tag frame) = go (is_unsupported frame)
     where
+      wire_test : NetworkRow → Bool
+      wire_test n = is_wire (record { physical = physical; tag = tag }) (wire_of n.segment)
+
+      found : (n : NetworkRow) → network_on rows (record { physical = physical; tag = tag }) ≡ Some n → is_network rows n.id ≡ true
+      found n e = ap is_some (find-only wire_test (λ (m : NetworkRow). ident_eq n.id m.id) rows.networks n (good.network_ids n.id) e (ident_itself n.id))
+
       go : (b : Bool) → FateCrosses rows (if b then dropped none_so_far Unsupported else from_wire rows entries (life_of frame) frame (network_on rows (record { physical = physical; tag = tag })))
       go true = refl
-      go false = wire (life_of frame) frame (network_on rows (record { physical = physical; tag = tag }))
+      go false = wire (life_of frame) frame (network_on rows (record { physical = physical; tag = tag })) found
 
 pub by-rows : (rows : RowLists) → IsConsistent rows → (entries : List Entry) (e : Event) → CrossesAtRouters rows (rows_verdict rows entries e)
 by-rows rows good entries e = crosses-law rows (frame-facts rows good) entries e

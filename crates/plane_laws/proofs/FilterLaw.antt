@@ -12,7 +12,7 @@ use Rattle.net_addr.specs.Addresses.{addr_eq}
 use Rattle.net_addr.specs.Ordered.{whole_prefix}
 use Rattle.net_addr.specs.declared.address.Addr.{Addr}
 use Rattle.net_addr.specs.Prefixes.{Prefix, contains}
-use Rattle.api_types.specs.Consistent.Groups.{is_direction, prefix_eq}
+use Rattle.api_types.specs.Consistent.Groups.{is_direction, is_ethertype, prefix_eq}
 use Rattle.api_types.specs.Ident.{Ident}
 use Rattle.api_types.specs.Lists.{stands}
 use Rattle.api_types.specs.RowLists.{RowLists}
@@ -24,7 +24,8 @@ use Rattle.api_types.specs.declared.port.Fixed.{Fixed}
 use Rattle.api_types.specs.declared.port.Pair.{Pair}
 use Rattle.api_types.specs.declared.port.PortRow.{PortRow}
 use Rattle.api_types.specs.Ascending.{ascending, put_in, prefix_before}
-use Rattle.plane_types.specs.Filter.{far_fits, far_of, in_range, is_ipv4, parts_fit, rule_matches, rules_allow, same_or_none}
+use Rattle.plane_types.specs.Ends.{ethertype_of}
+use Rattle.plane_types.specs.Filter.{far_fits, far_of, in_range, parts_fit, rule_matches, rules_allow, same_or_none}
 use Rattle.api_types.specs.Members.{gives_member, in_pairs, is_member, names_group, members, once, prefixes_of}
 use Rattle.api_types.specs.Holders.{holds}
 use Rattle.plane_types.specs.Keys.{protocol_of}
@@ -179,40 +180,38 @@ module _ (rows : RowLists) (x : Addr) where
 -- what some filter row of a port passes, some rule of its groups gives
 module _ (rows : RowLists) (good : FrameFacts rows) (host : List ℕ) (T : FilterRow → Bool) (p : PortRow) where
   abbrev given : RuleRow → Bool
-  given r = names_group r.group p.groups && (is_ipv4 r.ethertype && T (filter_of p r))
+  given r = names_group r.group p.groups && T (filter_of p r)
 
-  of-group : (g : GroupRow) → list_any T (filters_of_group rows p g) ≡ (names_group g.id p.groups && list_any (λ r. (is_ipv4 r.ethertype && ident_eq r.group g.id) && T (filter_of p r)) rows.rules)
+  of-group : (g : GroupRow) → list_any T (filters_of_group rows p g) ≡ (names_group g.id p.groups && list_any (λ r. ident_eq r.group g.id && T (filter_of p r)) rows.rules)
   of-group g = go (names_group g.id p.groups)
     where
       by : (r : RuleRow) (b : Bool) → of_some T (if b then Some (filter_of p r) else None) ≡ (b && T (filter_of p r))
       by r true = refl
       by r false = refl
 
-      go : (b : Bool) → list_any T (if b then filter_map (filter_by p g) rows.rules else []) ≡ (b && list_any (λ r. (is_ipv4 r.ethertype && ident_eq r.group g.id) && T (filter_of p r)) rows.rules)
+      go : (b : Bool) → list_any T (if b then filter_map (filter_by p g) rows.rules else []) ≡ (b && list_any (λ r. ident_eq r.group g.id && T (filter_of p r)) rows.rules)
       go false = refl
-      go true = any-filter_map T (filter_by p g) rows.rules ∙ list_any-same (λ r. of_some T (filter_by p g r)) (λ r. (is_ipv4 r.ethertype && ident_eq r.group g.id) && T (filter_of p r)) rows.rules (λ r. by r (is_ipv4 r.ethertype && ident_eq r.group g.id))
+      go true = any-filter_map T (filter_by p g) rows.rules ∙ list_any-same (λ r. of_some T (filter_by p g r)) (λ r. ident_eq r.group g.id && T (filter_of p r)) rows.rules (λ r. by r (ident_eq r.group g.id))
 
   -- one rule over all groups
-  of-rule : (r : RuleRow) → list_any (λ (g : GroupRow). ident_eq r.group g.id) rows.groups ≡ true → list_any (λ (g : GroupRow). names_group g.id p.groups && ((is_ipv4 r.ethertype && ident_eq r.group g.id) && T (filter_of p r))) rows.groups ≡ given r
+  of-rule : (r : RuleRow) → list_any (λ (g : GroupRow). ident_eq r.group g.id) rows.groups ≡ true → list_any (λ (g : GroupRow). names_group g.id p.groups && (ident_eq r.group g.id && T (filter_of p r))) rows.groups ≡ given r
   of-rule r there =
-      list_any-same (λ (g : GroupRow). names_group g.id p.groups && ((is_ipv4 r.ethertype && ident_eq r.group g.id) && T (filter_of p r))) (λ (g : GroupRow). ident_eq r.group g.id && given r) rows.groups (λ g. by g (ident_eq r.group g.id) refl (is_ipv4 r.ethertype))
+      list_any-same (λ (g : GroupRow). names_group g.id p.groups && (ident_eq r.group g.id && T (filter_of p r))) (λ (g : GroupRow). ident_eq r.group g.id && given r) rows.groups (λ g. by g (ident_eq r.group g.id) refl)
       ∙ any-const (λ (g : GroupRow). ident_eq r.group g.id) (given r) rows.groups
       ∙ ap (λ b. b && given r) there
     where
-      by : (g : GroupRow) (b : Bool) → ident_eq r.group g.id ≡ b → (i : Bool) → (names_group g.id p.groups && ((i && b) && T (filter_of p r))) ≡ (b && (names_group r.group p.groups && (i && T (filter_of p r))))
-      by g true e true = ap (λ x. names_group x p.groups && T (filter_of p r)) (sym (ident_same r.group g.id e))
-      by g true e false = and_false (names_group g.id p.groups) ∙ sym (and_false (names_group r.group p.groups))
-      by g false e true = and_false (names_group g.id p.groups)
-      by g false e false = and_false (names_group g.id p.groups)
+      by : (g : GroupRow) (b : Bool) → ident_eq r.group g.id ≡ b → (names_group g.id p.groups && (b && T (filter_of p r))) ≡ (b && (names_group r.group p.groups && T (filter_of p r)))
+      by g true e = ap (λ x. names_group x p.groups && T (filter_of p r)) (sym (ident_same r.group g.id e))
+      by g false e = and_false (names_group g.id p.groups)
 
-  swapped : (rs : List RuleRow) → AllOf (λ (r : RuleRow). list_any (λ (g : GroupRow). ident_eq r.group g.id) rows.groups ≡ true) rs → list_any (λ (g : GroupRow). names_group g.id p.groups && list_any (λ r. (is_ipv4 r.ethertype && ident_eq r.group g.id) && T (filter_of p r)) rs) rows.groups ≡ list_any given rs
+  swapped : (rs : List RuleRow) → AllOf (λ (r : RuleRow). list_any (λ (g : GroupRow). ident_eq r.group g.id) rows.groups ≡ true) rs → list_any (λ (g : GroupRow). names_group g.id p.groups && list_any (λ r. ident_eq r.group g.id && T (filter_of p r)) rs) rows.groups ≡ list_any given rs
   swapped [] h = list_any-same (λ (g : GroupRow). names_group g.id p.groups && false) (λ g. false) rows.groups (λ g. and_false (names_group g.id p.groups)) ∙ any-none rows.groups
   swapped (r ∷ rs) h =
-      list_any-same (λ (g : GroupRow). names_group g.id p.groups && (((is_ipv4 r.ethertype && ident_eq r.group g.id) && T (filter_of p r)) || list_any (λ r. (is_ipv4 r.ethertype && ident_eq r.group g.id) && T (filter_of p r)) rs))
-      (λ (g : GroupRow). (names_group g.id p.groups && ((is_ipv4 r.ethertype && ident_eq r.group g.id) && T (filter_of p r))) || (names_group g.id p.groups && list_any (λ r. (is_ipv4 r.ethertype && ident_eq r.group g.id) && T (filter_of p r)) rs)) rows.groups
-      (λ g. spread (names_group g.id p.groups) ((is_ipv4 r.ethertype && ident_eq r.group g.id) && T (filter_of p r)) (list_any (λ r. (is_ipv4 r.ethertype && ident_eq r.group g.id) && T (filter_of p r)) rs))
-      ∙ any-or (λ (g : GroupRow). names_group g.id p.groups && ((is_ipv4 r.ethertype && ident_eq r.group g.id) && T (filter_of p r))) (λ (g : GroupRow). names_group g.id p.groups && list_any (λ r. (is_ipv4 r.ethertype && ident_eq r.group g.id) && T (filter_of p r)) rs) rows.groups
-      ∙ ap (λ b. b || list_any (λ (g : GroupRow). names_group g.id p.groups && list_any (λ r. (is_ipv4 r.ethertype && ident_eq r.group g.id) && T (filter_of p r)) rs) rows.groups) (of-rule r h.0)
+      list_any-same (λ (g : GroupRow). names_group g.id p.groups && ((ident_eq r.group g.id && T (filter_of p r)) || list_any (λ r. ident_eq r.group g.id && T (filter_of p r)) rs))
+      (λ (g : GroupRow). (names_group g.id p.groups && (ident_eq r.group g.id && T (filter_of p r))) || (names_group g.id p.groups && list_any (λ r. ident_eq r.group g.id && T (filter_of p r)) rs)) rows.groups
+      (λ g. spread (names_group g.id p.groups) (ident_eq r.group g.id && T (filter_of p r)) (list_any (λ r. ident_eq r.group g.id && T (filter_of p r)) rs))
+      ∙ any-or (λ (g : GroupRow). names_group g.id p.groups && (ident_eq r.group g.id && T (filter_of p r))) (λ (g : GroupRow). names_group g.id p.groups && list_any (λ r. ident_eq r.group g.id && T (filter_of p r)) rs) rows.groups
+      ∙ ap (λ b. b || list_any (λ (g : GroupRow). names_group g.id p.groups && list_any (λ r. ident_eq r.group g.id && T (filter_of p r)) rs) rows.groups) (of-rule r h.0)
       ∙ ap (λ b. given r || b) (swapped rs h.1)
     where
       spread : (a b c : Bool) → (a && (b || c)) ≡ ((a && b) || (a && c))
@@ -226,7 +225,7 @@ module _ (rows : RowLists) (good : FrameFacts rows) (host : List ℕ) (T : Filte
       go false = refl
       go true =
           list_any-flat_map T (filters_of_group rows p) rows.groups
-          ∙ list_any-same (λ g. list_any T (filters_of_group rows p g)) (λ (g : GroupRow). names_group g.id p.groups && list_any (λ r. (is_ipv4 r.ethertype && ident_eq r.group g.id) && T (filter_of p r)) rows.rules) rows.groups of-group
+          ∙ list_any-same (λ g. list_any T (filters_of_group rows p g)) (λ (g : GroupRow). names_group g.id p.groups && list_any (λ r. ident_eq r.group g.id && T (filter_of p r)) rows.rules) rows.groups of-group
           ∙ swapped rows.rules good.groups_stand
 
 module _ (rows : RowLists) (good : FrameFacts rows) (host : List ℕ) (t : HostTables) (real : HostFacts rows host t) (test : PortRow → Bool) (p : PortRow) (found : find test rows.ports ≡ Some p) (tap : is_tap rows host p ≡ true) (secured : p.secured ≡ true) where
@@ -237,32 +236,31 @@ module _ (rows : RowLists) (good : FrameFacts rows) (host : List ℕ) (t : HostT
   both = and_from (is_tap rows host p) p.secured tap secured
 
   -- a remote group of a rule of the tap is named
-  named : (g : Ident) (r : RuleRow) → ((T : RuleRow → Bool) → T r ≡ true → list_any T rows.rules ≡ true) → names_group r.group p.groups ≡ true → is_ipv4 r.ethertype ≡ true → r.remote_group ≡ Some g → list_any (λ (x : FilterRow). names_remote g x.remote_group) t.filters ≡ true
+  named : (g : Ident) (r : RuleRow) → ((T : RuleRow → Bool) → T r ≡ true → list_any T rows.rules ≡ true) → names_group r.group p.groups ≡ true → r.remote_group ≡ Some g → list_any (λ (x : FilterRow). names_remote g x.remote_group) t.filters ≡ true
   unfolding filter_rows
-  named g r mem names v4 remote =
+  named g r mem names remote =
       ap (list_any (λ (x : FilterRow). names_remote g x.remote_group)) real.filters
       ∙ list_any-flat_map (λ (x : FilterRow). names_remote g x.remote_group) (filters_of rows host) rows.ports
       ∙ list_any-found test (λ q. list_any (λ (x : FilterRow). names_remote g x.remote_group) (filters_of rows host q)) rows.ports p found
-      (filters-is rows good host (λ (x : FilterRow). names_remote g x.remote_group) p ∙ ap (λ b. b && list_any (λ (x : RuleRow). names_group x.group p.groups && (is_ipv4 x.ethertype && names_remote g x.remote_group)) rows.rules) both
-      ∙ mem (λ (x : RuleRow). names_group x.group p.groups && (is_ipv4 x.ethertype && names_remote g x.remote_group)) (and_from (names_group r.group p.groups) (is_ipv4 r.ethertype && names_remote g r.remote_group) names (and_from (is_ipv4 r.ethertype) (names_remote g r.remote_group) v4 (ap (names_remote g) remote ∙ ident_itself g))))
+      (filters-is rows good host (λ (x : FilterRow). names_remote g x.remote_group) p ∙ ap (λ b. b && list_any (λ (x : RuleRow). names_group x.group p.groups && names_remote g x.remote_group) rows.rules) both
+      ∙ mem (λ (x : RuleRow). names_group x.group p.groups && names_remote g x.remote_group) (and_from (names_group r.group p.groups) (names_remote g r.remote_group) names (ap (names_remote g) remote ∙ ident_itself g)))
 
   module _ (direction : Direction) (key : Key) where
-    fits : (r : RuleRow) → RemoteStands rows r.remote_group → ((T : RuleRow → Bool) → T r ≡ true → list_any T rows.rules ≡ true) → (names_group r.group p.groups && (is_ipv4 r.ethertype && (ident_eq p.id p.id && row_fits t direction key (filter_of p r)))) ≡ (names_group r.group p.groups && rule_matches rows direction key r)
+    fits : (r : RuleRow) → RemoteStands rows r.remote_group → ((T : RuleRow → Bool) → T r ≡ true → list_any T rows.rules ≡ true) → (names_group r.group p.groups && (ident_eq p.id p.id && row_fits t direction key (filter_of p r))) ≡ (names_group r.group p.groups && rule_matches rows direction key r)
     unfolding rule_matches
-    fits r stands mem = go (names_group r.group p.groups) (is_ipv4 r.ethertype) refl refl
+    fits r stands mem = go (names_group r.group p.groups) refl
       where
-        far : names_group r.group p.groups ≡ true → is_ipv4 r.ethertype ≡ true → (o : Option Prefix) (g : Option Ident) → r.remote_group ≡ g → RemoteStands rows g → far_fits (in_set t) o g (far_of direction key) ≡ far_fits (is_member rows) o g (far_of direction key)
-        far names v4 None None e s = refl
-        far names v4 (Some x) None e s = refl
-        far names v4 None (Some g) e s = set-located rows (far_of direction key) t g real.sets (named g r mem names v4 e) s
-        far names v4 (Some x) (Some g) e s = ap (λ b. contains x (far_of direction key) || b) (set-located rows (far_of direction key) t g real.sets (named g r mem names v4 e) s)
+        far : names_group r.group p.groups ≡ true → (o : Option Prefix) (g : Option Ident) → r.remote_group ≡ g → RemoteStands rows g → far_fits (in_set t) o g (far_of direction key) ≡ far_fits (is_member rows) o g (far_of direction key)
+        far names None None e s = refl
+        far names (Some x) None e s = refl
+        far names None (Some g) e s = set-located rows (far_of direction key) t g real.sets (named g r mem names e) s
+        far names (Some x) (Some g) e s = ap (λ b. contains x (far_of direction key) || b) (set-located rows (far_of direction key) t g real.sets (named g r mem names e) s)
 
-        go : (a b : Bool) → names_group r.group p.groups ≡ a → is_ipv4 r.ethertype ≡ b → (a && (b && (ident_eq p.id p.id && row_fits t direction key (filter_of p r)))) ≡ (a && (b && parts_fit (is_member rows) r.direction r.protocol r.low r.high r.remote_prefix r.remote_group direction key))
-        go false b e f = refl
-        go true false e f = refl
-        go true true e f =
+        go : (a : Bool) → names_group r.group p.groups ≡ a → (a && (ident_eq p.id p.id && row_fits t direction key (filter_of p r))) ≡ (a && parts_fit (is_member rows) r.direction r.ethertype r.protocol r.low r.high r.remote_prefix r.remote_group direction key)
+        go false e = refl
+        go true e =
             ap (λ b. b && row_fits t direction key (filter_of p r)) (ident_itself p.id)
-            ∙ ap (λ b. ((is_direction r.direction direction && same_or_none r.protocol (protocol_of key.kind)) && in_range r.low r.high key.kind key.dport) && b) (far e f r.remote_prefix r.remote_group refl stands)
+            ∙ ap (λ b. (is_direction r.direction direction && is_ethertype r.ethertype (ethertype_of key.ends) && same_or_none r.protocol (protocol_of key.ends key.kind) && in_range r.low r.high key.ends key.kind key.dport) && b) (far e r.remote_prefix r.remote_group refl stands)
 
     pub allows-located : tables_allow t p.id direction key ≡ rules_allow rows p direction key
     unfolding tables_allow filter_rows rules_allow
@@ -271,9 +269,9 @@ module _ (rows : RowLists) (good : FrameFacts rows) (host : List ℕ) (t : HostT
         ∙ list_any-flat_map T (filters_of rows host) rows.ports
         ∙ any-at (has_id p.id) (λ q. list_any T (filters_of rows host q)) rows.ports p (good.port_ids p.id) by_id other
         ∙ filters-is rows good host T p
-        ∙ ap (λ b. b && list_any (λ (r : RuleRow). names_group r.group p.groups && (is_ipv4 r.ethertype && (ident_eq p.id p.id && row_fits t direction key (filter_of p r)))) rows.rules) both
-        ∙ list_any-same_each (λ (r : RuleRow). names_group r.group p.groups && (is_ipv4 r.ethertype && (ident_eq p.id p.id && row_fits t direction key (filter_of p r)))) (λ (r : RuleRow). names_group r.group p.groups && rule_matches rows direction key r) rows.rules
-        (each-member (λ (r : RuleRow). RemoteStands rows r.remote_group) (λ (r : RuleRow). (names_group r.group p.groups && (is_ipv4 r.ethertype && (ident_eq p.id p.id && row_fits t direction key (filter_of p r)))) ≡ (names_group r.group p.groups && rule_matches rows direction key r)) rows.rules good.remotes_stand fits)
+        ∙ ap (λ b. b && list_any (λ (r : RuleRow). names_group r.group p.groups && (ident_eq p.id p.id && row_fits t direction key (filter_of p r))) rows.rules) both
+        ∙ list_any-same_each (λ (r : RuleRow). names_group r.group p.groups && (ident_eq p.id p.id && row_fits t direction key (filter_of p r))) (λ (r : RuleRow). names_group r.group p.groups && rule_matches rows direction key r) rows.rules
+        (each-member (λ (r : RuleRow). RemoteStands rows r.remote_group) (λ (r : RuleRow). (names_group r.group p.groups && (ident_eq p.id p.id && row_fits t direction key (filter_of p r))) ≡ (names_group r.group p.groups && rule_matches rows direction key r)) rows.rules good.remotes_stand fits)
       where
         T : FilterRow → Bool
         T r = ident_eq p.id r.port && row_fits t direction key r
@@ -281,5 +279,5 @@ module _ (rows : RowLists) (good : FrameFacts rows) (host : List ℕ) (t : HostT
         other : (q : PortRow) → has_id p.id q ≡ false → list_any (λ (r : FilterRow). ident_eq p.id r.port && row_fits t direction key r) (filters_of rows host q) ≡ false
         other q e =
             filters-is rows good host (λ (r : FilterRow). ident_eq p.id r.port && row_fits t direction key r) q
-            ∙ ap (λ b. (is_tap rows host q && q.secured) && b) (list_any-same (λ (r : RuleRow). names_group r.group q.groups && (is_ipv4 r.ethertype && (ident_eq p.id q.id && row_fits t direction key (filter_of q r)))) (λ (r : RuleRow). false) rows.rules (λ r. ap (λ b. names_group r.group q.groups && (is_ipv4 r.ethertype && (b && row_fits t direction key (filter_of q r)))) e ∙ ap (λ b. names_group r.group q.groups && b) (and_false (is_ipv4 r.ethertype)) ∙ and_false (names_group r.group q.groups)) ∙ any-none rows.rules)
+            ∙ ap (λ b. (is_tap rows host q && q.secured) && b) (list_any-same (λ (r : RuleRow). names_group r.group q.groups && (ident_eq p.id q.id && row_fits t direction key (filter_of q r))) (λ (r : RuleRow). false) rows.rules (λ r. ap (λ b. names_group r.group q.groups && (b && row_fits t direction key (filter_of q r))) e ∙ and_false (names_group r.group q.groups)) ∙ any-none rows.rules)
             ∙ and_false (is_tap rows host q && q.secured)

@@ -12,6 +12,8 @@ use Rattle.api_types.specs.Ident.{Ident}
 use Rattle.api_types.specs.Table.{ident_eq}
 use Rattle.api_types.specs.declared.group.Direction.{Direction}
 use Rattle.api_types.specs.declared.group.Direction.TheVariants.{Egress, Ingress}
+use Rattle.net_addr.specs.Addresses.{addr_eq}
+use Rattle.plane_types.specs.Ends.{are_four, destination, source}
 use Rattle.plane_types.specs.Entries.{has_flow, opposite}
 use Rattle.plane_types.specs.Keys.{key_eq, kind_eq, reversed}
 use Rattle.plane_types.specs.Packets.{Packet, is_unsupported, key_of, packet}
@@ -24,7 +26,7 @@ use Rattle.plane_types.specs.TableStep.{Stepped, drops, leg_at, plain, router_at
 use Rattle.plane_types.specs.declared.entry.Entry.{Entry}
 use Rattle.plane_types.specs.declared.entry.Entry.TheVariants.{Flow, Snat}
 use Rattle.plane_types.specs.declared.frame.Frame.{Frame}
-use Rattle.plane_types.specs.declared.frame.Frame.TheVariants.{ArpAsk, Dhcp, Ip4, Other}
+use Rattle.plane_types.specs.declared.frame.Frame.TheVariants.{Dhcp, Ip, NeighbourAsk, Other}
 use Rattle.plane_types.specs.declared.frame.Key.{Key}
 use Rattle.plane_types.specs.declared.table.RouterPort.{RouterPort}
 use Rattle.plane_types.specs.declared.table.RouterTable.{RouterTable}
@@ -69,7 +71,7 @@ new-free uses k port h = go (is_taken uses k k.sport) (has_choice k.kind) refl h
 
 module _ (v : RouterView) (uses : List Use) where
   sourced-gives : (way_in out : Leg) (by : Changed) (p : Packet) → GivesSourced v uses (sourced v uses way_in out by p)
-  sourced-gives way_in out by p = start (way_in.inside && (not out.inside || by_any by))
+  sourced-gives way_in out by p = start (are_four p.ends && way_in.inside && (not out.inside || by_any by))
     where
       fresh : (outer : ℕ) → v.gateway ≡ Some outer → v.snat ≡ true → find (λ (u : Use). key_eq u.key (key_of p)) uses ≡ None → (o : Option ℕ) → new_port uses (key_of p) ≡ o → GivesSourced v uses (sourced_new v.id p outer o)
       fresh outer g s none None e = tt
@@ -91,16 +93,16 @@ module _ (v : RouterView) (uses : List Use) where
       floated (Some f) = tt
       floated None = float ((not out.inside || by_float by) && v.snat && is_gateway_live v) refl
 
-      start : (b : Bool) → GivesSourced v uses (if b then sourced_float v uses out by p (find (λ (f : Float). f.fixed == p.from) v.floats) else kept_source p)
+      start : (b : Bool) → GivesSourced v uses (if b then sourced_float v uses out by p (find (λ (f : Float). addr_eq (V4 f.fixed) (source p.ends)) v.floats) else kept_source p)
       start false = tt
-      start true = floated (find (λ (f : Float). f.fixed == p.from) v.floats)
+      start true = floated (find (λ (f : Float). addr_eq (V4 f.fixed) (source p.ends)) v.floats)
 
   sent-gives : (out : Leg) (hop : Addr) (o : Option Sourced) → GivesSourced v uses o → GivesRouted v uses (sent out hop o)
   sent-gives out hop None g = tt
   sent-gives out hop (Some s) g = g
 
   to-gives : (way_in : Leg) (d : Destined) → GivesRouted v uses (routed_to v uses way_in d)
-  to-gives way_in d = go (is_own v (V4 d.packet.to)) (nat_le d.packet.ttl 1)
+  to-gives way_in d = go (is_own v (destination d.packet.ends)) (nat_le d.packet.ttl 1)
     where
       out : (hop : Addr) (o : Option Leg) → GivesRouted v uses (routed_out v uses way_in d.by (record (d.packet) { ttl = d.packet.ttl - 1 }) hop o)
       out hop None = tt
@@ -108,12 +110,12 @@ module _ (v : RouterView) (uses : List Use) where
 
       way : (o : Option Way) → GivesRouted v uses (routed_way v uses way_in d.by (record (d.packet) { ttl = d.packet.ttl - 1 }) o)
       way None = tt
-      way (Some w) = out (unwrap_or w.next (V4 d.packet.to)) (find (λ (l : Leg). ident_eq w.port l.port) v.legs)
+      way (Some w) = out (unwrap_or w.next (destination d.packet.ends)) (find (λ (l : Leg). ident_eq w.port l.port) v.legs)
 
-      go : (own low : Bool) → GivesRouted v uses (if own then RouteEnds (Absorbed v.id) else if low then RouteEnds (Dropped Expired) else routed_way v uses way_in d.by (record (d.packet) { ttl = d.packet.ttl - 1 }) (best_way (V4 d.packet.to) v.ways))
+      go : (own low : Bool) → GivesRouted v uses (if own then RouteEnds (Absorbed v.id) else if low then RouteEnds (Dropped Expired) else routed_way v uses way_in d.by (record (d.packet) { ttl = d.packet.ttl - 1 }) (best_way (destination d.packet.ends) v.ways))
       go true low = tt
       go false true = tt
-      go false false = way (best_way (V4 d.packet.to) v.ways)
+      go false false = way (best_way (destination d.packet.ends) v.ways)
 
 pub routed-gives : (v : RouterView) (entries : List Entry) (way_in : Leg) (p : Packet) → GivesRouted v (uses_by v.snat v.gateway v.id entries) (routed v entries way_in p)
 unfolding routed
@@ -128,12 +130,12 @@ any-if : {X : Type 0} (f : X → Bool) (b : Bool) (x : X) (xs : List X) → list
 any-if f true x xs = refl
 any-if f false x xs = refl
 
-taken-is : (r : Ident) (o : ℕ) (k : Key) (port : ℕ) (es : List Entry) → is_taken (uses_at r o es) k port ≡ list_any (meets r k.kind o port k.to k.dport) es
+taken-is : (r : Ident) (o : ℕ) (k : Key) (port : ℕ) (es : List Entry) → is_taken (uses_at r o es) k port ≡ list_any (meets r k.kind o port (destination k.ends) k.dport) es
 taken-is r o k port [] = refl
 taken-is r o k port (Flow p d q ∷ es) = taken-is r o k port es
 taken-is r o k port (Snat s q x p ∷ es) =
-    any-if (λ (u : Use). (u.port == port) && kind_eq u.key.kind k.kind && (u.key.to == k.to) && (u.key.dport == k.dport)) (ident_eq r s && (o == x)) (record { key = q; port = p }) (uses_at r o es)
-    ∙ ap (λ b. (ident_eq r s && (o == x) && ((p == port) && kind_eq q.kind k.kind && (q.to == k.to) && (q.dport == k.dport))) || b) (taken-is r o k port es)
+    any-if (λ (u : Use). (u.port == port) && kind_eq u.key.kind k.kind && addr_eq (destination u.key.ends) (destination k.ends) && (u.key.dport == k.dport)) (ident_eq r s && (o == x)) (record { key = q; port = p }) (uses_at r o es)
+    ∙ ap (λ b. (ident_eq r s && (o == x) && ((p == port) && kind_eq q.kind k.kind && addr_eq (destination q.ends) (destination k.ends) && (q.dport == k.dport))) || b) (taken-is r o k port es)
 
 used-is : (r : Ident) (o : ℕ) (k : Key) (es : List Entry) → list_any (λ (u : Use). key_eq u.key k) (uses_at r o es) ≡ list_any (translates r k o) es
 used-is r o k [] = refl
@@ -145,7 +147,7 @@ used-is r o k (Snat s q x p ∷ es) =
 -- a new entry can be taken for none of these
 abbrev pub IsApart : List Entry → Entry → Type 0
 IsApart entries (Flow p d k) = ⊤
-IsApart entries (Snat r k o p) = (list_any (meets r k.kind o p k.to k.dport) entries ≡ false) × (list_any (translates r k o) entries ≡ false)
+IsApart entries (Snat r k o p) = (list_any (meets r k.kind o p (destination k.ends) k.dport) entries ≡ false) × (list_any (translates r k o) entries ≡ false)
 
 abbrev pub Admits : HostTables → List Entry → List Entry → Type 0
 Admits t entries [] = ⊤
@@ -202,10 +204,10 @@ module _ (t : HostTables) (entries : List Entry) where
       filtered f y a false = tt
 
       sends : (f : Frame) → Admits t entries (tap_sends t entries tap f).made
-      sends (Ip4 src dst from to ttl part) =
-          let y = tap_passage t entries tap Egress (packet src dst from to ttl part) in
-          filtered (Ip4 src dst from to ttl part) y (passage-admits tap.secured (tables_allow t tap.port) tap.port Egress (key_of (packet src dst from to ttl part)) (tap-there port tap e)) y.passes
-      sends (ArpAsk src from to) = tt
+      sends (Ip src dst ends ttl part) =
+          let y = tap_passage t entries tap Egress (packet src dst ends ttl part) in
+          filtered (Ip src dst ends ttl part) y (passage-admits tap.secured (tables_allow t tap.port) tap.port Egress (key_of (packet src dst ends ttl part)) (tap-there port tap e)) y.passes
+      sends (NeighbourAsk src ends) = tt
       sends (Dhcp src from) = tt
       sends (Other src dst ethertype) = tt
 
@@ -216,13 +218,13 @@ module _ (t : HostTables) (entries : List Entry) where
 
   tap-out-admits : (port : Ident) (frame : Frame) (o : Option TapRow) → tap_at t port ≡ o → Admits t entries (tap_out t entries frame o).made
   tap-out-admits port frame None e = tt
-  tap-out-admits port (Ip4 src dst from to ttl part) (Some tap) e =
-      go (tap_passage t entries tap Ingress (packet src dst from to ttl part)) (passage-admits tap.secured (tables_allow t tap.port) tap.port Ingress (key_of (packet src dst from to ttl part)) (tap-there port tap e)) (tap_passage t entries tap Ingress (packet src dst from to ttl part)).passes
+  tap-out-admits port (Ip src dst ends ttl part) (Some tap) e =
+      go (tap_passage t entries tap Ingress (packet src dst ends ttl part)) (passage-admits tap.secured (tables_allow t tap.port) tap.port Ingress (key_of (packet src dst ends ttl part)) (tap-there port tap e)) (tap_passage t entries tap Ingress (packet src dst ends ttl part)).passes
     where
-      go : (y : Passage) → Admits t entries y.made → (b : Bool) → Admits t entries (of_step (if b then record { step = stops (Delivered tap.port (Ip4 src dst from to ttl part)); made = y.made } else plain (drops IngressFilter)))
+      go : (y : Passage) → Admits t entries y.made → (b : Bool) → Admits t entries (of_step (if b then record { step = stops (Delivered tap.port (Ip src dst ends ttl part)); made = y.made } else plain (drops IngressFilter)))
       go y a true = a
       go y a false = tt
-  tap-out-admits port (ArpAsk src from to) (Some tap) e = tt
+  tap-out-admits port (NeighbourAsk src ends) (Some tap) e = tt
   tap-out-admits port (Dhcp src from) (Some tap) e = tt
   tap-out-admits port (Other src dst ethertype) (Some tap) e = tt
 
@@ -243,8 +245,8 @@ module _ (t : HostTables) (entries : List Entry) where
   step-admits (Bridge tag frame) = tt
   step-admits (TunnelIn number frame) = tt
   step-admits (WireIn wire frame) = tt
-  step-admits (RouterIn port router (Ip4 src dst from to ttl part)) = router-admits port router (packet src dst from to ttl part) (router_at t router) refl
-  step-admits (RouterIn port router (ArpAsk src from to)) = tt
+  step-admits (RouterIn port router (Ip src dst ends ttl part)) = router-admits port router (packet src dst ends ttl part) (router_at t router) refl
+  step-admits (RouterIn port router (NeighbourAsk src ends)) = tt
   step-admits (RouterIn port router (Dhcp src from)) = tt
   step-admits (RouterIn port router (Other src dst ethertype)) = tt
   step-admits (DhcpIn tag frame) = tt

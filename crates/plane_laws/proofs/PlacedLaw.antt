@@ -12,6 +12,10 @@ use Rattle.plane_laws.proofs.ListLemmas.{find-only, AllOf-more, each-found}
 use Rattle.plane_laws.proofs.MadeLaw.{Admits, IsApart, step-admits}
 use Rattle.api_types.specs.Ident.{Ident}
 use Rattle.api_types.specs.Table.{ident_eq}
+use Rattle.net_addr.specs.Addresses.{addr_eq}
+use Rattle.net_addr.proofs.AddrLemmas.{addr_same}
+use Rattle.net_addr.specs.declared.address.Addr.{Addr}
+use Rattle.plane_types.specs.Ends.{source, destination}
 use Rattle.plane_types.specs.Fabric.{FabricFate, Run, after_step, at_inward, at_tap, begun, fabric_fate, finished, from_outside, from_tap, moved, outside, place_trail, step_path, steps_for, taken, takes, tunnelled, walk, wired}
 use Rattle.plane_types.specs.Hosts.{Host, is_named}
 use Rattle.plane_types.specs.Keys.{key_eq, kind_eq, kind_place}
@@ -66,39 +70,39 @@ count-none-like : {X : Type 0} (p q : X → Bool) (xs : List X) → ((x : X) →
 count-none-like p q xs same none = count-none p xs (λ k x at. same x ∙ none-any q xs none k x at)
 
 -- a test that a translation passes is like the test of that translation's own parts
-meets-like : (router : Ident) (kind : KeyKind) (outer port far far_port : ℕ) (r : Ident) (k : Key) (o p : ℕ) → meets router kind outer port far far_port (Snat r k o p) ≡ true → (e : Entry) → meets router kind outer port far far_port e ≡ meets r k.kind o p k.to k.dport e
+meets-like : (router : Ident) (kind : KeyKind) (outer port : ℕ) (far : Addr) (far_port : ℕ) (r : Ident) (k : Key) (o p : ℕ) → meets router kind outer port far far_port (Snat r k o p) ≡ true → (e : Entry) → meets router kind outer port far far_port e ≡ meets r k.kind o p (destination k.ends) k.dport e
 meets-like router kind outer port far far_port r k o p h (Flow q d x) = refl
 meets-like router kind outer port far far_port r k o p h (Snat s q x y) =
-    let front = and_both (ident_eq router r && (outer == o)) ((p == port) && kind_eq k.kind kind && (k.to == far) && (k.dport == far_port)) h in
+    let front = and_both (ident_eq router r && (outer == o)) ((p == port) && kind_eq k.kind kind && addr_eq (destination k.ends) far && (k.dport == far_port)) h in
     let ids = and_both (ident_eq router r) (outer == o) front.0 in
-    let three = and_both ((p == port) && kind_eq k.kind kind && (k.to == far)) (k.dport == far_port) front.1 in
-    let two = and_both ((p == port) && kind_eq k.kind kind) (k.to == far) three.0 in
+    let three = and_both ((p == port) && kind_eq k.kind kind && addr_eq (destination k.ends) far) (k.dport == far_port) front.1 in
+    let two = and_both ((p == port) && kind_eq k.kind kind) (addr_eq (destination k.ends) far) three.0 in
     let one = and_both (p == port) (kind_eq k.kind kind) two.0 in
     let er : router ≡ r = ident_same router r ids.0 in
     let eo : outer ≡ o = eqb-true outer o ids.1 in
     let ep : p ≡ port = eqb-true p port one.0 in
     let ek : kind_place k.kind ≡ kind_place kind = eqb-true (kind_place k.kind) (kind_place kind) one.1 in
-    let et : k.to ≡ far = eqb-true k.to far two.1 in
+    let et : destination k.ends ≡ far = addr_same (destination k.ends) far two.1 in
     let ed : k.dport ≡ far_port = eqb-true k.dport far_port three.1 in
-    λ j. ident_eq (er j) s && (eo j == x) && ((y == sym ep j) && (kind_place q.kind == sym ek j) && (q.to == sym et j) && (q.dport == sym ed j))
+    λ j. ident_eq (er j) s && (eo j == x) && ((y == sym ep j) && (kind_place q.kind == sym ek j) && addr_eq (destination q.ends) (sym et j) && (q.dport == sym ed j))
 
 translates-like : (router : Ident) (key : Key) (outer : ℕ) (r : Ident) (k : Key) (o p : ℕ) → translates router key outer (Snat r k o p) ≡ true → (e : Entry) → translates router key outer e ≡ translates r k o e
 translates-like router key outer r k o p h (Flow q d x) = refl
 translates-like router key outer r k o p h (Snat s q x y) =
     let front = and_both (ident_eq router r && (outer == o)) (key_eq k key) h in
     let ids = and_both (ident_eq router r) (outer == o) front.0 in
-    let four = and_both (kind_eq k.kind key.kind && (k.from == key.from) && (k.sport == key.sport) && (k.to == key.to)) (k.dport == key.dport) front.1 in
-    let three = and_both (kind_eq k.kind key.kind && (k.from == key.from) && (k.sport == key.sport)) (k.to == key.to) four.0 in
-    let two = and_both (kind_eq k.kind key.kind && (k.from == key.from)) (k.sport == key.sport) three.0 in
-    let one = and_both (kind_eq k.kind key.kind) (k.from == key.from) two.0 in
+    let four = and_both (kind_eq k.kind key.kind && addr_eq (source k.ends) (source key.ends) && (k.sport == key.sport) && addr_eq (destination k.ends) (destination key.ends)) (k.dport == key.dport) front.1 in
+    let three = and_both (kind_eq k.kind key.kind && addr_eq (source k.ends) (source key.ends) && (k.sport == key.sport)) (addr_eq (destination k.ends) (destination key.ends)) four.0 in
+    let two = and_both (kind_eq k.kind key.kind && addr_eq (source k.ends) (source key.ends)) (k.sport == key.sport) three.0 in
+    let one = and_both (kind_eq k.kind key.kind) (addr_eq (source k.ends) (source key.ends)) two.0 in
     let er : router ≡ r = ident_same router r ids.0 in
     let eo : outer ≡ o = eqb-true outer o ids.1 in
     let ek : kind_place k.kind ≡ kind_place key.kind = eqb-true (kind_place k.kind) (kind_place key.kind) one.0 in
-    let ef : k.from ≡ key.from = eqb-true k.from key.from one.1 in
+    let ef : source k.ends ≡ source key.ends = addr_same (source k.ends) (source key.ends) one.1 in
     let es : k.sport ≡ key.sport = eqb-true k.sport key.sport two.1 in
-    let et : k.to ≡ key.to = eqb-true k.to key.to three.1 in
+    let et : destination k.ends ≡ destination key.ends = addr_same (destination k.ends) (destination key.ends) three.1 in
     let ed : k.dport ≡ key.dport = eqb-true k.dport key.dport four.1 in
-    λ j. ident_eq (er j) s && (eo j == x) && ((kind_place q.kind == sym ek j) && (q.from == sym ef j) && (q.sport == sym es j) && (q.to == sym et j) && (q.dport == sym ed j))
+    λ j. ident_eq (er j) s && (eo j == x) && ((kind_place q.kind == sym ek j) && addr_eq (source q.ends) (sym ef j) && (q.sport == sym es j) && addr_eq (destination q.ends) (sym et j) && (q.dport == sym ed j))
 
 -- one more entry that is placed and apart
 pub placed-push : (name : List ℕ) (t : HostTables) (es : List Entry) (e : Entry) → IsPlaced (record { name = name; tables = t; entries = es }) → is_placed t e ≡ true → IsApart es e → IsPlaced (record { name = name; tables = t; entries = es ++ e ∷ [] })
@@ -110,7 +114,7 @@ placed-push name t es (Flow q d k) old stood apart = record {
 placed-push name t es (Snat q k o p) old stood apart = record {
   stand = each-push (λ e. is_placed t e ≡ true) es (Snat q k o p) old.stand stood;
   once_outside = λ r kind x y f g. once-push (meets r kind x y f g) es (Snat q k o p) (old.once_outside r kind x y f g)
-      (λ h. count-none-like (meets r kind x y f g) (meets q k.kind o p k.to k.dport) es (meets-like r kind x y f g q k o p h) apart.0);
+      (λ h. count-none-like (meets r kind x y f g) (meets q k.kind o p (destination k.ends) k.dport) es (meets-like r kind x y f g q k o p h) apart.0);
   once_inside = λ r key x. once-push (translates r key x) es (Snat q k o p) (old.once_inside r key x)
       (λ h. count-none-like (translates r key x) (translates q k o) es (translates-like r key x q k o p h) apart.1);
 }
@@ -132,7 +136,7 @@ fewer-apart T name own fresh makers h =
 
 apart-fewer : (name : List ℕ) (own fresh : List Entry) (makers : List (List ℕ)) (e : Entry) → IsApart (own ++ fresh) e → IsApart (own ++ made_by name fresh makers) e
 apart-fewer name own fresh makers (Flow q d k) h = tt
-apart-fewer name own fresh makers (Snat r k o p) h = (fewer-apart (meets r k.kind o p k.to k.dport) name own fresh makers h.0, fewer-apart (translates r k o) name own fresh makers h.1)
+apart-fewer name own fresh makers (Snat r k o p) h = (fewer-apart (meets r k.kind o p (destination k.ends) k.dport) name own fresh makers h.0, fewer-apart (translates r k o) name own fresh makers h.1)
 
 -- one more at the end
 made_by-push : (P : Entry → List ℕ → Type 0) (name : List ℕ) (es : List Entry) (ms : List (List ℕ)) (e : Entry) (m : List ℕ) → AllMade P es ms → made_by name (es ++ e ∷ []) (ms ++ m ∷ []) ≡ made_by name es ms ++ (if bytes_eq name m then e ∷ [] else [])

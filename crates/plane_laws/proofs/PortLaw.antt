@@ -23,7 +23,7 @@ use Rattle.plane_types.specs.Guard.{passes_guard}
 use Rattle.plane_types.specs.Hosts.{Host, all_entries, is_named}
 use Rattle.api_types.specs.Live.{is_live, network_of, is_at}
 use Rattle.plane_types.specs.Meaning.{asked, dropped, ended, from_live, from_port, from_sender, got, lease_asked, life_of, may_begin, none_so_far, rows_fate, rows_passage, sent_on, sent_out, with_fresh}
-use Rattle.plane_types.specs.Packets.{LeaseAsk, Packet, address_ask, arp_frame, dhcp_frame, ip_frame, is_unsupported, lease_ask, packet}
+use Rattle.plane_types.specs.Packets.{LeaseAsk, Packet, address_ask, ask_frame, dhcp_frame, ip_frame, is_unsupported, lease_ask, packet}
 use Rattle.plane_types.specs.Passage.{Passage}
 use Rattle.plane_types.specs.Places.{Bridge, Next, TapIn}
 use Rattle.plane_types.specs.TableRows.{tag_of, tap_of, tap_row}
@@ -31,7 +31,7 @@ use Rattle.plane_types.specs.TableStep.{drops, plain, tap_at, tap_filtered, tap_
 use Rattle.plane_types.specs.declared.entry.Entry.{Entry}
 use Rattle.plane_types.specs.declared.event.Event.TheVariants.{FromPort}
 use Rattle.plane_types.specs.declared.frame.Frame.{Frame}
-use Rattle.plane_types.specs.declared.frame.Frame.TheVariants.{ArpAsk, Dhcp, Ip4, Other}
+use Rattle.plane_types.specs.declared.frame.Frame.TheVariants.{Dhcp, Ip, NeighbourAsk, Other}
 use Rattle.plane_types.specs.declared.verdict.DropCause.TheVariants.{Dead, Egress as EgressFilter, Spoof, Unsupported}
 use Rattle.plane_types.specs.declared.verdict.Outcome.TheVariants.{Dropped}
 use Rattle.plane_laws.proofs.Facts.{AllOf, FrameFacts, HostFacts, SyncedFacts, has_id}
@@ -66,13 +66,13 @@ module _ (rows : RowLists) (hosts : List Host) (good : FrameFacts rows) (synced 
               ∙ ap (λ m. sent_on rows (got rows (all_entries hosts) (suc x.ttl)) q.network m x (with_fresh (trace_of run) made)) (sym host_is)
 
       sends : (frame : Frame) → 3 * life_of frame + 4 ≤ steps → is_unsupported frame ≡ false → meant (taken hosts (walk hosts (steps - 1)) h (TapIn q.id frame) run (tap_sends h.tables (h.entries ++ run.fresh) (tap_of q (tag.0)) frame)) ≡ from_sender rows (all_entries hosts) (life_of frame) q (trace_of run) frame
-      sends (Ip4 src dst from to ttl part) enough u =
-          ap (λ y. meant (taken hosts (walk hosts (steps - 1)) h (TapIn q.id (ip_frame (packet src dst from to ttl part))) run (tap_filtered (ip_frame (packet src dst from to ttl part)) (tap_of q (tag.0)) y))) (passage-here rows hosts good synced h test q found live plain_port named Egress (packet src dst from to ttl part) run.fresh)
-          ∙ packet-case (ip_frame (packet src dst from to ttl part)) (packet src dst from to ttl part) enough (rows_passage rows (all_entries hosts ++ run.fresh) q Egress (packet src dst from to ttl part))
-      sends (ArpAsk src from to) enough u =
-          arp-law rows hosts good synced (steps - 1) h q.network net.0 tag.0 (address_ask src from to) (after_step h (TapIn q.id (arp_frame (address_ask src from to))) (plain (Next (Bridge (tag.0) (arp_frame (address_ask src from to))))) run) (omega arith) self net.1 tag.1
-          ∙ ap (λ t. ended t (asked rows q.network h.name (address_ask src from to))) (trace-plain h (TapIn q.id (arp_frame (address_ask src from to))) (Next (Bridge (tag.0) (arp_frame (address_ask src from to)))) run refl)
-          ∙ ap (λ m. ended (trace_of run) (asked rows q.network m (address_ask src from to))) (sym host_is)
+      sends (Ip src dst ends ttl part) enough u =
+          ap (λ y. meant (taken hosts (walk hosts (steps - 1)) h (TapIn q.id (ip_frame (packet src dst ends ttl part))) run (tap_filtered (ip_frame (packet src dst ends ttl part)) (tap_of q (tag.0)) y))) (passage-here rows hosts good synced h test q found live plain_port named Egress (packet src dst ends ttl part) run.fresh)
+          ∙ packet-case (ip_frame (packet src dst ends ttl part)) (packet src dst ends ttl part) enough (rows_passage rows (all_entries hosts ++ run.fresh) q Egress (packet src dst ends ttl part))
+      sends (NeighbourAsk src ends) enough u =
+          arp-law rows hosts good synced (steps - 1) h q.network net.0 tag.0 (address_ask src ends) (after_step h (TapIn q.id (ask_frame (address_ask src ends))) (plain (Next (Bridge (tag.0) (ask_frame (address_ask src ends))))) run) (omega arith) self net.1 tag.1
+          ∙ ap (λ t. ended t (asked rows q.network h.name (address_ask src ends))) (trace-plain h (TapIn q.id (ask_frame (address_ask src ends))) (Next (Bridge (tag.0) (ask_frame (address_ask src ends)))) run refl)
+          ∙ ap (λ m. ended (trace_of run) (asked rows q.network m (address_ask src ends))) (sym host_is)
       sends (Dhcp src from) enough u =
           leases (steps - 1) h q.network net.0 tag.0 (lease_ask src from) (after_step h (TapIn q.id (dhcp_frame (lease_ask src from))) (plain (Next (Bridge (tag.0) (dhcp_frame (lease_ask src from))))) run) (omega arith) self net.1 tag.1
           ∙ ap (λ t. ended t (lease_asked rows q.network h.name (lease_ask src from))) (trace-plain h (TapIn q.id (dhcp_frame (lease_ask src from))) (Next (Bridge (tag.0) (dhcp_frame (lease_ask src from)))) run refl)

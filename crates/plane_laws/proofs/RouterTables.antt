@@ -6,6 +6,8 @@ use Rattle.std.proofs.lemmas.Bool.{leb-false}
 use Rattle.net_addr.specs.declared.address.Addr.TheVariants.{V4}
 use Rattle.net_addr.specs.declared.address.Addr.{Addr}
 use Rattle.api_types.specs.Table.{ident_eq}
+use Rattle.net_addr.specs.Addresses.{addr_eq}
+use Rattle.plane_types.specs.Ends.{are_four, destination, source, with_source}
 use Rattle.plane_types.specs.Crossing.{not_delivered}
 use Rattle.plane_types.specs.Keys.{key_eq}
 use Rattle.plane_types.specs.Packets.{Packet, key_of}
@@ -26,7 +28,7 @@ Keeps n (Some s) = s.packet.ttl ≡ n
 
 module _ (v : RouterView) (uses : List Use) where
   destined-ttl : (p : Packet) → (destined v uses p).packet.ttl ≡ p.ttl
-  destined-ttl p = go (find (λ (f : Float). f.floating == p.to) v.floats)
+  destined-ttl p = go (find (λ (f : Float). addr_eq (V4 f.floating) (destination p.ends)) v.floats)
     where
       by : (o : Option Use) → (destined_entry p o).packet.ttl ≡ p.ttl
       by None = refl
@@ -37,7 +39,7 @@ module _ (v : RouterView) (uses : List Use) where
       go None = by (find (answers v.gateway p) uses)
 
   sourced-ttl : (way_in out : Leg) (by : Changed) (p : Packet) → Keeps p.ttl (sourced v uses way_in out by p)
-  sourced-ttl way_in out by p = start (way_in.inside && (not out.inside || by_any by))
+  sourced-ttl way_in out by p = start (are_four p.ends && way_in.inside && (not out.inside || by_any by))
     where
       fresh : (outer : ℕ) (o : Option ℕ) → Keeps p.ttl (sourced_new v.id p outer o)
       fresh outer None = tt
@@ -51,14 +53,14 @@ module _ (v : RouterView) (uses : List Use) where
       gateway None = refl
       gateway (Some outer) = by_use outer (find (λ (u : Use). key_eq u.key (key_of p)) uses)
 
-      float : (o : Option Float) (b : Bool) → Keeps p.ttl (elim o [ Some f ↦ Some (record { packet = record p { from = f.floating }; made = [] }) | None ↦ (if b then sourced_gateway v uses p v.gateway else kept_source p) ])
+      float : (o : Option Float) (b : Bool) → Keeps p.ttl (elim o [ Some f ↦ Some (record { packet = record p { ends = with_source p.ends f.floating }; made = [] }) | None ↦ (if b then sourced_gateway v uses p v.gateway else kept_source p) ])
       float (Some f) b = refl
       float None true = gateway v.gateway
       float None false = refl
 
-      start : (b : Bool) → Keeps p.ttl (if b then sourced_float v uses out by p (find (λ (f : Float). f.fixed == p.from) v.floats) else kept_source p)
+      start : (b : Bool) → Keeps p.ttl (if b then sourced_float v uses out by p (find (λ (f : Float). addr_eq (V4 f.fixed) (source p.ends)) v.floats) else kept_source p)
       start false = refl
-      start true = floated (find (λ (f : Float). f.fixed == p.from) v.floats)
+      start true = floated (find (λ (f : Float). addr_eq (V4 f.fixed) (source p.ends)) v.floats)
         where
           floated : (o : Option Float) → Keeps p.ttl (sourced_float v uses out by p o)
           floated (Some f) = refl
@@ -69,7 +71,7 @@ module _ (v : RouterView) (uses : List Use) where
   sent-ttl out hop n m (Some s) lt k = omega arith
 
   to-ttl : (way_in : Leg) (d : Destined) (n : ℕ) → d.packet.ttl ≡ n → Lower n (routed_to v uses way_in d)
-  to-ttl way_in d n e = go (is_own v (V4 d.packet.to)) (nat_le d.packet.ttl 1) refl
+  to-ttl way_in d n e = go (is_own v (destination d.packet.ends)) (nat_le d.packet.ttl 1) refl
     where
       p : Packet
       p = record (d.packet) { ttl = d.packet.ttl - 1 }
@@ -80,12 +82,12 @@ module _ (v : RouterView) (uses : List Use) where
 
       way : (o : Option Way) → 0 < d.packet.ttl → Lower n (routed_way v uses way_in d.by (record (d.packet) { ttl = d.packet.ttl - 1 }) o)
       way None lt = refl
-      way (Some w) lt = out (unwrap_or w.next (V4 d.packet.to)) (find (λ (l : Leg). ident_eq w.port l.port) v.legs) lt
+      way (Some w) lt = out (unwrap_or w.next (destination d.packet.ends)) (find (λ (l : Leg). ident_eq w.port l.port) v.legs) lt
 
-      go : (own low : Bool) → nat_le d.packet.ttl 1 ≡ low → Lower n (if own then RouteEnds (Absorbed v.id) else if low then RouteEnds (Dropped Expired) else routed_way v uses way_in d.by (record (d.packet) { ttl = d.packet.ttl - 1 }) (best_way (V4 d.packet.to) v.ways))
+      go : (own low : Bool) → nat_le d.packet.ttl 1 ≡ low → Lower n (if own then RouteEnds (Absorbed v.id) else if low then RouteEnds (Dropped Expired) else routed_way v uses way_in d.by (record (d.packet) { ttl = d.packet.ttl - 1 }) (best_way (destination d.packet.ends) v.ways))
       go true low f = refl
       go false true f = refl
-      go false false f = let above : 1 < d.packet.ttl = leb-false d.packet.ttl 1 f in way (best_way (V4 d.packet.to) v.ways) (omega arith)
+      go false false f = let above : 1 < d.packet.ttl = leb-false d.packet.ttl 1 f in way (best_way (destination d.packet.ends) v.ways) (omega arith)
 
 pub routed-lower : (v : RouterView) (entries : List Entry) (way_in : Leg) (p : Packet) → Lower p.ttl (routed v entries way_in p)
 unfolding routed
@@ -106,7 +108,7 @@ module _ (v : RouterView) (uses : List Use) where
   sent-lives out hop n m (Some s) e more k = (ap suc k ∙ e, omega (arith, more, k))
 
   to-lives : (way_in : Leg) (d : Destined) (n : ℕ) → d.packet.ttl ≡ n → Lives n (routed_to v uses way_in d)
-  to-lives way_in d n e = go (is_own v (V4 d.packet.to)) (nat_le d.packet.ttl 1) refl
+  to-lives way_in d n e = go (is_own v (destination d.packet.ends)) (nat_le d.packet.ttl 1) refl
     where
       out : (hop : Addr) (o : Option Leg) → 1 < d.packet.ttl → Lives n (routed_out v uses way_in d.by (record (d.packet) { ttl = d.packet.ttl - 1 }) hop o)
       out hop None lt = tt
@@ -114,12 +116,12 @@ module _ (v : RouterView) (uses : List Use) where
 
       way : (o : Option Way) → 1 < d.packet.ttl → Lives n (routed_way v uses way_in d.by (record (d.packet) { ttl = d.packet.ttl - 1 }) o)
       way None lt = tt
-      way (Some w) lt = out (unwrap_or w.next (V4 d.packet.to)) (find (λ (l : Leg). ident_eq w.port l.port) v.legs) lt
+      way (Some w) lt = out (unwrap_or w.next (destination d.packet.ends)) (find (λ (l : Leg). ident_eq w.port l.port) v.legs) lt
 
-      go : (own low : Bool) → nat_le d.packet.ttl 1 ≡ low → Lives n (if own then RouteEnds (Absorbed v.id) else if low then RouteEnds (Dropped Expired) else routed_way v uses way_in d.by (record (d.packet) { ttl = d.packet.ttl - 1 }) (best_way (V4 d.packet.to) v.ways))
+      go : (own low : Bool) → nat_le d.packet.ttl 1 ≡ low → Lives n (if own then RouteEnds (Absorbed v.id) else if low then RouteEnds (Dropped Expired) else routed_way v uses way_in d.by (record (d.packet) { ttl = d.packet.ttl - 1 }) (best_way (destination d.packet.ends) v.ways))
       go true low f = tt
       go false true f = tt
-      go false false f = way (best_way (V4 d.packet.to) v.ways) (leb-false d.packet.ttl 1 f)
+      go false false f = way (best_way (destination d.packet.ends) v.ways) (leb-false d.packet.ttl 1 f)
 
 pub routed-lives : (v : RouterView) (entries : List Entry) (way_in : Leg) (p : Packet) → Lives p.ttl (routed v entries way_in p)
 unfolding routed

@@ -28,7 +28,7 @@ use Rattle.plane_types.specs.declared.entry.Entry.{Entry}
 use Rattle.plane_types.specs.declared.event.Event.{Event}
 use Rattle.plane_types.specs.declared.event.Event.TheVariants.{FromPort, FromWire}
 use Rattle.plane_types.specs.declared.frame.Frame.{Frame}
-use Rattle.plane_types.specs.declared.frame.Frame.TheVariants.{ArpAsk, Dhcp, Ip4, Other}
+use Rattle.plane_types.specs.declared.frame.Frame.TheVariants.{Dhcp, Ip, NeighbourAsk, Other}
 use Rattle.plane_types.specs.declared.frame.Key.{Key}
 use Rattle.plane_types.specs.declared.verdict.DropCause.TheVariants.{Dead, Spoof, Unsupported}
 
@@ -72,19 +72,19 @@ module _ (rows : RowLists) (a b : List Entry) (same : SameEntries a b) where
       t = record { path = p.network ∷ []; fresh = [] }
 
       sender : (frame : Frame) → from_sender rows a many p (record { path = p.network ∷ []; fresh = [] }) frame ≡ from_sender rows b many p (record { path = p.network ∷ []; fresh = [] }) frame
-      sender (Ip4 src dst from to ttl part) = ap (λ on. sent_out rows on p (packet src dst from to ttl part) (record { path = p.network ∷ []; fresh = [] }) (rows_passage rows (a ++ []) p Egress (packet src dst from to ttl part))) (got-same many) ∙ ap (sent_out rows (got rows b many) p (packet src dst from to ttl part) (record { path = p.network ∷ []; fresh = [] })) (passage-more [] p Egress (packet src dst from to ttl part))
-      sender (ArpAsk src from to) = refl
+      sender (Ip src dst ends ttl part) = ap (λ on. sent_out rows on p (packet src dst ends ttl part) (record { path = p.network ∷ []; fresh = [] }) (rows_passage rows (a ++ []) p Egress (packet src dst ends ttl part))) (got-same many) ∙ ap (sent_out rows (got rows b many) p (packet src dst ends ttl part) (record { path = p.network ∷ []; fresh = [] })) (passage-more [] p Egress (packet src dst ends ttl part))
+      sender (NeighbourAsk src ends) = refl
       sender (Dhcp src from) = refl
       sender (Other s d y) = refl
 
   wire-same : (many : ℕ) (frame : Frame) (o : Option NetworkRow) → from_wire rows a many frame o ≡ from_wire rows b many frame o
   wire-same many frame None = refl
-  wire-same many (Ip4 src dst from to ttl part) (Some n) = by (port_at rows n.id dst)
+  wire-same many (Ip src dst ends ttl part) (Some n) = by (port_at rows n.id dst)
     where
-      by : (o : Option PortRow) → wire_packet rows a many n (packet src dst from to ttl part) o ≡ wire_packet rows b many n (packet src dst from to ttl part) o
+      by : (o : Option PortRow) → wire_packet rows a many n (packet src dst ends ttl part) o ≡ wire_packet rows b many n (packet src dst ends ttl part) o
       by None = refl
-      by (Some q) = ap (λ on. on q (packet src dst from to ttl part) (on_path n)) (got-same many)
-  wire-same many (ArpAsk src from to) (Some n) = refl
+      by (Some q) = ap (λ on. on q (packet src dst ends ttl part) (on_path n)) (got-same many)
+  wire-same many (NeighbourAsk src ends) (Some n) = refl
   wire-same many (Dhcp src from) (Some n) = refl
   wire-same many (Other s d y) (Some n) = refl
 

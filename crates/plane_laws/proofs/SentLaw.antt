@@ -62,10 +62,10 @@ wire_away (Flat p) w q h = refl
 wire_away (Vlan p t) w q h = refl
 wire_away (Vxlan m) w q h = cc
 
-takes_here : (rows : RowLists) (q : PortRow) (to : BridgeTo) → to_here rows q ≡ Some to → (tag : ℕ) → takes_to (bridge_by (AtMac q.mac) (Some to) (Some tag)) ≡ true
-takes_here rows q (ToTap i) e tag = refl
-takes_here rows q (ToRouter r i) e tag = refl
-takes_here rows q (ToHost h m) e tag = let l = led-here rows q (ToHost h m) e true tag (record { src = 0; dst = 0; from = 0; to = 0; ttl = 0; part = Proto 0 }) in cc
+takes_here : (p : Packet) (rows : RowLists) (q : PortRow) (to : BridgeTo) → to_here rows q ≡ Some to → (tag : ℕ) → takes_to (bridge_by (AtMac q.mac) (Some to) (Some tag)) ≡ true
+takes_here p rows q (ToTap i) e tag = refl
+takes_here p rows q (ToRouter r i) e tag = refl
+takes_here p rows q (ToHost h m) e tag = let l = led-here rows q (ToHost h m) e true tag p in cc
 
 -- a host takes a packet from a wire where the port with its MAC is there
 module _ (rows : RowLists) (good : FrameFacts rows) (n : Ident) (net : NetworkRow) (there : network_of rows n ≡ Some net) (w : Wire) (wired_by : wire_of (segment rows n) ≡ Some w) (p : Packet) where
@@ -98,7 +98,7 @@ module _ (rows : RowLists) (good : FrameFacts rows) (n : Ident) (net : NetworkRo
           by false away = ap takes_to (row-located rows good x.name x.tables real n tag is p q e None (end-away rows good x.name x.tables real n tag is p q e away ∙ wire_away (segment rows n) w q wired_by))
           by true here =
               let to = end-here rows good (has_mac rows n p.dst) q e (live-found rows good x.name x.tables real n tag is p q e) in
-              ap takes_to (row-located rows good x.name x.tables real n tag is p q e (Some to.0) (end-is rows good x.name x.tables real n tag is p q e here to.0 to.1)) ∙ takes_here rows q to.0 to.1 tag
+              ap takes_to (row-located rows good x.name x.tables real n tag is p q e (Some to.0) (end-is rows good x.name x.tables real n tag is p q e here to.0 to.1)) ∙ takes_here p rows q to.0 to.1 tag
 
       go : (o : Option ℕ) → tag_of x.tables.tags n ≡ o → takes w (ip_frame p) x ≡ at_opt x.name (port_at rows n p.dst)
       go None e = ap (takes_at x.tables (ip_frame p)) (inward-none rows x.name x.tables real good n net (ByWire w) there e carrier (wire_self w)) ∙ untagged e (port_at rows n p.dst) refl

@@ -13,7 +13,6 @@ use Rattle.plane_laws.proofs.SentLaw.{at_opt, wire_self, wire_carrier, takes-law
 use Rattle.plane_laws.proofs.LandsLaw.{lands-law}
 use Rattle.plane_laws.proofs.Neighbours.{row_at, neighbour-located, holder-at}
 use Rattle.plane_laws.proofs.Leases.{lease-takes, lease-carried}
-use Rattle.net_addr.specs.declared.address.Addr.TheVariants.{V4}
 use Rattle.api_types.specs.Owners.{is_dhcp}
 use Rattle.api_types.specs.RowLists.{RowLists}
 use Rattle.api_types.specs.Table.{ident_eq}
@@ -21,19 +20,20 @@ use Rattle.api_types.specs.declared.network.NetworkRow.{NetworkRow}
 use Rattle.api_types.specs.declared.network.Segment.{Segment}
 use Rattle.api_types.specs.declared.network.Segment.TheVariants.{Flat, Local, Vlan, Vxlan}
 use Rattle.api_types.specs.declared.port.PortRow.{PortRow}
+use Rattle.plane_types.specs.Ends.{destination}
 use Rattle.plane_types.specs.Fabric.{at_inward, begun, fabric_fate, finished, from_outside, meant, network_at, steps_for, taken, takes, takes_at, walk}
 use Rattle.api_types.specs.Holders.{dhcp_port, has_mac, holder, is_live_dhcp_of, port_at}
 use Rattle.plane_types.specs.Hosts.{Host, all_entries, is_named}
 use Rattle.api_types.specs.Live.{is_live, is_local, joined_with, network_of, segment, segment_of, is_at}
 use Rattle.api_types.specs.Wires.{tag_eq, wire_eq, wire_of, is_wire, network_on}
 use Rattle.plane_types.specs.Meaning.{dropped, ended, from_network, from_wire, life_of, none_so_far, on_path, rows_fate, wire_ask, wire_lease, wire_packet}
-use Rattle.plane_types.specs.Packets.{AddressAsk, LeaseAsk, Packet, address_ask, arp_frame, dhcp_frame, ip_frame, is_unsupported, lease_ask, packet}
+use Rattle.plane_types.specs.Packets.{AddressAsk, LeaseAsk, Packet, address_ask, ask_frame, dhcp_frame, ip_frame, is_unsupported, lease_ask, packet}
 use Rattle.plane_types.specs.Places.{WireIn}
 use Rattle.plane_types.specs.TableRows.{carrier_of, inward_row, inward_rows, is_tagged, tag_of}
-use Rattle.plane_types.specs.TableStep.{arp_by, bridge_at_tag, carrier_eq, inward_at, inward_step, plain}
+use Rattle.plane_types.specs.TableStep.{asked_at, bridge_at_tag, carrier_eq, inward_at, inward_step, plain}
 use Rattle.plane_types.specs.declared.event.Event.TheVariants.{FromWire}
 use Rattle.plane_types.specs.declared.frame.Frame.{Frame}
-use Rattle.plane_types.specs.declared.frame.Frame.TheVariants.{ArpAsk, Dhcp, Ip4, Other}
+use Rattle.plane_types.specs.declared.frame.Frame.TheVariants.{Dhcp, Ip, NeighbourAsk, Other}
 use Rattle.plane_types.specs.declared.table.Carrier.TheVariants.{Wire as ByWire}
 use Rattle.plane_types.specs.declared.table.InwardRow.{InwardRow}
 use Rattle.plane_types.specs.declared.table.TagRow.{TagRow}
@@ -158,61 +158,61 @@ module _ (rows : RowLists) (hosts : List Host) (good : FrameFacts rows) (synced 
     wire_far (Vlan p t) e = refl
     wire_far (Vxlan m) e = refl
 
-    module _ (a : AddressAsk) (q : PortRow) (held : holder rows net.id (V4 a.to) ≡ Some q) where
+    module _ (a : AddressAsk) (q : PortRow) (held : holder rows net.id (destination a.ends) ≡ Some q) where
       parts : ((ident_eq net.id q.network && (q.mac == q.mac)) ≡ true) × (is_live rows q ≡ true)
-      parts = and_parts (ident_eq net.id q.network && (q.mac == q.mac)) (is_live rows q) (find-passes (has_mac rows net.id q.mac) rows.ports q (holder-at rows good net.id (V4 a.to) q held))
+      parts = and_parts (ident_eq net.id q.network && (q.mac == q.mac)) (is_live rows q) (find-passes (has_mac rows net.id q.mac) rows.ports q (holder-at rows good net.id (destination a.ends) q held))
 
       same : net.id ≡ q.network
       same = ident_same net.id q.network (and_parts (ident_eq net.id q.network) (q.mac == q.mac) parts.0).0
 
-      joined : (name : List ℕ) → joined_with rows name (holder rows net.id (V4 a.to)) ≡ Some q
+      joined : (name : List ℕ) → joined_with rows name (holder rows net.id (destination a.ends)) ≡ Some q
       joined name = ap (joined_with rows name) held ∙ ap (λ b. if b then Some q else None) (ap (λ i. not (is_local (segment rows i)) || bytes_eq q.host name) (sym same) ∙ ap (λ b. not b || bytes_eq q.host name) (wire_far (segment rows net.id) wire-is))
 
-      takes-tagged : (x : Host) (real : HostFacts rows x.name x.tables) (tag : ℕ) → tag_of x.tables.tags net.id ≡ Some tag → takes w (arp_frame a) x ≡ true
+      takes-tagged : (x : Host) (real : HostFacts rows x.name x.tables) (tag : ℕ) → tag_of x.tables.tags net.id ≡ Some tag → takes w (ask_frame a) x ≡ true
       takes-tagged x real tag is =
-          ap (takes_at x.tables (arp_frame a)) (inward-located rows x.name x.tables real good net.id tag (ByWire w) is carrier (wire_self w))
-          ∙ ap is_some (neighbour-located rows x.name x.tables real good net.id tag is (V4 a.to) ∙ ap (option_map (row_at tag (V4 a.to))) (joined x.name))
+          ap (takes_at x.tables (ask_frame a)) (inward-located rows x.name x.tables real good net.id tag (ByWire w) is carrier (wire_self w))
+          ∙ ap is_some (neighbour-located rows x.name x.tables real good net.id tag is (destination a.ends) ∙ ap (option_map (row_at tag (destination a.ends))) (joined x.name))
 
-      taker : (x : Host) × (find (takes w (arp_frame a)) hosts ≡ Some x)
+      taker : (x : Host) × (find (takes w (ask_frame a)) hosts ≡ Some x)
       taker =
-          let e = holder-at rows good net.id (V4 a.to) q held in
+          let e = holder-at rows good net.id (destination a.ends) q held in
           let x0 = home q (has_mac rows net.id q.mac) e parts.1 same in
           let tag = home_tag q (has_mac rows net.id q.mac) e parts.1 same in
-          some_of (find (takes w (arp_frame a)) hosts) (find-some (takes w (arp_frame a)) hosts ∙ list_any-found (is_named q.host) (takes w (arp_frame a)) hosts x0.0 x0.1 (takes-tagged x0.0 (home_real q (has_mac rows net.id q.mac) e parts.1 same) tag.0 tag.1))
+          some_of (find (takes w (ask_frame a)) hosts) (find-some (takes w (ask_frame a)) hosts ∙ list_any-found (is_named q.host) (takes w (ask_frame a)) hosts x0.0 x0.1 (takes-tagged x0.0 (home_real q (has_mac rows net.id q.mac) e parts.1 same) tag.0 tag.1))
 
-      answered-at : (x : Host) (real : HostFacts rows x.name x.tables) (tag : ℕ) → tag_of x.tables.tags net.id ≡ Some tag → meant (walk hosts 3 x (WireIn w (arp_frame a)) (begun (at_inward x (inward_at x.tables (ByWire w))))) ≡ ended (on_path net) (Answered (ArpAnswer (V4 a.to) q.mac))
+      answered-at : (x : Host) (real : HostFacts rows x.name x.tables) (tag : ℕ) → tag_of x.tables.tags net.id ≡ Some tag → meant (walk hosts 3 x (WireIn w (ask_frame a)) (begun (at_inward x (inward_at x.tables (ByWire w))))) ≡ ended (on_path net) (Answered (ArpAnswer (destination a.ends) q.mac))
       answered-at x real tag is =
-          ap (λ p. meant (walk hosts 3 x (WireIn w (arp_frame a)) (begun p))) (path-begins x real tag is)
-          ∙ ap meant (walk-on hosts 3 x (WireIn w (arp_frame a)) (begun (net.id ∷ [])) (omega arith))
-          ∙ ap (λ s. meant (taken hosts (walk hosts 2) x (WireIn w (arp_frame a)) (begun (net.id ∷ [])) (plain s)))
-          (ap (inward_step x.tables (arp_frame a)) (inward-located rows x.name x.tables real good net.id tag (ByWire w) is carrier (wire_self w))
-          ∙ ap (bridge_at_tag x.tables true (arp_frame a)) (tag-row rows x.name x.tables.tags real.tags net.id tag is)
-          ∙ ap (arp_by true (record { network = net.id; tag = tag; wire = wire_of (segment rows net.id) }) a) (neighbour-located rows x.name x.tables real good net.id tag is (V4 a.to) ∙ ap (option_map (row_at tag (V4 a.to))) (joined x.name)))
+          ap (λ p. meant (walk hosts 3 x (WireIn w (ask_frame a)) (begun p))) (path-begins x real tag is)
+          ∙ ap meant (walk-on hosts 3 x (WireIn w (ask_frame a)) (begun (net.id ∷ [])) (omega arith))
+          ∙ ap (λ s. meant (taken hosts (walk hosts 2) x (WireIn w (ask_frame a)) (begun (net.id ∷ [])) (plain s)))
+          (ap (inward_step x.tables (ask_frame a)) (inward-located rows x.name x.tables real good net.id tag (ByWire w) is carrier (wire_self w))
+          ∙ ap (bridge_at_tag x.tables true (ask_frame a)) (tag-row rows x.name x.tables.tags real.tags net.id tag is)
+          ∙ ap (asked_at true (record { network = net.id; tag = tag; wire = wire_of (segment rows net.id) }) a) (neighbour-located rows x.name x.tables real good net.id tag is (destination a.ends) ∙ ap (option_map (row_at tag (destination a.ends))) (joined x.name)))
 
-      asked-some : meant (from_outside hosts w (arp_frame a) (find (takes w (arp_frame a)) hosts)) ≡ ended (on_path net) (Answered (ArpAnswer (V4 a.to) q.mac))
+      asked-some : meant (from_outside hosts w (ask_frame a) (find (takes w (ask_frame a)) hosts)) ≡ ended (on_path net) (Answered (ArpAnswer (destination a.ends) q.mac))
       unfolding steps_for
       asked-some =
-          let real : HostFacts rows (taker.0).name (taker.0).tables = find-each (λ (y : Host). HostFacts rows y.name y.tables) (takes w (arp_frame a)) hosts taker.0 synced.realise taker.1 in
-          ap (λ o. meant (from_outside hosts w (arp_frame a) o)) taker.1 ∙ go real (tag_of (taker.0).tables.tags net.id) refl
+          let real : HostFacts rows (taker.0).name (taker.0).tables = find-each (λ (y : Host). HostFacts rows y.name y.tables) (takes w (ask_frame a)) hosts taker.0 synced.realise taker.1 in
+          ap (λ o. meant (from_outside hosts w (ask_frame a) o)) taker.1 ∙ go real (tag_of (taker.0).tables.tags net.id) refl
         where
-          go : (real : HostFacts rows (taker.0).name (taker.0).tables) (o : Option ℕ) → tag_of (taker.0).tables.tags net.id ≡ o → meant (walk hosts 3 taker.0 (WireIn w (arp_frame a)) (begun (at_inward taker.0 (inward_at (taker.0).tables (ByWire w))))) ≡ ended (on_path net) (Answered (ArpAnswer (V4 a.to) q.mac))
+          go : (real : HostFacts rows (taker.0).name (taker.0).tables) (o : Option ℕ) → tag_of (taker.0).tables.tags net.id ≡ o → meant (walk hosts 3 taker.0 (WireIn w (ask_frame a)) (begun (at_inward taker.0 (inward_at (taker.0).tables (ByWire w))))) ≡ ended (on_path net) (Answered (ArpAnswer (destination a.ends) q.mac))
           go real None e =
-              let off : takes w (arp_frame a) taker.0 ≡ false = ap (takes_at (taker.0).tables (arp_frame a)) (inward-none rows (taker.0).name (taker.0).tables real good net.id net (ByWire w) own.0 e carrier (wire_self w)) in
-              let on : takes w (arp_frame a) taker.0 ≡ true = find-passes (takes w (arp_frame a)) hosts taker.0 taker.1 in
+              let off : takes w (ask_frame a) taker.0 ≡ false = ap (takes_at (taker.0).tables (ask_frame a)) (inward-none rows (taker.0).name (taker.0).tables real good net.id net (ByWire w) own.0 e carrier (wire_self w)) in
+              let on : takes w (ask_frame a) taker.0 ≡ true = find-passes (takes w (ask_frame a)) hosts taker.0 taker.1 in
               cc
           go real (Some tag) e = answered-at taker.0 real tag e
 
-    ask : (a : AddressAsk) (o : Option PortRow) → holder rows net.id (V4 a.to) ≡ o → meant (from_outside hosts w (arp_frame a) (find (takes w (arp_frame a)) hosts)) ≡ wire_ask net a o
-    ask a None e = untaken (arp_frame a) (AllOf-more (λ (y : Host). HostFacts rows y.name y.tables) (λ (y : Host). takes w (arp_frame a) y ≡ false) hosts (λ y r. by y r (tag_of y.tables.tags net.id) refl) synced.realise)
+    ask : (a : AddressAsk) (o : Option PortRow) → holder rows net.id (destination a.ends) ≡ o → meant (from_outside hosts w (ask_frame a) (find (takes w (ask_frame a)) hosts)) ≡ wire_ask net a o
+    ask a None e = untaken (ask_frame a) (AllOf-more (λ (y : Host). HostFacts rows y.name y.tables) (λ (y : Host). takes w (ask_frame a) y ≡ false) hosts (λ y r. by y r (tag_of y.tables.tags net.id) refl) synced.realise)
       where
-        by : (y : Host) → HostFacts rows y.name y.tables → (o : Option ℕ) → tag_of y.tables.tags net.id ≡ o → takes w (arp_frame a) y ≡ false
-        by y r None f = ap (takes_at y.tables (arp_frame a)) (inward-none rows y.name y.tables r good net.id net (ByWire w) own.0 f carrier (wire_self w))
-        by y r (Some tag) f = ap (takes_at y.tables (arp_frame a)) (inward-located rows y.name y.tables r good net.id tag (ByWire w) f carrier (wire_self w)) ∙ ap is_some (neighbour-located rows y.name y.tables r good net.id tag f (V4 a.to) ∙ ap (λ o. option_map (row_at tag (V4 a.to)) (joined_with rows y.name o)) e)
+        by : (y : Host) → HostFacts rows y.name y.tables → (o : Option ℕ) → tag_of y.tables.tags net.id ≡ o → takes w (ask_frame a) y ≡ false
+        by y r None f = ap (takes_at y.tables (ask_frame a)) (inward-none rows y.name y.tables r good net.id net (ByWire w) own.0 f carrier (wire_self w))
+        by y r (Some tag) f = ap (takes_at y.tables (ask_frame a)) (inward-located rows y.name y.tables r good net.id tag (ByWire w) f carrier (wire_self w)) ∙ ap is_some (neighbour-located rows y.name y.tables r good net.id tag f (destination a.ends) ∙ ap (λ o. option_map (row_at tag (destination a.ends)) (joined_with rows y.name o)) e)
     ask a (Some q) e = asked-some a q e
 
     by-network : (frame : Frame) → is_unsupported frame ≡ false → meant (from_outside hosts w frame (find (takes w frame) hosts)) ≡ from_network rows (all_entries hosts) (life_of frame) net frame
-    by-network (Ip4 src dst from to ttl part) u = packet-case (packet src dst from to ttl part) (port_at rows net.id (packet src dst from to ttl part).dst) refl
-    by-network (ArpAsk src from to) u = ask (address_ask src from to) (holder rows net.id (V4 (address_ask src from to).to)) refl
+    by-network (Ip src dst ends ttl part) u = packet-case (packet src dst ends ttl part) (port_at rows net.id (packet src dst ends ttl part).dst) refl
+    by-network (NeighbourAsk src ends) u = ask (address_ask src ends) (holder rows net.id (destination (address_ask src ends).ends)) refl
     by-network (Dhcp src from) u = lease (lease_ask src from) (dhcp_port rows net.id) refl
     by-network (Other s d y) u = cc
 

@@ -12,7 +12,8 @@ use Rattle.api_types.specs.declared.group.RuleRow.{RuleRow}
 use Rattle.api_types.specs.declared.network.Segment.TheVariants.{Flat, Vxlan}
 use Rattle.api_types.specs.declared.router.RouterRow.{RouterRow}
 use Rattle.api_types.specs.declared.subnet.Hop.{Hop}
-use Rattle.plane_types.proofs.WorkedRows.{c1, c2, drawn_mac, flow, gateway_on, group, guarded, held, hop, host, id, interface, ip, leasing, local_mac, network, no_rows, open_port, physnet1, prefix, router, rule, subnet, tag, tcp, tcp_key}
+use Rattle.plane_types.specs.Ends.{source, destination}
+use Rattle.plane_types.proofs.WorkedRows.{ends, c1, c2, drawn_mac, flow, gateway_on, group, guarded, held, hop, host, id, interface, ip, leasing, local_mac, network, no_rows, open_port, physnet1, prefix, router, rule, subnet, tag, tcp, tcp_key}
 use Rattle.api_types.specs.Ascending.{ascending, put_in}
 use Rattle.plane_types.specs.Fabric.{fabric_fate, steps_for, walk}
 use Rattle.plane_types.specs.Filter.{rule_matches, rules_allow}
@@ -31,7 +32,7 @@ use Rattle.plane_types.specs.declared.entry.Entry.TheVariants.{Snat}
 use Rattle.plane_types.specs.declared.event.Event.{Event}
 use Rattle.plane_types.specs.declared.event.Event.TheVariants.{FromPort, FromWire}
 use Rattle.plane_types.specs.declared.frame.Frame.{Frame}
-use Rattle.plane_types.specs.declared.frame.Frame.TheVariants.{ArpAsk, Dhcp, Ip4}
+use Rattle.plane_types.specs.declared.frame.Frame.TheVariants.{Dhcp, Ip, NeighbourAsk}
 use Rattle.plane_types.specs.declared.frame.Key.{Key}
 use Rattle.plane_types.specs.declared.frame.KeyKind.TheVariants.{EchoAsk as AskKey, Proto as ProtoKey}
 use Rattle.plane_types.specs.declared.frame.KeyPart.TheVariants.{EchoAsk, EchoReply, Proto}
@@ -63,14 +64,14 @@ joined = record no_rows {
 }
 
 abbrev echo : ℕ → Frame
-echo ttl = Ip4 (local_mac 5) (drawn_mac 0) (ip 10 0 0 5) (ip 10 1 0 5) ttl (EchoAsk 7)
+echo ttl = Ip (local_mac 5) (drawn_mac 0) (ends (ip 10 0 0 5) (ip 10 1 0 5)) ttl (EchoAsk 7)
 
 abbrev echo_key : Key
-echo_key = record { kind = AskKey; from = ip 10 0 0 5; sport = 7; to = ip 10 1 0 5; dport = 0 }
+echo_key = record { kind = AskKey; ends = ends (ip 10 0 0 5) (ip 10 1 0 5); sport = 7; dport = 0 }
 
 abbrev routed_echo : ToldVerdict
 routed_echo = record {
-  outcome = Delivered (id 18) (Ip4 (drawn_mac 1) (local_mac 6) (ip 10 0 0 5) (ip 10 1 0 5) 63 (EchoAsk 7));
+  outcome = Delivered (id 18) (Ip (drawn_mac 1) (local_mac 6) (ends (ip 10 0 0 5) (ip 10 1 0 5)) 63 (EchoAsk 7));
   path = id 6 ∷ id 32 ∷ id 16 ∷ [];
   fresh = map of_nobody (flow (id 8) Egress echo_key ∷ flow (id 18) Ingress echo_key ∷ []);
   trail = [];
@@ -104,10 +105,10 @@ unfolding rows_fate got is_live segment rules_allow rule_matches is_member conta
 router_down = refl
 
 -- A router's own address ends in it.
-absorbed : rows_verdict joined [] (FromPort (id 8) (Ip4 (local_mac 5) (drawn_mac 0) (ip 10 0 0 5) (ip 10 1 0 1) 64 (EchoAsk 7))) ≡ record {
+absorbed : rows_verdict joined [] (FromPort (id 8) (Ip (local_mac 5) (drawn_mac 0) (ends (ip 10 0 0 5) (ip 10 1 0 1)) 64 (EchoAsk 7))) ≡ record {
   outcome = Absorbed (id 32);
   path = id 6 ∷ [];
-  fresh = map of_nobody (flow (id 8) Egress (record { kind = AskKey; from = ip 10 0 0 5; sport = 7; to = ip 10 1 0 1; dport = 0 }) ∷ []);
+  fresh = map of_nobody (flow (id 8) Egress (record { kind = AskKey; ends = ends (ip 10 0 0 5) (ip 10 1 0 1); sport = 7; dport = 0 }) ∷ []);
   trail = [];
 }
 unfolding rows_fate got is_live segment rules_allow rule_matches is_member contains is_interface is_gateway device_is ident_text uuid_bytes uuid_number by_index routed router_view legs_of ways_of connected_ways extra_ways floats_of best_way ascending put_in floating_holder
@@ -115,7 +116,7 @@ absorbed = refl
 
 -- The outcome of a packet from 10.0.0.5 to an address elsewhere, by a router with these routes.
 abbrev sent_elsewhere : List Hop → ℕ → Outcome
-sent_elsewhere routes to = (rows_verdict (joined_by (router (id 32) None routes)) [] (FromPort (id 8) (Ip4 (local_mac 5) (drawn_mac 0) (ip 10 0 0 5) to 64 (Proto 47)))).outcome
+sent_elsewhere routes to = (rows_verdict (joined_by (router (id 32) None routes)) [] (FromPort (id 8) (Ip (local_mac 5) (drawn_mac 0) (ends (ip 10 0 0 5) to) 64 (Proto 47)))).outcome
 
 no_route : sent_elsewhere [] (ip 192 0 2 9) ≡ Dropped NoRoute
 unfolding rows_fate got is_live segment rules_allow rule_matches is_member contains is_interface is_gateway device_is ident_text uuid_bytes uuid_number by_index routed router_view legs_of ways_of connected_ways extra_ways floats_of best_way ascending put_in floating_holder
@@ -127,7 +128,7 @@ unfolding rows_fate got is_live segment rules_allow rule_matches is_member conta
 longest_prefix = refl
 
 -- The next hop gets the packet, though it isn't its destination; of equal routes the first is taken.
-by_next_hop : sent_elsewhere (hop (prefix (ip 192 0 2 0) 24) (ip 10 1 0 5) ∷ hop (prefix (ip 192 0 2 0) 24) (ip 10 0 0 9) ∷ []) (ip 192 0 2 9) ≡ Delivered (id 18) (Ip4 (drawn_mac 1) (local_mac 6) (ip 10 0 0 5) (ip 192 0 2 9) 63 (Proto 47))
+by_next_hop : sent_elsewhere (hop (prefix (ip 192 0 2 0) 24) (ip 10 1 0 5) ∷ hop (prefix (ip 192 0 2 0) 24) (ip 10 0 0 9) ∷ []) (ip 192 0 2 9) ≡ Delivered (id 18) (Ip (drawn_mac 1) (local_mac 6) (ends (ip 10 0 0 5) (ip 192 0 2 9)) 63 (Proto 47))
 unfolding rows_fate got is_live segment rules_allow rule_matches is_member contains is_interface is_gateway device_is ident_text uuid_bytes uuid_number by_index routed router_view legs_of ways_of connected_ways extra_ways floats_of best_way ascending put_in floating_holder
 by_next_hop = refl
 
@@ -217,9 +218,9 @@ not_valid = refl
 
 -- A protocol without ports has no second choice.
 abbrev proto_key : ℕ → Key
-proto_key from = record { kind = ProtoKey 47; from = from; sport = 0; to = far; dport = 0 }
+proto_key from = record { kind = ProtoKey 47; ends = ends (from) (far); sport = 0; dport = 0 }
 
-translation_full : (rows_verdict office (Snat (id 32) (proto_key (ip 10 0 0 5)) outer 0 ∷ []) (FromPort (id 9) (Ip4 (local_mac 6) (drawn_mac 1) (ip 10 0 0 6) far 64 (Proto 47)))).outcome ≡ Dropped TranslationFull
+translation_full : (rows_verdict office (Snat (id 32) (proto_key (ip 10 0 0 5)) outer 0 ∷ []) (FromPort (id 9) (Ip (local_mac 6) (drawn_mac 1) (ends (ip 10 0 0 6) far) 64 (Proto 47)))).outcome ≡ Dropped TranslationFull
 unfolding rows_fate got is_live segment rules_allow rule_matches is_member contains is_interface is_gateway device_is ident_text uuid_bytes uuid_number by_index routed router_view legs_of ways_of connected_ways extra_ways floats_of best_way new_port least_untaken ascending put_in floating_holder
 translation_full = refl
 
@@ -284,19 +285,19 @@ day = outside_is true (floating_at 8 (ip 10 0 0 5) ∷ []) (rule (id 4) (id 1) I
 abbrev day_events : List Event
 day_events =
     FromPort (id 9) (Dhcp (local_mac 6) 0) ∷
-    FromPort (id 9) (ArpAsk (local_mac 6) (ip 10 0 0 6) (ip 10 0 0 1)) ∷
-    FromPort (id 8) (Ip4 (local_mac 5) (local_mac 6) (ip 10 0 0 5) (ip 10 0 0 6) 64 (EchoAsk 3)) ∷
-    FromPort (id 9) (Ip4 (local_mac 6) (local_mac 5) (ip 10 0 0 6) (ip 10 0 0 5) 64 (EchoReply 3)) ∷
+    FromPort (id 9) (NeighbourAsk (local_mac 6) (ends (ip 10 0 0 6) (ip 10 0 0 1))) ∷
+    FromPort (id 8) (Ip (local_mac 5) (local_mac 6) (ends (ip 10 0 0 5) (ip 10 0 0 6)) 64 (EchoAsk 3)) ∷
+    FromPort (id 9) (Ip (local_mac 6) (local_mac 5) (ends (ip 10 0 0 6) (ip 10 0 0 5)) 64 (EchoReply 3)) ∷
     FromWire physnet1 None (tcp (local_mac 77) (drawn_mac 0) far 50000 floating 22 64) ∷
     FromPort (id 8) (tcp (local_mac 5) (drawn_mac 1) (ip 10 0 0 5) 22 far 50000 64) ∷
-    FromWire physnet1 None (ArpAsk (local_mac 77) (ip 203 0 113 1) floating) ∷ []
+    FromWire physnet1 None (NeighbourAsk (local_mac 77) (ends (ip 203 0 113 1) floating)) ∷ []
 
 abbrev day_outcomes : List Outcome
 day_outcomes =
     Answered (LeaseAnswer (record { address = V4 (ip 10 0 0 6); length = 24; gateway = Some (V4 (ip 10 0 0 1)); name_servers = []; host_routes = [] })) ∷
     Answered (ArpAnswer (V4 (ip 10 0 0 1)) (drawn_mac 1)) ∷
-    Delivered (id 9) (Ip4 (local_mac 5) (local_mac 6) (ip 10 0 0 5) (ip 10 0 0 6) 64 (EchoAsk 3)) ∷
-    Delivered (id 8) (Ip4 (local_mac 6) (local_mac 5) (ip 10 0 0 6) (ip 10 0 0 5) 64 (EchoReply 3)) ∷
+    Delivered (id 9) (Ip (local_mac 5) (local_mac 6) (ends (ip 10 0 0 5) (ip 10 0 0 6)) 64 (EchoAsk 3)) ∷
+    Delivered (id 8) (Ip (local_mac 6) (local_mac 5) (ends (ip 10 0 0 6) (ip 10 0 0 5)) 64 (EchoReply 3)) ∷
     Delivered (id 8) (tcp (drawn_mac 1) (local_mac 5) far 50000 (ip 10 0 0 5) 22 63) ∷
     Out (id 30) (TowardAddress (V4 (ip 203 0 113 1))) (tcp (drawn_mac 0) 0 floating 22 far 50000 63) ∷
     Answered (ArpAnswer (V4 floating) (drawn_mac 0)) ∷ []

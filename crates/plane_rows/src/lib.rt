@@ -17,7 +17,6 @@ pub use hosts::{is_at, is_here};
 pub use leases::lease_for;
 pub use live::{has_wire, is_joined, is_live, joined_with, network_on, segment_of};
 pub use routers::{
-    first_fixed, fixed_behind, floating_for, gateway_address, has_live_gateway, is_leg,
-    is_own_address, leg,
+    fixed_behind, floating_for, gateway_address, has_live_gateway, is_leg, is_own_address, leg,
 };
 pub use ways::{Way, named_subnet, ways_of};

@@ -1,19 +1,18 @@
-ghost use Rattle.std.specs.Prelude.{◌≡◌, ◌==◌, find, not, option_copied, option_map};
+ghost use Rattle.std.specs.Prelude.{◌≡◌, find, not, option_copied, option_map};
 ghost use Rattle.std.specs.List.{list_any};
+ghost use Rattle.net_addr.specs.Addresses.{addr_eq};
+ghost use Rattle.net_addr.specs.declared.address.Addr.TheVariants.{V4};
 ghost use Rattle.net_addr.specs.Ordered.{four as number_of_four};
 ghost use Rattle.api_types.specs.Owners.{is_interface as interface_of};
 ghost use Rattle.api_types.specs.Table.{ident_eq};
-ghost use Rattle.api_types.specs.declared.port.Fixed.{Fixed as TheFixed};
 ghost use Rattle.api_types.specs.declared.port.PortRow.{PortRow as ThePort};
 ghost use Rattle.api_types.specs.Holders.{holds as holds_address};
-ghost use Rattle.api_types.specs.RouterRows.{first_fixed as first_of, float_by, floats_of, gateway_address as gateway_by_rows, is_leg_of, legs_of};
+ghost use Rattle.api_types.specs.RouterRows.{first_four as first_of_four, float_by, floats_of, gateway_address as gateway_by_rows, is_leg_of, legs_of};
 ghost use Rattle.api_types.specs.RouterViews.{Float};
 
 use crate::holders::gateway_port;
 use crate::live::is_live;
-use api_types::{
-    Fixed, FloatingRow, Id, PortRow, RouterRow, Rows, holds, is_interface, is_port_of,
-};
+use api_types::{FloatingRow, Id, PortRow, RouterRow, Rows, holds, is_interface, is_port_of};
 use net_addr::{Addr, Addr4};
 
 /// Whether a port is a live port of the router.
@@ -64,13 +63,6 @@ pub fn has_live_gateway(rows: &Rows, router: &RouterRow) -> bool
     false
 }
 
-/// The first address of a port.
-pub fn first_fixed(port: &PortRow) -> Option<Fixed>
-    ensures { result ≡ first_of port.now.fixed }
-{
-    port.fixed.as_slice().first().copied()
-}
-
 // The address, where it is of version 4.
 fn four(address: &Addr) -> Option<Addr4>
     ensures { result ≡ number_of_four address.now }
@@ -81,15 +73,24 @@ fn four(address: &Addr) -> Option<Addr4>
     }
 }
 
-/// The first address of the router's gateway port, whether or not that is live.
+// The first address of version 4 of a port.
+fn first_four(port: &PortRow) -> Option<Addr4>
+    ensures { result ≡ first_of_four port.now.fixed }
+{
+    for fixed in port.fixed.as_slice() {
+        if let Some(address) = four(&fixed.address) {
+            return Some(address);
+        }
+    }
+    None
+}
+
+/// The first address of version 4 of the router's gateway port, whether or not that is live.
 pub fn gateway_address(rows: &Rows, router: &RouterRow) -> Option<Addr4>
     ensures { result ≡ gateway_by_rows rows.now router.now }
 {
     match gateway_port(rows, router) {
-        Some(port) => match first_fixed(port) {
-            Some(fixed) => four(&fixed.address),
-            None => None,
-        },
+        Some(port) => first_four(port),
         None => None,
     }
 }
@@ -104,15 +105,15 @@ fn fixed_by(floating: &FloatingRow, router: Id) -> Option<Addr4>
     }
 }
 
-/// The fixed address for which a floating address, that names the router, stands. Its cost grows
-/// with the floating addresses.
+/// The fixed address for which an address stands, that is a floating one and names the router. Its
+/// cost grows with the floating addresses.
 #[tactic(auto, unfolding(api_types::specs::RouterRows::floats_of))]
-pub fn fixed_behind(rows: &Rows, router: &RouterRow, floating: Addr4) -> Option<Addr4>
-    ensures { result ≡ option_map (λ (f : Float). f.fixed) (find (λ (f : Float). f.floating == floating) (floats_of rows.now router.now)) }
+pub fn fixed_behind(rows: &Rows, router: &RouterRow, floating: &Addr) -> Option<Addr4>
+    ensures { result ≡ option_map (λ (f : Float). f.fixed) (find (λ (f : Float). addr_eq (V4 f.floating) floating.now) (floats_of rows.now router.now)) }
 {
     for row in rows.floatings().rows() {
         if let Some(fixed) = fixed_by(row, router.id) {
-            if row.address == floating {
+            if Addr::V4(row.address) == *floating {
                 return Some(fixed);
             }
         }
@@ -120,15 +121,17 @@ pub fn fixed_behind(rows: &Rows, router: &RouterRow, floating: Addr4) -> Option<
     None
 }
 
-/// The floating address that stands for a fixed address, of those that name the router. Its cost
-/// grows with the floating addresses.
+/// The floating address that stands for an address, of those that name the router. Its cost grows
+/// with the floating addresses.
 #[tactic(auto, unfolding(api_types::specs::RouterRows::floats_of))]
-pub fn floating_for(rows: &Rows, router: &RouterRow, fixed: Addr4) -> Option<Addr4>
-    ensures { result ≡ option_map (λ (f : Float). f.floating) (find (λ (f : Float). f.fixed == fixed) (floats_of rows.now router.now)) }
+pub fn floating_for(rows: &Rows, router: &RouterRow, fixed: &Addr) -> Option<Addr4>
+    ensures { result ≡ option_map (λ (f : Float). f.floating) (find (λ (f : Float). addr_eq (V4 f.fixed) fixed.now) (floats_of rows.now router.now)) }
 {
     for row in rows.floatings().rows() {
-        if fixed_by(row, router.id) == Some(fixed) {
-            return Some(row.address);
+        if let Some(inner) = fixed_by(row, router.id) {
+            if Addr::V4(inner) == *fixed {
+                return Some(row.address);
+            }
         }
     }
     None

@@ -8,11 +8,11 @@ ghost use Rattle.api_types.specs.declared.subnet.SubnetRow.{SubnetRow as TheSubn
 ghost use Rattle.api_types.specs.Ascending.{ascending as in_order};
 ghost use Rattle.api_types.specs.Holders.{gateway_port as gateway_by_rows};
 ghost use Rattle.api_types.specs.RouterRows.{by_address, connected_by, connected_ways as connected_by_rows, default_of as default_by_rows, extra_way as extra_by_rows, extra_ways as extras_by_rows, default_by, holds_next as holds_next_hop, legs_of, subnet_named, way_by as way_by_port, ways_of as ways_by_rows};
-ghost use Rattle.plane_rows.specs.Ways.{default_of_port, way_of};
+ghost use Rattle.plane_rows.specs.Ways.{defaults_of_port, way_of};
 
 use crate::holders::gateway_port;
 use crate::live::is_live;
-use crate::routers::{first_fixed, is_leg};
+use crate::routers::is_leg;
 use api_types::{
     Fixed, Hop, Id, PortRow, RouteRank, RouterRow, Rows, SubnetRow, ascending, holds_in,
 };
@@ -78,6 +78,14 @@ fn connected_way(rows: &Rows, legs: &[&PortRow], fixed: Fixed) -> Option<Way>
     way_by(legs, subnet.id, subnet.prefix, RouteRank::Connected, None)
 }
 
+// The addresses of a port, ascending.
+fn held_by_address(alloc: Global, port: &PortRow) -> Result<Vec<Fixed>, OutOfMemory>
+    ensures { IfOk result (λ v. v.items ≡ in_order by_address port.now.fixed) }
+{
+    let held = Vec::from_slice(alloc, port.fixed.as_slice())?;
+    ascending(held)
+}
+
 // Adds the routes to the subnets of a port of the router.
 fn add_connected_of(
     alloc: Global,
@@ -88,8 +96,7 @@ fn add_connected_of(
 ) -> Result<(), OutOfMemory>
     ensures { OnOk result (map way_of ways.new.items ≡ map way_of ways.old.items ++ filter_map (λ (f : TheFixed). connected_by (map (λ p. p.now) legs.now) (subnet_named rows.now f.subnet)) (in_order by_address port.now.fixed)) }
 {
-    let held = Vec::from_slice(alloc, port.fixed.as_slice())?;
-    let held = ascending(held)?;
+    let held = held_by_address(alloc, port)?;
     for fixed in held.as_slice() {
         if let Some(way) = connected_way(rows, legs, *fixed) {
             ways.push(way)?;
@@ -205,8 +212,15 @@ fn default_in(legs: &[&PortRow], subnet: &SubnetRow) -> Option<Way>
     )
 }
 
+fn default_way(rows: &Rows, legs: &[&PortRow], fixed: Fixed) -> Option<Way>
+    ensures { option_to_list (option_map way_of result) ≡ default_by (map (λ p. p.now) legs.now) (subnet_named rows.now fixed.subnet) }
+{
+    let subnet = named_subnet(rows, fixed.subnet)?;
+    default_in(legs, subnet)
+}
+
 fn live_gateway_port<'r>(rows: &'r Rows, router: &RouterRow) -> Option<&'r PortRow>
-    ensures { (legs : List ThePort) → default_of_port rows.now legs (option_copied result) ≡ default_by_rows rows.now legs (gateway_by_rows rows.now router.now) }
+    ensures { (legs : List ThePort) → defaults_of_port rows.now legs (option_copied result) ≡ default_by_rows rows.now legs (gateway_by_rows rows.now router.now) }
 {
     let port = gateway_port(rows, router)?;
     if is_live(rows, port) {
@@ -216,8 +230,28 @@ fn live_gateway_port<'r>(rows: &'r Rows, router: &RouterRow) -> Option<&'r PortR
     }
 }
 
-// Adds the route by the gateway of the subnet of the gateway port's first address.
-fn add_default(
+// Adds the routes by the gateways of the subnets of a gateway port, by ascending addresses.
+fn add_defaults_of(
+    alloc: Global,
+    rows: &Rows,
+    legs: &[&PortRow],
+    port: &PortRow,
+    ways: &mut Vec<Way>,
+) -> Result<(), OutOfMemory>
+    ensures { OnOk result (map way_of ways.new.items ≡ map way_of ways.old.items ++ defaults_of_port rows.now (map (λ p. p.now) legs.now) (Some port.now)) }
+{
+    let held = held_by_address(alloc, port)?;
+    for fixed in held.as_slice() {
+        if let Some(way) = default_way(rows, legs, *fixed) {
+            ways.push(way)?;
+        }
+    }
+    Ok(())
+}
+
+// Adds the default routes, where the gateway port is live.
+fn add_defaults(
+    alloc: Global,
     rows: &Rows,
     legs: &[&PortRow],
     router: &RouterRow,
@@ -225,19 +259,10 @@ fn add_default(
 ) -> Result<(), OutOfMemory>
     ensures { OnOk result (map way_of ways.new.items ≡ map way_of ways.old.items ++ default_by_rows rows.now (map (λ p. p.now) legs.now) (gateway_by_rows rows.now router.now)) }
 {
-    let Some(port) = live_gateway_port(rows, router) else {
-        return Ok(());
-    };
-    let Some(fixed) = first_fixed(port) else {
-        return Ok(());
-    };
-    let Some(subnet) = named_subnet(rows, fixed.subnet) else {
-        return Ok(());
-    };
-    if let Some(way) = default_in(legs, subnet) {
-        ways.push(way)?;
+    match live_gateway_port(rows, router) {
+        Some(port) => add_defaults_of(alloc, rows, legs, port, ways),
+        None => Ok(()),
     }
-    Ok(())
 }
 
 // The live ports of a router, in order of creation.
@@ -259,9 +284,9 @@ fn legs<'r>(
 }
 
 /// The routes of a router: to the subnets of its live ports, then its own ones, then the default
-/// one. Its cost grows with the ports; with the addresses and routes of the router times its ports;
-/// with its routes times its addresses and the subnets; and with the addresses of a port and the
-/// logarithm of their number.
+/// ones. Its cost grows with the ports; with the addresses and routes of the router times its
+/// ports; with its routes times its addresses and the subnets; and with the addresses of a port and
+/// the logarithm of their number.
 #[tactic(auto, unfolding(api_types::specs::RouterRows::ways_of))]
 pub fn ways_of(alloc: Global, rows: &Rows, router: &RouterRow) -> Result<Vec<Way>, OutOfMemory>
     ensures { IfOk result (λ v. map way_of v.items ≡ ways_by_rows rows.now router.now) }
@@ -270,6 +295,6 @@ pub fn ways_of(alloc: Global, rows: &Rows, router: &RouterRow) -> Result<Vec<Way
     let mut ways = Vec::new(alloc);
     add_connected(alloc, rows, legs.as_slice(), &mut ways)?;
     add_extra(rows, legs.as_slice(), router.routes.as_slice(), &mut ways)?;
-    add_default(rows, legs.as_slice(), router, &mut ways)?;
+    add_defaults(alloc, rows, legs.as_slice(), router, &mut ways)?;
     Ok(ways)
 }

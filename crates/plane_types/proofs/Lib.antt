@@ -7,3 +7,4 @@ pub mod PlacedLemmas
 pub mod RealisedTags
 pub mod RouteLemmas
 pub mod UseLemmas
+pub mod PutLemmas

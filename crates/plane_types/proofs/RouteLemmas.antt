@@ -3,7 +3,7 @@ use Rattle.std.proofs.Common.{◌≡◌, ◌∙◌, ◌-◌, ◌<◌, ◌≤◌,
 use Rattle.std.specs.Prelude.{find, nat_le, not, if◌then◌else◌}
 use Rattle.std.proofs.lemmas.Bool.Decides.{nat_tests}
 use Rattle.net_addr.specs.declared.address.Addr.{Addr}
-use Rattle.net_addr.specs.declared.address.Addr.TheVariants.{V4}
+use Rattle.plane_types.specs.Ends.{source, destination}
 use Rattle.plane_types.specs.Keys.{key_eq}
 use Rattle.plane_types.specs.Packets.{Packet, key_of}
 use Rattle.plane_types.specs.Routing.{Changed, Destined, RouteEnds, Routed, Sourced, Use, best_way, destined, is_own, routed, routed_out, routed_to, routed_way, sent, sourced, sourced_at, sourced_gateway, sourced_use, uses_by}
@@ -25,21 +25,21 @@ out_found v uses way_in by p hop way_hop found out s x found_is hop_is s_is x_is
     x_is ∙ ap (λ h. sent out h s) hop_is ∙ ap (sent out way_hop) s_is ∙ sym (ap (routed_out v uses way_in by p way_hop) found_is)
 
 -- what is the router's own ends there
-pub ends_own : (v : RouterView) (uses : List Use) (way_in : Leg) (d : Destined) → is_own v (V4 d.packet.to) ≡ true → RouteEnds (Absorbed v.id) ≡ routed_to v uses way_in d
-ends_own v uses way_in d own = sym (ap (λ b. if b then RouteEnds (Absorbed v.id) else (if nat_le d.packet.ttl 1 then RouteEnds (Dropped Expired) else routed_way v uses way_in d.by (record (d.packet) { ttl = d.packet.ttl - 1 }) (best_way (V4 d.packet.to) v.ways))) own)
+pub ends_own : (v : RouterView) (uses : List Use) (way_in : Leg) (d : Destined) → is_own v (destination d.packet.ends) ≡ true → RouteEnds (Absorbed v.id) ≡ routed_to v uses way_in d
+ends_own v uses way_in d own = sym (ap (λ b. if b then RouteEnds (Absorbed v.id) else (if nat_le d.packet.ttl 1 then RouteEnds (Dropped Expired) else routed_way v uses way_in d.by (record (d.packet) { ttl = d.packet.ttl - 1 }) (best_way (destination d.packet.ends) v.ways))) own)
 
 -- so does what has lived
-pub ends_expired : (v : RouterView) (uses : List Use) (way_in : Leg) (d : Destined) → is_own v (V4 d.packet.to) ≡ false → d.packet.ttl ≤ 1 → RouteEnds (Dropped Expired) ≡ routed_to v uses way_in d
+pub ends_expired : (v : RouterView) (uses : List Use) (way_in : Leg) (d : Destined) → is_own v (destination d.packet.ends) ≡ false → d.packet.ttl ≤ 1 → RouteEnds (Dropped Expired) ≡ routed_to v uses way_in d
 ends_expired v uses way_in d own lived =
     let at_end : nat_le d.packet.ttl 1 ≡ true = grind (arith, nat_tests) in
-    sym (ap (λ b. if b then RouteEnds (Absorbed v.id) else (if nat_le d.packet.ttl 1 then RouteEnds (Dropped Expired) else routed_way v uses way_in d.by (record (d.packet) { ttl = d.packet.ttl - 1 }) (best_way (V4 d.packet.to) v.ways))) own ∙ ap (λ b. if b then RouteEnds (Dropped Expired) else routed_way v uses way_in d.by (record (d.packet) { ttl = d.packet.ttl - 1 }) (best_way (V4 d.packet.to) v.ways)) at_end)
+    sym (ap (λ b. if b then RouteEnds (Absorbed v.id) else (if nat_le d.packet.ttl 1 then RouteEnds (Dropped Expired) else routed_way v uses way_in d.by (record (d.packet) { ttl = d.packet.ttl - 1 }) (best_way (destination d.packet.ends) v.ways))) own ∙ ap (λ b. if b then RouteEnds (Dropped Expired) else routed_way v uses way_in d.by (record (d.packet) { ttl = d.packet.ttl - 1 }) (best_way (destination d.packet.ends) v.ways)) at_end)
 
 -- and all else goes on
-pub goes_on : (v : RouterView) (uses : List Use) (way_in : Leg) (d lower : Destined) → is_own v (V4 d.packet.to) ≡ false → 1 < d.packet.ttl → lower ≡ record { packet = record (d.packet) { ttl = d.packet.ttl - 1 }; by = d.by } → routed_way v uses way_in lower.by lower.packet (best_way (V4 lower.packet.to) v.ways) ≡ routed_to v uses way_in d
+pub goes_on : (v : RouterView) (uses : List Use) (way_in : Leg) (d lower : Destined) → is_own v (destination d.packet.ends) ≡ false → 1 < d.packet.ttl → lower ≡ record { packet = record (d.packet) { ttl = d.packet.ttl - 1 }; by = d.by } → routed_way v uses way_in lower.by lower.packet (best_way (destination lower.packet.ends) v.ways) ≡ routed_to v uses way_in d
 goes_on v uses way_in d lower own lives lower_is =
     let before_end : nat_le d.packet.ttl 1 ≡ false = grind (arith, nat_tests) in
-    ap (λ (x : Destined). routed_way v uses way_in x.by x.packet (best_way (V4 x.packet.to) v.ways)) lower_is
-    ∙ sym (ap (λ b. if b then RouteEnds (Absorbed v.id) else (if nat_le d.packet.ttl 1 then RouteEnds (Dropped Expired) else routed_way v uses way_in d.by (record (d.packet) { ttl = d.packet.ttl - 1 }) (best_way (V4 d.packet.to) v.ways))) own ∙ ap (λ b. if b then RouteEnds (Dropped Expired) else routed_way v uses way_in d.by (record (d.packet) { ttl = d.packet.ttl - 1 }) (best_way (V4 d.packet.to) v.ways)) before_end)
+    ap (λ (x : Destined). routed_way v uses way_in x.by x.packet (best_way (destination x.packet.ends) v.ways)) lower_is
+    ∙ sym (ap (λ b. if b then RouteEnds (Absorbed v.id) else (if nat_le d.packet.ttl 1 then RouteEnds (Dropped Expired) else routed_way v uses way_in d.by (record (d.packet) { ttl = d.packet.ttl - 1 }) (best_way (destination d.packet.ends) v.ways))) own ∙ ap (λ b. if b then RouteEnds (Dropped Expired) else routed_way v uses way_in d.by (record (d.packet) { ttl = d.packet.ttl - 1 }) (best_way (destination d.packet.ends) v.ways)) before_end)
 
 -- the whole rule of a router that is up
 pub whole_route : (v : RouterView) (entries : List Entry) (way_in : Leg) (p : Packet) (uses : List Use) (d : Destined) → v.up ≡ true → uses ≡ uses_by v.snat v.gateway v.id entries → d ≡ destined v uses p → routed_to v uses way_in d ≡ routed v entries way_in p

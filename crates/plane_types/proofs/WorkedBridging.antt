@@ -7,7 +7,7 @@ use Rattle.api_types.specs.declared.group.Direction.TheVariants.{Egress, Ingress
 use Rattle.api_types.specs.declared.group.RuleRow.{RuleRow}
 use Rattle.api_types.specs.declared.network.Segment.{Segment}
 use Rattle.api_types.specs.declared.network.Segment.TheVariants.{Local, Vlan, Vxlan}
-use Rattle.plane_types.proofs.WorkedRows.{c1, c2, flow, group, guarded, held, host, id, ip, local_mac, network, no_rows, open_port, physnet1, prefix, rule, subnet, tables_of, tag, tcp, tcp_key}
+use Rattle.plane_types.proofs.WorkedRows.{ends, c1, c2, flow, group, guarded, held, host, id, ip, local_mac, network, no_rows, open_port, physnet1, prefix, rule, subnet, tables_of, tag, tcp, tcp_key}
 use Rattle.api_types.specs.Ascending.{ascending, put_in}
 use Rattle.plane_types.specs.Fabric.{fabric_fate, steps_for, walk}
 use Rattle.plane_types.specs.Filter.{rule_matches, rules_allow}
@@ -23,7 +23,7 @@ use Rattle.plane_types.specs.Told.{fabric_verdict, fabric_verdicts, of_nobody, r
 use Rattle.plane_types.specs.declared.event.Event.{Event}
 use Rattle.plane_types.specs.declared.event.Event.TheVariants.{FromPort}
 use Rattle.plane_types.specs.declared.frame.Frame.{Frame}
-use Rattle.plane_types.specs.declared.frame.Frame.TheVariants.{ArpAsk, Dhcp}
+use Rattle.plane_types.specs.declared.frame.Frame.TheVariants.{Dhcp, NeighbourAsk}
 use Rattle.plane_types.specs.declared.frame.Key.{Key}
 use Rattle.plane_types.specs.declared.table.BridgeKey.TheVariants.{Mac as AtMac}
 use Rattle.plane_types.specs.declared.table.BridgeTo.TheVariants.{Tunnel as ToHost, Tap as ToTap}
@@ -240,7 +240,7 @@ no_lease : (rows_verdict lone [] (FromPort (id 8) (Dhcp (local_mac 5) 0))).outco
 unfolding rows_fate got is_live segment is_interface is_gateway is_dhcp
 no_lease = refl
 
-no_holder : (rows_verdict lone [] (FromPort (id 8) (ArpAsk (local_mac 5) (ip 10 0 0 5) (ip 10 0 0 77)))).outcome ≡ Dropped NoHolder
+no_holder : (rows_verdict lone [] (FromPort (id 8) (NeighbourAsk (local_mac 5) (ends (ip 10 0 0 5) (ip 10 0 0 77))))).outcome ≡ Dropped NoHolder
 unfolding rows_fate got is_live segment floating_holder is_interface is_gateway
 no_holder = refl
 

@@ -22,7 +22,8 @@ use Rattle.plane_types.specs.TableRows.{bridge_rows, filter_rows, float_rows, in
 use Rattle.plane_types.specs.declared.entry.Entry.{Entry}
 use Rattle.plane_types.specs.declared.entry.Entry.TheVariants.{Flow}
 use Rattle.plane_types.specs.declared.frame.Frame.{Frame}
-use Rattle.plane_types.specs.declared.frame.Frame.TheVariants.{Ip4}
+use Rattle.plane_types.specs.Ends.{Ends, Ends4}
+use Rattle.plane_types.specs.declared.frame.Frame.TheVariants.{Ip}
 use Rattle.plane_types.specs.declared.frame.Key.{Key}
 use Rattle.plane_types.specs.declared.frame.KeyKind.TheVariants.{Tcp as TcpKey}
 use Rattle.plane_types.specs.declared.frame.KeyPart.TheVariants.{Tcp}
@@ -129,15 +130,19 @@ hop destination next = record { destination = destination; next = V4 next }
 abbrev pub no_rows : RowLists
 no_rows = record { projects = []; networks = []; subnets = []; ports = []; groups = []; rules = []; routers = []; floatings = []; policies = [] }
 
+-- from one address of version 4 to another
+abbrev pub ends : ℕ → ℕ → Ends
+ends from to = Ends4 from to
+
 -- a packet of TCP
 abbrev pub tcp : ℕ → ℕ → ℕ → ℕ → ℕ → ℕ → ℕ → Frame
-tcp src dst from sport to dport ttl = Ip4 src dst from to ttl (Tcp sport dport)
+tcp src dst from sport to dport ttl = Ip src dst (ends from to) ttl (Tcp sport dport)
 
 abbrev pub flow : Ident → Direction → Key → Entry
 flow port direction key = Flow port direction key
 
 abbrev pub tcp_key : ℕ → ℕ → ℕ → ℕ → Key
-tcp_key from sport to dport = record { kind = TcpKey; from = from; sport = sport; to = to; dport = dport }
+tcp_key from sport to dport = record { kind = TcpKey; ends = ends from to; sport = sport; dport = dport }
 
 -- tables that the rows give to a host for some tags
 abbrev pub tables_of : RowLists → List ℕ → List TagRow → HostTables

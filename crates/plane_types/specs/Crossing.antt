@@ -1,5 +1,5 @@
--- A path crosses between networks only at routers that have live ports on both.
-use Rattle.std.specs.Prelude.{◌≡◌, Bool, true, false, ◌&&◌, List, [], ◌∷◌, Option, Some, None, ⊤}
+-- A path crosses between networks only at routers that have live ports on both, and what is on it is there.
+use Rattle.std.specs.Prelude.{◌≡◌, Bool, true, false, ◌&&◌, List, [], ◌∷◌, Option, Some, None, is_some, ⊤}
 use Rattle.std.specs.List.{list_any}
 use Rattle.api_types.specs.Ident.{Ident}
 use Rattle.api_types.specs.RowLists.{RowLists}
@@ -7,17 +7,22 @@ use Rattle.api_types.specs.Table.{ident_eq, row_of}
 use Rattle.api_types.specs.declared.port.PortRow.{PortRow}
 use Rattle.api_types.specs.declared.router.RouterRow.{RouterRow}
 use Rattle.api_types.specs.Holders.{router_named}
+use Rattle.api_types.specs.Live.{network_of}
 use Rattle.api_types.specs.RouterRows.{is_leg_of}
 use Rattle.plane_types.specs.declared.verdict.Outcome.{Outcome}
 use Rattle.plane_types.specs.declared.verdict.Outcome.TheVariants.{Absorbed, Answered, Delivered, Dropped, Out}
 use Rattle.plane_types.specs.declared.verdict.Verdict.{Verdict as ToldVerdict}
+
+-- the network is there
+abbrev pub is_network : RowLists → Ident → Bool
+is_network rows n = is_some (network_of rows n)
 
 abbrev pub leg_on : RowLists → RouterRow → Ident → Bool
 leg_on rows r n = list_any (λ (p : PortRow). is_leg_of rows r p && ident_eq n p.network) rows.ports
 
 abbrev pub joins_networks : RowLists → Ident → Ident → Option RouterRow → Bool
 joins_networks rows n m None = false
-joins_networks rows n m (Some r) = leg_on rows r n && leg_on rows r m
+joins_networks rows n m (Some r) = leg_on rows r n && leg_on rows r m && is_network rows m
 
 -- from a network on
 abbrev pub CrossesFrom : RowLists → Ident → List Ident → Type 0
@@ -30,9 +35,14 @@ last_from n [] = n
 last_from n (r ∷ []) = n
 last_from n (r ∷ m ∷ rest) = last_from m rest
 
--- a packet is delivered on this network
+-- the port is there, and on the network
+abbrev pub is_on : Ident → Option PortRow → Bool
+is_on n None = false
+is_on n (Some q) = ident_eq n q.network
+
+-- a packet is delivered to a port on this network
 abbrev pub EndsOn : RowLists → Ident → Outcome → Type 0
-EndsOn rows n (Delivered port f) = (q : PortRow) → row_of (λ (p : PortRow). p.id) port rows.ports ≡ Some q → n ≡ q.network
+EndsOn rows n (Delivered port f) = is_on n (row_of (λ (p : PortRow). p.id) port rows.ports) ≡ true
 EndsOn rows n (Answered a) = ⊤
 EndsOn rows n (Absorbed r) = ⊤
 EndsOn rows n (Out m t f) = ⊤
@@ -47,7 +57,7 @@ not_delivered (Dropped c) = true
 
 abbrev pub PathCrosses : RowLists → List Ident → Outcome → Type 0
 PathCrosses rows [] o = not_delivered o ≡ true
-PathCrosses rows (n ∷ rest) o = CrossesFrom rows n rest × EndsOn rows (last_from n rest) o
+PathCrosses rows (n ∷ rest) o = (is_network rows n ≡ true) × CrossesFrom rows n rest × EndsOn rows (last_from n rest) o
 
 abbrev pub CrossesAtRouters : RowLists → ToldVerdict → Type 0
 CrossesAtRouters rows v = PathCrosses rows v.path v.outcome

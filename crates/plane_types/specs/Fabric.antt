@@ -1,8 +1,8 @@
 -- The run of a frame through the tables of all hosts.
 use Rattle.std.specs.Prelude.{ℕ, zero, suc, ◌+◌, ◌*◌, Bool, true, false, not, ◌&&◌, List, [], ◌∷◌, ◌++◌, map, Option, Some, None, find, is_some, if◌then◌else◌}
 use Rattle.std.specs.Str.{bytes_eq}
-use Rattle.net_addr.specs.declared.address.Addr.TheVariants.{V4}
 use Rattle.api_types.specs.Ident.{Ident}
+use Rattle.plane_types.specs.Ends.{destination}
 use Rattle.plane_types.specs.Hosts.{Host, is_named}
 use Rattle.plane_types.specs.Meaning.{Fate, life_of}
 use Rattle.plane_types.specs.Packets.{is_unsupported}
@@ -12,7 +12,7 @@ use Rattle.plane_types.specs.declared.entry.Entry.{Entry}
 use Rattle.plane_types.specs.declared.event.Event.{Event}
 use Rattle.plane_types.specs.declared.event.Event.TheVariants.{FromPort, FromWire}
 use Rattle.plane_types.specs.declared.frame.Frame.{Frame}
-use Rattle.plane_types.specs.declared.frame.Frame.TheVariants.{ArpAsk, Dhcp, Ip4, Other}
+use Rattle.plane_types.specs.declared.frame.Frame.TheVariants.{Dhcp, Ip, NeighbourAsk, Other}
 use Rattle.plane_types.specs.declared.table.BridgeKey.TheVariants.{Dhcp as AtDhcp, Mac as AtMac}
 use Rattle.plane_types.specs.declared.table.BridgeRow.{BridgeRow}
 use Rattle.plane_types.specs.declared.table.BridgeTo.TheVariants.{Tunnel as ToHost, Router as ToRouter, Tap as ToTap}
@@ -51,8 +51,8 @@ takes_to (Some r) = elim r.to [ ToTap p ↦ true | ToRouter r p ↦ true | ToHos
 
 abbrev pub takes_at : HostTables → Frame → Option InwardRow → Bool
 takes_at t frame None = false
-takes_at t (Ip4 src dst from to ttl part) (Some r) = takes_to (bridge_at t r.tag (AtMac dst))
-takes_at t (ArpAsk src from to) (Some r) = is_some (neighbour_at t r.tag (V4 to))
+takes_at t (Ip src dst ends ttl part) (Some r) = takes_to (bridge_at t r.tag (AtMac dst))
+takes_at t (NeighbourAsk src ends) (Some r) = is_some (neighbour_at t r.tag (destination ends))
 takes_at t (Dhcp src from) (Some r) = takes_to (bridge_at t r.tag AtDhcp)
 takes_at t (Other s d y) (Some r) = false
 

@@ -6,9 +6,10 @@ use Rattle.net_addr.specs.declared.address.Addr.TheVariants.{V4}
 use Rattle.net_addr.specs.Prefixes.{contains}
 use Rattle.api_types.specs.declared.port.Pair.{Pair}
 use Rattle.api_types.specs.declared.port.PortRow.{PortRow}
+use Rattle.plane_types.specs.Ends.{source}
 use Rattle.api_types.specs.Holders.{holds}
 use Rattle.plane_types.specs.declared.frame.Frame.{Frame}
-use Rattle.plane_types.specs.declared.frame.Frame.TheVariants.{ArpAsk, Dhcp, Ip4, Other}
+use Rattle.plane_types.specs.declared.frame.Frame.TheVariants.{Dhcp, Ip, NeighbourAsk, Other}
 
 abbrev pub has_pair_mac : List Pair → ℕ → Bool
 has_pair_mac pairs mac = list_any (λ (x : Pair). x.mac == mac) pairs
@@ -22,8 +23,8 @@ abbrev pub may_ask_lease : PortRow → ℕ → Bool
 may_ask_lease p mac = (p.mac == mac) || has_pair_mac p.pairs mac
 
 abbrev pub guards : PortRow → Frame → Bool
-guards p (Ip4 src dst from to ttl part) = may_send p src (V4 from)
-guards p (ArpAsk src from to) = may_send p src (V4 from)
+guards p (Ip src dst ends ttl part) = may_send p src (source ends)
+guards p (NeighbourAsk src ends) = may_send p src (source ends)
 guards p (Dhcp src from) = if from == 0 then may_ask_lease p src else may_send p src (V4 from)
 guards p (Other src dst ethertype) = true
 

@@ -1,7 +1,9 @@
--- By what packets are tracked: addresses and ports (RFC 2663, section 2.3, sessions; RFC 792 for echoes).
+-- By what packets are tracked: ends and ports (RFC 2663, section 2.3, sessions; RFC 792 and RFC 4443 for echoes).
 use Rattle.std.specs.Prelude.{ℕ, ◌+◌, ◌&&◌, ◌==◌, Bool, Option, Some, None}
 use Rattle.plane_types.specs.declared.frame.Frame.{Frame}
-use Rattle.plane_types.specs.declared.frame.Frame.TheVariants.{ArpAsk, Dhcp, Ip4, Other}
+use Rattle.net_addr.specs.Addresses.{addr_eq}
+use Rattle.plane_types.specs.Ends.{Ends, destination, echo_protocol, source, turned_round}
+use Rattle.plane_types.specs.declared.frame.Frame.TheVariants.{Dhcp, Ip, NeighbourAsk, Other}
 use Rattle.plane_types.specs.declared.frame.Key.{Key}
 use Rattle.plane_types.specs.declared.frame.KeyKind.{KeyKind}
 use Rattle.plane_types.specs.declared.frame.KeyKind.TheVariants.{EchoAsk as AskKey, Proto as ProtoKey, EchoReply as ReplyKey, Tcp as TcpKey, Udp as UdpKey}
@@ -9,17 +11,17 @@ use Rattle.plane_types.specs.declared.frame.KeyPart.{KeyPart}
 use Rattle.plane_types.specs.declared.frame.KeyPart.TheVariants.{EchoAsk, EchoReply, Proto, Tcp, Udp}
 
 -- an echo's id is its source port, and its reply's is the destination port; where there is no port it is 0
-abbrev pub key_of_part : KeyPart → ℕ → ℕ → Key
-key_of_part (Tcp s d) from to = record { kind = TcpKey; from = from; sport = s; to = to; dport = d }
-key_of_part (Udp s d) from to = record { kind = UdpKey; from = from; sport = s; to = to; dport = d }
-key_of_part (EchoAsk i) from to = record { kind = AskKey; from = from; sport = i; to = to; dport = 0 }
-key_of_part (EchoReply i) from to = record { kind = ReplyKey; from = from; sport = 0; to = to; dport = i }
-key_of_part (Proto n) from to = record { kind = ProtoKey n; from = from; sport = 0; to = to; dport = 0 }
+abbrev pub key_of_part : KeyPart → Ends → Key
+key_of_part (Tcp s d) ends = record { kind = TcpKey; ends = ends; sport = s; dport = d }
+key_of_part (Udp s d) ends = record { kind = UdpKey; ends = ends; sport = s; dport = d }
+key_of_part (EchoAsk i) ends = record { kind = AskKey; ends = ends; sport = i; dport = 0 }
+key_of_part (EchoReply i) ends = record { kind = ReplyKey; ends = ends; sport = 0; dport = i }
+key_of_part (Proto n) ends = record { kind = ProtoKey n; ends = ends; sport = 0; dport = 0 }
 
 -- the key of a packet; another frame has none
 abbrev pub frame_key : Frame → Option Key
-frame_key (Ip4 src dst from to ttl part) = Some (key_of_part part from to)
-frame_key (ArpAsk src from to) = None
+frame_key (Ip src dst ends ttl part) = Some (key_of_part part ends)
+frame_key (NeighbourAsk src ends) = None
 frame_key (Dhcp src from) = None
 frame_key (Other src dst ethertype) = None
 
@@ -30,9 +32,9 @@ answer_kind TcpKey = TcpKey
 answer_kind UdpKey = UdpKey
 answer_kind (ProtoKey n) = ProtoKey n
 
--- the key of an answer: addresses and ports change places, and an echo with its reply
+-- the key of an answer: ends and ports change places, and an echo with its reply
 abbrev pub reversed : Key → Key
-reversed k = record { kind = answer_kind k.kind; from = k.to; sport = k.dport; to = k.from; dport = k.sport }
+reversed k = record { kind = answer_kind k.kind; ends = turned_round k.ends; sport = k.dport; dport = k.sport }
 
 abbrev pub kind_place : KeyKind → ℕ
 kind_place TcpKey = 0
@@ -45,12 +47,14 @@ abbrev pub kind_eq : KeyKind → KeyKind → Bool
 kind_eq a b = kind_place a == kind_place b
 
 abbrev pub key_eq : Key → Key → Bool
-key_eq a b = kind_eq a.kind b.kind && (a.from == b.from) && (a.sport == b.sport) && (a.to == b.to) && (a.dport == b.dport)
+key_eq a b =
+    kind_eq a.kind b.kind && addr_eq (source a.ends) (source b.ends) && (a.sport == b.sport)
+    && addr_eq (destination a.ends) (destination b.ends) && (a.dport == b.dport)
 
--- the protocol of IP by its number (IANA)
-abbrev pub protocol_of : KeyKind → ℕ
-protocol_of TcpKey = 6
-protocol_of UdpKey = 17
-protocol_of AskKey = 1
-protocol_of ReplyKey = 1
-protocol_of (ProtoKey n) = n
+-- the protocol of IP by its number (IANA); echoes are of ICMP or ICMPv6, by the version
+abbrev pub protocol_of : Ends → KeyKind → ℕ
+protocol_of ends TcpKey = 6
+protocol_of ends UdpKey = 17
+protocol_of ends AskKey = echo_protocol ends
+protocol_of ends ReplyKey = echo_protocol ends
+protocol_of ends (ProtoKey n) = n

@@ -1,4 +1,5 @@
 pub mod Crossing
+pub mod Ends
 pub mod Entries
 pub mod Fabric
 pub mod Filter

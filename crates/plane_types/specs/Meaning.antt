@@ -2,7 +2,6 @@
 -- asked only as an attribute of a port, to tell which ports of a local network hear each other.
 use Rattle.std.specs.Prelude.{ℕ, zero, suc, Bool, not, ◌&&◌, List, [], ◌∷◌, ◌++◌, Option, Some, None, find, option_and_then, if◌then◌else◌}
 use Rattle.net_addr.specs.declared.address.Addr.{Addr}
-use Rattle.net_addr.specs.declared.address.Addr.TheVariants.{V4}
 use Rattle.api_types.specs.Ident.{Ident}
 use Rattle.api_types.specs.Owners.{is_router_port}
 use Rattle.api_types.specs.RowLists.{RowLists}
@@ -12,12 +11,13 @@ use Rattle.api_types.specs.declared.group.Direction.TheVariants.{Egress, Ingress
 use Rattle.api_types.specs.declared.network.NetworkRow.{NetworkRow}
 use Rattle.api_types.specs.declared.port.PortRow.{PortRow}
 use Rattle.api_types.specs.declared.router.RouterRow.{RouterRow}
+use Rattle.plane_types.specs.Ends.{destination}
 use Rattle.plane_types.specs.Filter.{rules_allow}
 use Rattle.plane_types.specs.Guard.{passes_guard}
 use Rattle.api_types.specs.Holders.{dhcp_port, holder, port_at, router_of}
 use Rattle.api_types.specs.Live.{is_live, joined_with, segment}
 use Rattle.api_types.specs.Wires.{wire_of, network_on}
-use Rattle.plane_types.specs.Packets.{AddressAsk, LeaseAsk, Packet, address_ask, arp_frame, dhcp_frame, ip_frame, is_unsupported, key_of, lease_ask, packet}
+use Rattle.plane_types.specs.Packets.{AddressAsk, LeaseAsk, Packet, address_ask, ask_frame, dhcp_frame, ip_frame, is_unsupported, key_of, lease_ask, packet}
 use Rattle.plane_types.specs.Passage.{Passage, passage}
 use Rattle.api_types.specs.RouterRows.{leg_of, legs_of, router_view}
 use Rattle.plane_types.specs.Routing.{RouteEnds, RouteSends, Routed, routed}
@@ -25,7 +25,7 @@ use Rattle.plane_types.specs.declared.entry.Entry.{Entry}
 use Rattle.plane_types.specs.declared.event.Event.{Event}
 use Rattle.plane_types.specs.declared.event.Event.TheVariants.{FromPort, FromWire}
 use Rattle.plane_types.specs.declared.frame.Frame.{Frame}
-use Rattle.plane_types.specs.declared.frame.Frame.TheVariants.{ArpAsk, Dhcp, Ip4, Other}
+use Rattle.plane_types.specs.declared.frame.Frame.TheVariants.{Dhcp, Ip, NeighbourAsk, Other}
 use Rattle.api_types.specs.declared.wire.Wire.{Wire}
 use Rattle.plane_types.specs.declared.verdict.AskAnswer.TheVariants.{Arp as ArpAnswer, Lease as LeaseAnswer}
 use Rattle.plane_types.specs.declared.verdict.DropCause.{DropCause}
@@ -116,13 +116,13 @@ sent_to rows on n p t None = ended t (out_of rows n (TowardMac p.dst) (ip_frame 
 abbrev pub sent_on : RowLists → Onward → Ident → List ℕ → Packet → Trace → Fate
 sent_on rows on n host p t = sent_to rows on n p t (joined_with rows host (port_at rows n p.dst))
 
--- an ask for an address (RFC 826) is answered by its holder, where that is joined with the asker
+-- an ask for an address (RFC 826; RFC 4861) is answered by its holder, where that is joined with the asker
 abbrev pub asked_by : RowLists → Ident → AddressAsk → Option PortRow → Outcome
-asked_by rows n a (Some q) = Answered (ArpAnswer (V4 a.to) q.mac)
-asked_by rows n a None = out_of rows n (TowardAddress (V4 a.to)) (arp_frame a) NoHolder
+asked_by rows n a (Some q) = Answered (ArpAnswer (destination a.ends) q.mac)
+asked_by rows n a None = out_of rows n (TowardAddress (destination a.ends)) (ask_frame a) NoHolder
 
 abbrev pub asked : RowLists → Ident → List ℕ → AddressAsk → Outcome
-asked rows n host a = asked_by rows n a (joined_with rows host (holder rows n (V4 a.to)))
+asked rows n host a = asked_by rows n a (joined_with rows host (holder rows n (destination a.ends)))
 
 abbrev pub answered : Option Lease → Outcome
 answered None = Dropped NoLease
@@ -143,8 +143,8 @@ abbrev pub sent_out : RowLists → Onward → PortRow → Packet → Trace → P
 sent_out rows on p x t y = if y.passes then sent_on rows on p.network p.host x (with_fresh t y.made) else dropped t EgressFilter
 
 abbrev pub from_sender : RowLists → List Entry → ℕ → PortRow → Trace → Frame → Fate
-from_sender rows entries many p t (Ip4 src dst from to ttl part) = sent_out rows (got rows entries many) p (packet src dst from to ttl part) t (rows_passage rows (entries ++ t.fresh) p Egress (packet src dst from to ttl part))
-from_sender rows entries many p t (ArpAsk src from to) = ended t (asked rows p.network p.host (address_ask src from to))
+from_sender rows entries many p t (Ip src dst ends ttl part) = sent_out rows (got rows entries many) p (packet src dst ends ttl part) t (rows_passage rows (entries ++ t.fresh) p Egress (packet src dst ends ttl part))
+from_sender rows entries many p t (NeighbourAsk src ends) = ended t (asked rows p.network p.host (address_ask src ends))
 from_sender rows entries many p t (Dhcp src from) = ended t (lease_asked rows p.network p.host (lease_ask src from))
 from_sender rows entries many p t (Other s d y) = dropped t Unsupported
 
@@ -175,15 +175,15 @@ wire_packet rows entries many n x (Some q) = got rows entries many q x (on_path 
 
 abbrev pub wire_ask : NetworkRow → AddressAsk → Option PortRow → Fate
 wire_ask n a None = dropped none_so_far Unknown
-wire_ask n a (Some q) = ended (on_path n) (Answered (ArpAnswer (V4 a.to) q.mac))
+wire_ask n a (Some q) = ended (on_path n) (Answered (ArpAnswer (destination a.ends) q.mac))
 
 abbrev pub wire_lease : RowLists → NetworkRow → LeaseAsk → Option PortRow → Fate
 wire_lease rows n a None = dropped none_so_far Unknown
 wire_lease rows n a (Some d) = ended (on_path n) (leased rows n.id a d)
 
 abbrev pub from_network : RowLists → List Entry → ℕ → NetworkRow → Frame → Fate
-from_network rows entries many n (Ip4 src dst from to ttl part) = wire_packet rows entries many n (packet src dst from to ttl part) (port_at rows n.id dst)
-from_network rows entries many n (ArpAsk src from to) = wire_ask n (address_ask src from to) (holder rows n.id (V4 to))
+from_network rows entries many n (Ip src dst ends ttl part) = wire_packet rows entries many n (packet src dst ends ttl part) (port_at rows n.id dst)
+from_network rows entries many n (NeighbourAsk src ends) = wire_ask n (address_ask src ends) (holder rows n.id (destination ends))
 from_network rows entries many n (Dhcp src from) = wire_lease rows n (lease_ask src from) (dhcp_port rows n.id)
 from_network rows entries many n (Other s d y) = dropped none_so_far Unsupported
 
@@ -193,8 +193,8 @@ from_wire rows entries many frame (Some n) = from_network rows entries many n fr
 
 -- a packet passes at most as many routers as its time to live says
 abbrev pub life_of : Frame → ℕ
-life_of (Ip4 src dst from to ttl part) = suc ttl
-life_of (ArpAsk src from to) = zero
+life_of (Ip src dst ends ttl part) = suc ttl
+life_of (NeighbourAsk src ends) = zero
 life_of (Dhcp src from) = zero
 life_of (Other s d y) = zero
 

@@ -1,52 +1,58 @@
 -- Packets and asks as records, and the frames that they are.
-use Rattle.std.specs.Prelude.{ℕ, ◌/◌, ◌%◌, ◌^◌, ◌==◌, Bool, true, false}
+use Rattle.std.specs.Prelude.{ℕ, ◌/◌, ◌%◌, ◌^◌, ◌==◌, Bool, true, false, Option, Some, None}
 use Rattle.plane_types.specs.Keys.{key_of_part}
+use Rattle.plane_types.specs.Ends.{Ends}
 use Rattle.plane_types.specs.declared.frame.Frame.{Frame}
-use Rattle.plane_types.specs.declared.frame.Frame.TheVariants.{ArpAsk, Dhcp, Ip4, Other}
+use Rattle.plane_types.specs.declared.frame.Frame.TheVariants.{Dhcp, Ip, NeighbourAsk, Other}
 use Rattle.plane_types.specs.declared.frame.Key.{Key}
 use Rattle.plane_types.specs.declared.frame.KeyPart.{KeyPart}
 use Rattle.plane_types.specs.declared.frame.KeyPart.TheVariants.{EchoAsk, EchoReply, Proto, Tcp, Udp}
 
--- a packet of IPv4 in its frame
+-- a packet of IP in its frame; its time to live is the hop limit of version 6
 pub record Packet : Type 0 where
   pub src : ℕ
   pub dst : ℕ
-  pub from : ℕ
-  pub to : ℕ
+  pub ends : Ends
   pub ttl : ℕ
   pub part : KeyPart
 
--- who asks for the MAC of an address (RFC 826)
+-- who asks for the MAC of an address: by ARP (RFC 826), or by a neighbour solicitation (RFC 4861, 4.3)
 pub record AddressAsk : Type 0 where
   pub src : ℕ
-  pub from : ℕ
-  pub to : ℕ
+  pub ends : Ends
 
 -- who asks for a lease (RFC 2131)
 pub record LeaseAsk : Type 0 where
   pub src : ℕ
   pub from : ℕ
 
-abbrev pub packet : ℕ → ℕ → ℕ → ℕ → ℕ → KeyPart → Packet
-packet src dst from to ttl part = record { src = src; dst = dst; from = from; to = to; ttl = ttl; part = part }
+abbrev pub packet : ℕ → ℕ → Ends → ℕ → KeyPart → Packet
+packet src dst ends ttl part = record { src = src; dst = dst; ends = ends; ttl = ttl; part = part }
 
-abbrev pub address_ask : ℕ → ℕ → ℕ → AddressAsk
-address_ask src from to = record { src = src; from = from; to = to }
+abbrev pub address_ask : ℕ → Ends → AddressAsk
+address_ask src ends = record { src = src; ends = ends }
 
 abbrev pub lease_ask : ℕ → ℕ → LeaseAsk
 lease_ask src from = record { src = src; from = from }
 
 abbrev pub ip_frame : Packet → Frame
-ip_frame p = Ip4 p.src p.dst p.from p.to p.ttl p.part
+ip_frame p = Ip p.src p.dst p.ends p.ttl p.part
 
-abbrev pub arp_frame : AddressAsk → Frame
-arp_frame a = ArpAsk a.src a.from a.to
+-- the packet in a frame of IP
+abbrev pub packet_in : Frame → Option Packet
+packet_in (Ip src dst ends ttl part) = Some (packet src dst ends ttl part)
+packet_in (NeighbourAsk src ends) = None
+packet_in (Dhcp src from) = None
+packet_in (Other src dst ethertype) = None
+
+abbrev pub ask_frame : AddressAsk → Frame
+ask_frame a = NeighbourAsk a.src a.ends
 
 abbrev pub dhcp_frame : LeaseAsk → Frame
 dhcp_frame a = Dhcp a.src a.from
 
 abbrev pub key_of : Packet → Key
-key_of p = key_of_part p.part p.from p.to
+key_of p = key_of_part p.part p.ends
 
 -- the packet's destination port, or an echo's id in its reply, is another
 abbrev pub part_to : KeyPart → ℕ → KeyPart
@@ -70,7 +76,7 @@ is_for_many mac = (mac / 2 ^ 40) % 2 == 1
 
 -- packets to many, and what is neither a packet nor an ask, are carried nowhere
 abbrev pub is_unsupported : Frame → Bool
-is_unsupported (Ip4 src dst from to ttl part) = is_for_many dst
-is_unsupported (ArpAsk src from to) = false
+is_unsupported (Ip src dst ends ttl part) = is_for_many dst
+is_unsupported (NeighbourAsk src ends) = false
 is_unsupported (Dhcp src from) = false
 is_unsupported (Other src dst ethertype) = true

@@ -16,7 +16,7 @@ use Rattle.plane_types.specs.declared.routing.Sourced.{Sourced}
 use Rattle.plane_types.specs.declared.translation.Use.{Use}
 
 abbrev pub packet_of : Packet → ThePacket
-packet_of p = packet p.src p.dst p.from p.to p.ttl p.part
+packet_of p = packet p.src p.dst p.ends p.ttl p.part
 
 abbrev pub passage_of : Passage → ThePassage
 passage_of x = record { passes = x.passes; made = option_to_list x.made }

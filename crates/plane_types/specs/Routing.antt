@@ -1,4 +1,6 @@
--- What a router does with a packet, in seven steps (RFC 1812, section 5; RFC 3022 for translation; RFC 2663, section 4.1.2).
+-- What a router does with a packet, in seven steps (RFC 1812, section 5; RFC 8200 for hop limits; RFC
+-- 3022 for translation; RFC 2663, section 4.1.2). Floating addresses and the gateway address are of
+-- version 4, so nothing of version 6 is translated.
 use Rattle.std.specs.Prelude.{ℕ, ◌+◌, ◌-◌, Bool, true, false, not, ◌&&◌, ◌||◌, ◌==◌, nat_lt, nat_le, List, [], ◌∷◌, Option, Some, None, if◌then◌else◌, find, zero, suc}
 use Rattle.std.specs.List.{list_any}
 use Rattle.std.specs.Option.{unwrap_or}
@@ -8,6 +10,7 @@ use Rattle.net_addr.specs.declared.address.Addr.TheVariants.{V4}
 use Rattle.net_addr.specs.Prefixes.{contains}
 use Rattle.api_types.specs.Ident.{Ident}
 use Rattle.api_types.specs.Table.{ident_eq}
+use Rattle.plane_types.specs.Ends.{are_four, destination, source, turned_round, with_destination, with_source}
 use Rattle.plane_types.specs.Keys.{key_eq, kind_eq, reversed}
 use Rattle.plane_types.specs.Packets.{Packet, key_of, part_from, part_to}
 use Rattle.plane_types.specs.declared.entry.Entry.{Entry}
@@ -59,21 +62,23 @@ uses_by true (Some outer) r entries = uses_at r outer entries
 
 -- First the destination. A floating address of this router becomes the fixed address. Else, where a valid entry answers to the
 -- packet (the kind is that of the reversed key, the outer address and port are the packet's destination, and the entry's far end is
--- the packet's source), the destination becomes the source that the entry keeps.
+-- the packet's source), the destination becomes the source that the entry keeps: the packet's ends are those of an answer to the key.
 abbrev pub answers : Option ℕ → Packet → Use → Bool
 answers None p u = false
-answers (Some outer) p u = (outer == p.to) && kind_eq u.key.kind (reversed (key_of p)).kind && (u.port == (key_of p).dport) && (u.key.to == p.from) && (u.key.dport == (key_of p).sport)
+answers (Some outer) p u =
+    addr_eq (V4 outer) (destination p.ends) && kind_eq u.key.kind (reversed (key_of p)).kind && (u.port == (key_of p).dport)
+    && addr_eq (destination u.key.ends) (source p.ends) && (u.key.dport == (key_of p).sport)
 
 abbrev pub destined_entry : Packet → Option Use → Destined
 destined_entry p None = record { packet = p; by = ByNothing }
-destined_entry p (Some u) = record { packet = record p { to = u.key.from; part = part_to p.part u.key.sport }; by = ByEntry }
+destined_entry p (Some u) = record { packet = record p { ends = turned_round u.key.ends; part = part_to p.part u.key.sport }; by = ByEntry }
 
 abbrev pub destined_float : RouterView → List Use → Packet → Option Float → Destined
-destined_float v uses p (Some f) = record { packet = record p { to = f.fixed }; by = ByFloating }
+destined_float v uses p (Some f) = record { packet = record p { ends = with_destination p.ends f.fixed }; by = ByFloating }
 destined_float v uses p None = destined_entry p (find (answers v.gateway p) uses)
 
 abbrev pub destined : RouterView → List Use → Packet → Destined
-destined v uses p = destined_float v uses p (find (λ (f : Float). f.floating == p.to) v.floats)
+destined v uses p = destined_float v uses p (find (λ (f : Float). addr_eq (V4 f.floating) (destination p.ends)) v.floats)
 
 -- The longest prefix that contains the destination is taken; of equal lengths a connected route goes before an extra one, that
 -- before the default, and the first of equal ones.
@@ -96,7 +101,7 @@ best_way x (w ∷ ways) = if contains w.prefix x then Some (better w (best_way x
 -- Last the source. A port is taken where a valid entry has it with the same kind and far end. The outer port of a new entry is the
 -- same port where free, else, for TCP, UDP and echoes, the least free one of 1,024 to 65,535.
 abbrev pub is_taken : List Use → Key → ℕ → Bool
-is_taken uses k port = list_any (λ (u : Use). (u.port == port) && kind_eq u.key.kind k.kind && (u.key.to == k.to) && (u.key.dport == k.dport)) uses
+is_taken uses k port = list_any (λ (u : Use). (u.port == port) && kind_eq u.key.kind k.kind && addr_eq (destination u.key.ends) (destination k.ends) && (u.key.dport == k.dport)) uses
 
 unfoldable pub least_untaken : List Use → Key → ℕ → ℕ → Option ℕ
 least_untaken uses k zero first = None
@@ -114,7 +119,7 @@ new_port uses k = if is_taken uses k k.sport then (if has_choice k.kind then lea
 
 -- the source becomes the gateway address with the port of the valid entry that has the same key, else with a new one
 abbrev pub sourced_at : Packet → ℕ → ℕ → Packet
-sourced_at p outer port = record p { from = outer; part = part_from p.part port }
+sourced_at p outer port = record p { ends = with_source p.ends outer; part = part_from p.part port }
 
 abbrev pub sourced_new : Ident → Packet → ℕ → Option ℕ → Option Sourced
 sourced_new r p outer None = None
@@ -147,13 +152,14 @@ is_gateway_live v = list_any (λ (l : Leg). not l.inside) v.legs
 -- a floating address of this router for the source replaces it; else the source is translated where the packet leaves by the
 -- gateway port, or a floating address changed its destination, and the router translates and its gateway port is live
 abbrev pub sourced_float : RouterView → List Use → Leg → Changed → Packet → Option Float → Option Sourced
-sourced_float v uses out by p (Some f) = Some (record { packet = record p { from = f.floating }; made = [] })
+sourced_float v uses out by p (Some f) = Some (record { packet = record p { ends = with_source p.ends f.floating }; made = [] })
 sourced_float v uses out by p None = if (not out.inside || by_float by) && v.snat && is_gateway_live v then sourced_gateway v uses p v.gateway else kept_source p
 
--- only a packet that came in by an interface, and leaves by the gateway port or had its destination changed
+-- only a packet of version 4 that came in by an interface, and leaves by the gateway port or had its destination changed
 abbrev pub sourced : RouterView → List Use → Leg → Leg → Changed → Packet → Option Sourced
 sourced v uses way_in out by p =
-    if way_in.inside && (not out.inside || by_any by) then sourced_float v uses out by p (find (λ (f : Float). f.fixed == p.from) v.floats) else kept_source p
+    if are_four p.ends && way_in.inside && (not out.inside || by_any by)
+    then sourced_float v uses out by p (find (λ (f : Float). addr_eq (V4 f.fixed) (source p.ends)) v.floats) else kept_source p
 
 -- the packet's source MAC is that of the way out
 abbrev pub sent : Leg → Addr → Option Sourced → Routed
@@ -167,7 +173,7 @@ routed_out v uses way_in by p hop (Some out) = sent out hop (sourced v uses way_
 
 abbrev pub routed_way : RouterView → List Use → Leg → Changed → Packet → Option Way → Routed
 routed_way v uses way_in by p None = RouteEnds (Dropped NoRoute)
-routed_way v uses way_in by p (Some w) = routed_out v uses way_in by p (unwrap_or w.next (V4 p.to)) (find (λ (l : Leg). ident_eq w.port l.port) v.legs)
+routed_way v uses way_in by p (Some w) = routed_out v uses way_in by p (unwrap_or w.next (destination p.ends)) (find (λ (l : Leg). ident_eq w.port l.port) v.legs)
 
 -- an address of a live port of this router is the router's own
 abbrev pub is_own : RouterView → Addr → Bool
@@ -176,9 +182,9 @@ is_own v x = list_any (λ (l : Leg). list_any (λ a. addr_eq a x) l.addresses) v
 -- then what is the router's own ends, and what has lived; what goes on has one step less to live
 abbrev pub routed_to : RouterView → List Use → Leg → Destined → Routed
 routed_to v uses way_in d =
-    if is_own v (V4 d.packet.to) then RouteEnds (Absorbed v.id)
+    if is_own v (destination d.packet.ends) then RouteEnds (Absorbed v.id)
     else if nat_le d.packet.ttl 1 then RouteEnds (Dropped Expired)
-    else routed_way v uses way_in d.by (record (d.packet) { ttl = d.packet.ttl - 1 }) (best_way (V4 d.packet.to) v.ways)
+    else routed_way v uses way_in d.by (record (d.packet) { ttl = d.packet.ttl - 1 }) (best_way (destination d.packet.ends) v.ways)
 
 -- the whole rule, which a router that is down doesn't begin
 unfoldable pub routed : RouterView → List Entry → Leg → Packet → Routed

@@ -22,7 +22,6 @@ use Rattle.api_types.specs.declared.port.PortRow.{PortRow}
 use Rattle.api_types.specs.declared.router.RouterRow.{RouterRow}
 use Rattle.api_types.specs.declared.subnet.SubnetRow.{SubnetRow}
 use Rattle.api_types.specs.Ascending.{ascending}
-use Rattle.plane_types.specs.Filter.{is_ipv4}
 use Rattle.api_types.specs.Members.{names_group, members}
 use Rattle.api_types.specs.Holders.{dhcp_port, floating_holder, router_named, router_of}
 use Rattle.plane_types.specs.Hosts.{bridge_before, neighbour_before}
@@ -60,6 +59,7 @@ tag_of tags n = option_map (λ (t : TagRow). t.tag) (find (λ (t : TagRow). iden
 abbrev pub is_tap : RowLists → List ℕ → PortRow → Bool
 is_tap rows host p = is_here rows host p && not (is_router_port p.owner)
 
+-- each address as a prefix of its version's width
 abbrev pub allowed_of : PortRow → List Pair
 allowed_of p = map (λ (f : Fixed). record { mac = p.mac; prefix = whole_prefix f.address }) p.fixed ++ p.pairs
 
@@ -74,10 +74,10 @@ tap_rows rows host tags = filter_map (tap_row rows host tags) rows.ports
 
 -- filters
 abbrev pub filter_of : PortRow → RuleRow → FilterRow
-filter_of p r = record { port = p.id; direction = r.direction; protocol = r.protocol; low = r.low; high = r.high; remote_prefix = r.remote_prefix; remote_group = r.remote_group }
+filter_of p r = record { port = p.id; direction = r.direction; ethertype = r.ethertype; protocol = r.protocol; low = r.low; high = r.high; remote_prefix = r.remote_prefix; remote_group = r.remote_group }
 
 abbrev pub filter_by : PortRow → GroupRow → RuleRow → Option FilterRow
-filter_by p g r = if is_ipv4 r.ethertype && ident_eq r.group g.id then Some (filter_of p r) else None
+filter_by p g r = if ident_eq r.group g.id then Some (filter_of p r) else None
 
 abbrev pub filters_of_group : RowLists → PortRow → GroupRow → List FilterRow
 filters_of_group rows p g = if names_group g.id p.groups then filter_map (filter_by p g) rows.rules else []

@@ -10,17 +10,18 @@ use Rattle.api_types.specs.Table.{ident_eq}
 use Rattle.api_types.specs.declared.group.Direction.{Direction}
 use Rattle.api_types.specs.declared.group.Direction.TheVariants.{Egress, Ingress}
 use Rattle.api_types.specs.declared.port.Pair.{Pair}
+use Rattle.plane_types.specs.Ends.{destination, source}
 use Rattle.plane_types.specs.Filter.{parts_fit}
 use Rattle.plane_types.specs.Hosts.{bridge_key_eq}
 use Rattle.api_types.specs.Wires.{wire_eq}
-use Rattle.plane_types.specs.Packets.{AddressAsk, Packet, address_ask, arp_frame, ip_frame, is_unsupported, key_of, packet}
+use Rattle.plane_types.specs.Packets.{AddressAsk, Packet, address_ask, ask_frame, ip_frame, is_unsupported, key_of, packet}
 use Rattle.plane_types.specs.Passage.{Passage, passage}
 use Rattle.plane_types.specs.Places.{Bridge, DhcpIn, End, Next, Place, RouterIn, Step, TapIn, TapOut, ToTunnel, ToWire, TunnelIn, WireIn}
 use Rattle.plane_types.specs.Routing.{RouteEnds, RouteSends, Routed, routed}
 use Rattle.api_types.specs.RouterViews.{Float, Leg, RouterView, Way}
 use Rattle.plane_types.specs.declared.entry.Entry.{Entry}
 use Rattle.plane_types.specs.declared.frame.Frame.{Frame}
-use Rattle.plane_types.specs.declared.frame.Frame.TheVariants.{ArpAsk, Dhcp, Ip4, Other}
+use Rattle.plane_types.specs.declared.frame.Frame.TheVariants.{Dhcp, Ip, NeighbourAsk, Other}
 use Rattle.plane_types.specs.declared.frame.Key.{Key}
 use Rattle.plane_types.specs.declared.table.BridgeKey.{BridgeKey}
 use Rattle.plane_types.specs.declared.table.BridgeKey.TheVariants.{Dhcp as AtDhcp, Mac as AtMac}
@@ -91,7 +92,7 @@ abbrev pub in_set : HostTables → Ident → Addr → Bool
 in_set t group x = list_any (λ (s : SetRow). ident_eq group s.group && contains s.prefix x) t.sets
 
 abbrev pub row_fits : HostTables → Direction → Key → FilterRow → Bool
-row_fits t direction key r = parts_fit (in_set t) r.direction r.protocol r.low r.high r.remote_prefix r.remote_group direction key
+row_fits t direction key r = parts_fit (in_set t) r.direction r.ethertype r.protocol r.low r.high r.remote_prefix r.remote_group direction key
 
 unfoldable pub tables_allow : HostTables → Ident → Direction → Key → Bool
 tables_allow t port direction key = list_any (λ (r : FilterRow). ident_eq port r.port && row_fits t direction key r) t.filters
@@ -104,8 +105,8 @@ abbrev pub may_send_as : List Pair → ℕ → Addr → Bool
 may_send_as allowed mac from = list_any (λ (x : Pair). (x.mac == mac) && contains x.prefix from) allowed
 
 abbrev pub tap_guards : TapRow → Frame → Bool
-tap_guards tap (Ip4 src dst from to ttl part) = may_send_as tap.allowed src (V4 from)
-tap_guards tap (ArpAsk src from to) = may_send_as tap.allowed src (V4 from)
+tap_guards tap (Ip src dst ends ttl part) = may_send_as tap.allowed src (source ends)
+tap_guards tap (NeighbourAsk src ends) = may_send_as tap.allowed src (source ends)
 tap_guards tap (Dhcp src from) = if from == 0 then (tap.mac == src) || list_any (λ (y : Pair). y.mac == src) tap.allowed else may_send_as tap.allowed src (V4 from)
 tap_guards tap (Other s d y) = true
 
@@ -113,8 +114,8 @@ abbrev pub tap_filtered : Frame → TapRow → Passage → Stepped
 tap_filtered frame tap y = if y.passes then record { step = Next (Bridge tap.tag frame); made = y.made } else plain (drops EgressFilter)
 
 abbrev pub tap_sends : HostTables → List Entry → TapRow → Frame → Stepped
-tap_sends t entries tap (Ip4 src dst from to ttl part) = tap_filtered (Ip4 src dst from to ttl part) tap (tap_passage t entries tap Egress (packet src dst from to ttl part))
-tap_sends t entries tap (ArpAsk src from to) = plain (Next (Bridge tap.tag (ArpAsk src from to)))
+tap_sends t entries tap (Ip src dst ends ttl part) = tap_filtered (Ip src dst ends ttl part) tap (tap_passage t entries tap Egress (packet src dst ends ttl part))
+tap_sends t entries tap (NeighbourAsk src ends) = plain (Next (Bridge tap.tag (NeighbourAsk src ends)))
 tap_sends t entries tap (Dhcp src from) = plain (Next (Bridge tap.tag (Dhcp src from)))
 tap_sends t entries tap (Other s d y) = plain (Next (Bridge tap.tag (Other s d y)))
 
@@ -132,14 +133,14 @@ wire_or false n None toward frame cause = drops cause
 wire_or false n (Some w) toward frame cause = ToWire w n toward frame
 
 abbrev pub tapped : ℕ → Ident → Frame → Step
-tapped tag port (Ip4 src dst from to ttl part) = Next (TapOut port (Ip4 src dst from to ttl part))
+tapped tag port (Ip src dst ends ttl part) = Next (TapOut port (Ip src dst ends ttl part))
 tapped tag port (Dhcp src from) = Next (DhcpIn tag (Dhcp src from))
-tapped tag port (ArpAsk src from to) = Next (DhcpIn tag (ArpAsk src from to))
+tapped tag port (NeighbourAsk src ends) = Next (DhcpIn tag (NeighbourAsk src ends))
 tapped tag port (Other s d y) = Next (DhcpIn tag (Other s d y))
 
 abbrev pub routed_in : Ident → Ident → Frame → Step
-routed_in router port (Ip4 src dst from to ttl part) = Next (RouterIn port router (Ip4 src dst from to ttl part))
-routed_in router port (ArpAsk src from to) = drops Unknown
+routed_in router port (Ip src dst ends ttl part) = Next (RouterIn port router (Ip src dst ends ttl part))
+routed_in router port (NeighbourAsk src ends) = drops Unknown
 routed_in router port (Dhcp src from) = drops Unknown
 routed_in router port (Other s d y) = drops Unknown
 
@@ -154,13 +155,13 @@ abbrev pub bridged_by : Bool → TagRow → Toward → Frame → DropCause → O
 bridged_by inner row toward frame cause (Some r) = led inner row.tag frame r.to
 bridged_by inner row toward frame cause None = wire_or inner row.network row.wire toward frame cause
 
-abbrev pub arp_by : Bool → TagRow → AddressAsk → Option NeighbourRow → Step
-arp_by inner row a (Some r) = stops (Answered (ArpAnswer r.address r.mac))
-arp_by inner row a None = wire_or inner row.network row.wire (TowardAddress (V4 a.to)) (arp_frame a) NoHolder
+abbrev pub asked_at : Bool → TagRow → AddressAsk → Option NeighbourRow → Step
+asked_at inner row a (Some r) = stops (Answered (ArpAnswer r.address r.mac))
+asked_at inner row a None = wire_or inner row.network row.wire (TowardAddress (destination a.ends)) (ask_frame a) NoHolder
 
 abbrev pub bridge_in : HostTables → Bool → TagRow → Frame → Step
-bridge_in t inner row (Ip4 src dst from to ttl part) = bridged_by inner row (TowardMac dst) (Ip4 src dst from to ttl part) Unknown (bridge_at t row.tag (AtMac dst))
-bridge_in t inner row (ArpAsk src from to) = arp_by inner row (address_ask src from to) (neighbour_at t row.tag (V4 to))
+bridge_in t inner row (Ip src dst ends ttl part) = bridged_by inner row (TowardMac dst) (Ip src dst ends ttl part) Unknown (bridge_at t row.tag (AtMac dst))
+bridge_in t inner row (NeighbourAsk src ends) = asked_at inner row (address_ask src ends) (neighbour_at t row.tag (destination ends))
 bridge_in t inner row (Dhcp src from) = bridged_by inner row TowardDhcp (Dhcp src from) NoLease (bridge_at t row.tag AtDhcp)
 bridge_in t inner row (Other s d y) = wire_or inner row.network row.wire (TowardMac d) (Other s d y) Unknown
 
@@ -230,8 +231,8 @@ router_by_row t entries port p None = plain (drops Unknown)
 router_by_row t entries port p (Some r) = router_by_leg t entries r p (tagged_leg r port)
 
 abbrev pub router_in : HostTables → List Entry → Ident → Ident → Frame → Stepped
-router_in t entries port router (Ip4 src dst from to ttl part) = router_by_row t entries port (packet src dst from to ttl part) (router_at t router)
-router_in t entries port router (ArpAsk src from to) = plain (drops Unknown)
+router_in t entries port router (Ip src dst ends ttl part) = router_by_row t entries port (packet src dst ends ttl part) (router_at t router)
+router_in t entries port router (NeighbourAsk src ends) = plain (drops Unknown)
 router_in t entries port router (Dhcp src from) = plain (drops Unknown)
 router_in t entries port router (Other s d y) = plain (drops Unknown)
 
@@ -241,8 +242,8 @@ lease_answer None = drops NoLease
 lease_answer (Some r) = stops (Answered (LeaseAnswer r.lease))
 
 abbrev pub source_of : Frame → ℕ
-source_of (Ip4 src dst from to ttl part) = src
-source_of (ArpAsk src from to) = src
+source_of (Ip src dst ends ttl part) = src
+source_of (NeighbourAsk src ends) = src
 source_of (Dhcp src from) = src
 source_of (Other s d y) = s
 
@@ -253,8 +254,8 @@ abbrev pub tap_delivers : Ident → Frame → Passage → Stepped
 tap_delivers port frame y = if y.passes then record { step = stops (Delivered port frame); made = y.made } else plain (drops IngressFilter)
 
 abbrev pub tap_out_by : HostTables → List Entry → Frame → TapRow → Stepped
-tap_out_by t entries (Ip4 src dst from to ttl part) tap = tap_delivers tap.port (Ip4 src dst from to ttl part) (tap_passage t entries tap Ingress (packet src dst from to ttl part))
-tap_out_by t entries (ArpAsk src from to) tap = plain (stops (Delivered tap.port (ArpAsk src from to)))
+tap_out_by t entries (Ip src dst ends ttl part) tap = tap_delivers tap.port (Ip src dst ends ttl part) (tap_passage t entries tap Ingress (packet src dst ends ttl part))
+tap_out_by t entries (NeighbourAsk src ends) tap = plain (stops (Delivered tap.port (NeighbourAsk src ends)))
 tap_out_by t entries (Dhcp src from) tap = plain (stops (Delivered tap.port (Dhcp src from)))
 tap_out_by t entries (Other s d y) tap = plain (stops (Delivered tap.port (Other s d y)))
 

@@ -63,6 +63,14 @@ impl Entries {
         }
     }
 
+    /// Drops all entries; their room stays.
+    pub fn clear(&mut self)
+        ensures items { self.new.items ≡ [] }
+        ensures spare { self.old.spare ≤ self.new.spare }
+    {
+        self.items.clear();
+    }
+
     /// The entries.
     pub fn as_slice(&self) -> &[Entry]
         ensures { result.now ≡ self.now.items }

@@ -1,6 +1,7 @@
 ghost use Rattle.std.specs.Prelude.{◌≡◌};
 ghost use Rattle.plane_types.specs.Keys.{answer_kind, frame_key, key_of_part, reversed};
 
+use crate::ends::Ends;
 use net_addr::{Addr4, Mac};
 
 /// What a packet carries, as far as filters and routers ask.
@@ -8,9 +9,9 @@ use net_addr::{Addr4, Mac};
 pub enum KeyPart {
     Tcp { sport: u16, dport: u16 },
     Udp { sport: u16, dport: u16 },
-    /// An echo of ICMP (RFC 792), type 8.
+    /// An echo: of ICMP (RFC 792), type 8, or of ICMPv6 (RFC 4443), type 128.
     EchoAsk { id: u16 },
-    /// Its reply, type 0.
+    /// Its reply, of type 0 or 129.
     EchoReply { id: u16 },
     /// Another protocol of IP by its number (IANA).
     Proto { number: u8 },
@@ -19,21 +20,20 @@ pub enum KeyPart {
 /// A frame of Ethernet, as far as networks, filters and routers ask.
 #[derive(Clone, Copy, PartialEq, Eq)]
 pub enum Frame {
-    /// A packet of IPv4 (RFC 791).
-    Ip4 {
+    /// A packet of IPv4 (RFC 791) or IPv6 (RFC 8200), by its ends.
+    Ip {
         src: Mac,
         dst: Mac,
-        from: Addr4,
-        to: Addr4,
-        /// Time to live: how many routers more may send it on, and one.
+        ends: Ends,
+        /// Time to live, or hop limit: how many routers more may send it on, and one.
         ttl: u8,
         part: KeyPart,
     },
-    /// Asks for the MAC of an address (RFC 826).
-    ArpAsk {
+    /// Asks for the MAC of an address: by ARP (RFC 826), or by a neighbour solicitation (RFC 4861,
+    /// 4.3).
+    NeighbourAsk {
         src: Mac,
-        from: Addr4,
-        to: Addr4,
+        ends: Ends,
     },
     /// Asks for a lease (RFC 2131).
     Dhcp {
@@ -58,20 +58,19 @@ pub enum KeyKind {
     Proto(u8),
 }
 
-/// By what a packet is tracked: its addresses and ports. An echo's id is its source port, and its
+/// By what a packet is tracked: its ends and ports. An echo's id is its source port, and its
 /// reply's is the destination port; where there is no port it is 0.
 #[derive(Clone, Copy, PartialEq, Eq)]
 pub struct Key {
     pub kind: KeyKind,
-    pub from: Addr4,
+    pub ends: Ends,
     pub sport: u16,
-    pub to: Addr4,
     pub dport: u16,
 }
 
 impl KeyPart {
-    fn key(self, from: Addr4, to: Addr4) -> Key
-        ensures { result ≡ key_of_part self from to }
+    fn key(self, ends: Ends) -> Key
+        ensures { result ≡ key_of_part self ends }
     {
         let (kind, sport, dport) = match self {
             KeyPart::Tcp { sport, dport } => (KeyKind::Tcp, sport, dport),
@@ -82,9 +81,8 @@ impl KeyPart {
         };
         Key {
             kind,
-            from,
+            ends,
             sport,
-            to,
             dport,
         }
     }
@@ -96,7 +94,7 @@ impl Frame {
         ensures { result ≡ frame_key self.now }
     {
         match *self {
-            Frame::Ip4 { from, to, part, .. } => Some(part.key(from, to)),
+            Frame::Ip { ends, part, .. } => Some(part.key(ends)),
             _ => None,
         }
     }
@@ -115,15 +113,14 @@ impl KeyKind {
 }
 
 impl Key {
-    /// The key of an answer: addresses and ports change places, and an echo with its reply.
+    /// The key of an answer: ends and ports change places, and an echo with its reply.
     pub fn reversed(self) -> Key
         ensures { result ≡ reversed self }
     {
         Key {
             kind: self.kind.answer(),
-            from: self.to,
+            ends: self.ends.turned_round(),
             sport: self.dport,
-            to: self.from,
             dport: self.sport,
         }
     }
@@ -132,17 +129,13 @@ impl Key {
 #[cfg(test)]
 mod tests {
     use super::*;
+    use net_addr::Addr6;
 
-    const HERE: Addr4 = Addr4(0x0a00_0005);
-
-    const THERE: Addr4 = Addr4(0x0a01_0005);
-
-    fn packet(from: Addr4, to: Addr4, part: KeyPart) -> Frame {
-        Frame::Ip4 {
+    fn packet(ends: Ends, part: KeyPart) -> Frame {
+        Frame::Ip {
             src: Mac(5),
             dst: Mac(6),
-            from,
-            to,
+            ends,
             ttl: 64,
             part,
         }
@@ -177,14 +170,19 @@ mod tests {
     #[test]
     fn keys(rt: HostRuntime) {
         for (ask, answer) in ANSWERS {
-            let key = packet(HERE, THERE, ask).key().expect(&rt, "a packet");
-            assert!(rt; packet(THERE, HERE, answer).key() == Some(key.reversed()));
-            assert!(rt; key.reversed().reversed() == key);
+            for there in [
+                Ends::four(Addr4(0x0a00_0005), Addr4(0x0a01_0005)),
+                Ends::six(Addr6(5), Addr6(6)),
+            ] {
+                let back = there.turned_round();
+                let key = packet(there, ask).key().expect(&rt, "a packet");
+                assert!(rt; packet(back, answer).key() == Some(key.reversed()));
+                assert!(rt; key.reversed().reversed() == key);
+            }
         }
-        let ask = Frame::ArpAsk {
+        let ask = Frame::NeighbourAsk {
             src: Mac(5),
-            from: HERE,
-            to: THERE,
+            ends: Ends::four(Addr4(5), Addr4(6)),
         };
         assert!(rt; ask.key().is_none());
     }

@@ -22,8 +22,8 @@ pub fn is_key(a: &Key, b: &Key) -> bool
     ensures { result ≡ key_eq a.now b.now }
 {
     is_kind(a.kind, b.kind)
-        && a.from == b.from
+        && a.ends.source() == b.ends.source()
         && a.sport == b.sport
-        && a.to == b.to
+        && a.ends.destination() == b.ends.destination()
         && a.dport == b.dport
 }

@@ -3,12 +3,15 @@
 //! The types that cross from the rows of the Networking API to the hosts that carry its frames, and
 //! in specs/ what a frame does: by the rows alone, and by the tables that hosts hold. It stands on
 //! the rows of `api_types`. Definitions are over the declared types, so contracts above cite both.
-//! A key is a packet's addresses and ports as its protocol has them. Beside the types stands what
-//! rows and tables ask alike of single packets: keys, flows, the parts of a filter, allowed pairs
-//! and translations. Only copying tables takes memory.
+//! A key is a packet's ends and ports as its protocol has them; both ends are of one version of IP,
+//! by their type. Beside the types stands what rows and tables ask alike of single packets: keys,
+//! flows, the parts of a filter, allowed pairs and translations. Only tables take memory, where they
+//! are copied or put into order.
 #![tactic(auto)]
 
+mod ascending;
 mod ask;
+mod ends;
 mod entries;
 mod entry;
 mod event;
@@ -26,7 +29,9 @@ mod tags;
 mod translation;
 mod verdict;
 
+pub use ascending::Ascending;
 pub use ask::{Ask, Heard, HostState, LabAnswer, LabCall, Reply};
+pub use ends::Ends;
 pub use entries::{Entries, Fresh};
 pub use entry::Entry;
 pub use event::{Event, Place};
@@ -38,7 +43,7 @@ pub use packet::{Packet, is_unsupported, part_from, part_to};
 pub use pairs::{has_pair_mac, is_allowed};
 pub use routing::{
     Changed, Destined, Sourced, answered_to, by_any, by_float, kept_source, lower, rank_place,
-    sourced_at, with_destination,
+    sourced_at, with_ends,
 };
 pub use table::{
     BridgeKey, BridgeRow, BridgeTo, Carrier, FilterRow, FloatRow, InwardRow, LeaseRow,

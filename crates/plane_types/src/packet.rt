@@ -1,31 +1,52 @@
-ghost use Rattle.std.specs.Prelude.{◌≡◌};
-ghost use Rattle.plane_types.specs.Packets.{ip_frame, is_for_many as names_many, is_unsupported as unsupported, key_of, part_from as with_source_port, part_to as with_destination_port};
+ghost use Rattle.std.specs.Prelude.{◌≡◌, option_map};
+ghost use Rattle.plane_types.specs.Packets.{ip_frame, is_for_many as names_many, is_unsupported as unsupported, key_of, packet_in, part_from as with_source_port, part_to as with_destination_port};
 ghost use Rattle.plane_types.specs.Parts.{packet_of};
 
+use crate::ends::Ends;
 use crate::frame::{Frame, Key, KeyPart};
-use net_addr::{Addr4, Mac};
+use net_addr::Mac;
 
-/// A packet of IPv4 (RFC 791) in its frame.
+/// A packet of IPv4 (RFC 791) or IPv6 (RFC 8200) in its frame.
 #[derive(Clone, Copy)]
 pub struct Packet {
     pub src: Mac,
     pub dst: Mac,
-    pub from: Addr4,
-    pub to: Addr4,
+    pub ends: Ends,
     pub ttl: u8,
     pub part: KeyPart,
 }
 
 impl Packet {
+    /// The packet in a frame of IP.
+    pub fn of(frame: &Frame) -> Option<Packet>
+        ensures { option_map packet_of result ≡ packet_in frame.now }
+    {
+        match *frame {
+            Frame::Ip {
+                src,
+                dst,
+                ends,
+                ttl,
+                part,
+            } => Some(Packet {
+                src,
+                dst,
+                ends,
+                ttl,
+                part,
+            }),
+            Frame::NeighbourAsk { .. } | Frame::Dhcp { .. } | Frame::Other { .. } => None,
+        }
+    }
+
     /// The frame that it is.
     pub fn frame(&self) -> Frame
         ensures { result ≡ ip_frame (packet_of self.now) }
     {
-        Frame::Ip4 {
+        Frame::Ip {
             src: self.src,
             dst: self.dst,
-            from: self.from,
-            to: self.to,
+            ends: self.ends,
             ttl: self.ttl,
             part: self.part,
         }
@@ -78,8 +99,8 @@ pub fn is_unsupported(frame: &Frame) -> bool
     ensures { result ≡ unsupported frame.now }
 {
     match *frame {
-        Frame::Ip4 { dst, .. } => is_for_many(dst),
-        Frame::ArpAsk { .. } | Frame::Dhcp { .. } => false,
+        Frame::Ip { dst, .. } => is_for_many(dst),
+        Frame::NeighbourAsk { .. } | Frame::Dhcp { .. } => false,
         Frame::Other { .. } => true,
     }
 }

@@ -1,8 +1,10 @@
 ghost use Rattle.std.specs.Prelude.{◌≡◌, ◌-◌, ◌<◌, option_map};
+ghost use Rattle.plane_types.specs.Ends.{turned_round as other_way_round};
 ghost use Rattle.plane_types.specs.Packets.{part_to as with_destination_port};
 ghost use Rattle.plane_types.specs.Routing.{by_any as changed_at_all, by_float as changed_by_float, kept_source as kept, rank_place as place_of_rank, sourced_at as sourced_with};
 ghost use Rattle.plane_types.specs.Parts.{changed_of, destined_of, packet_of, sourced_of};
 
+use crate::ends::Ends;
 use crate::entry::Entry;
 use crate::frame::KeyPart;
 use crate::packet::{Packet, part_from, part_to};
@@ -52,12 +54,12 @@ pub fn by_any(by: Changed) -> bool
     }
 }
 
-/// The packet with another destination.
-pub fn with_destination(packet: &Packet, to: Addr4, part: KeyPart) -> Packet
-    ensures { packet_of result ≡ record (packet_of packet.now) { to = to; part = part } }
+/// The packet with other ends and ports.
+pub fn with_ends(packet: &Packet, ends: Ends, part: KeyPart) -> Packet
+    ensures { packet_of result ≡ record (packet_of packet.now) { ends = ends; part = part } }
 {
     Packet {
-        to,
+        ends,
         part,
         ..*packet
     }
@@ -65,11 +67,11 @@ pub fn with_destination(packet: &Packet, to: Addr4, part: KeyPart) -> Packet
 
 /// The packet with the source that the entry keeps as its destination.
 pub fn answered_to(packet: &Packet, entry: &Use) -> Packet
-    ensures { packet_of result ≡ record (packet_of packet.now) { to = entry.now.key.from; part = with_destination_port packet.now.part entry.now.key.sport } }
+    ensures { packet_of result ≡ record (packet_of packet.now) { ends = other_way_round entry.now.key.ends; part = with_destination_port packet.now.part entry.now.key.sport } }
 {
-    with_destination(
+    with_ends(
         packet,
-        entry.key.from,
+        entry.key.ends.turned_round(),
         part_to(packet.part, entry.key.sport),
     )
 }
@@ -103,7 +105,7 @@ pub fn sourced_at(packet: &Packet, outer: Addr4, port: u16) -> Packet
     ensures { packet_of result ≡ sourced_with (packet_of packet.now) outer port }
 {
     Packet {
-        from: outer,
+        ends: packet.ends.with_source(outer),
         part: part_from(packet.part, port),
         ..*packet
     }

@@ -1,4 +1,4 @@
-use api_types::{Direction, Id, Lease, Pair, RouteRank, Wire};
+use api_types::{Direction, Ethertype, Id, Lease, Pair, RouteRank, Wire};
 use net_addr::{Addr, Addr4, Copies, Mac, OutOfMemory, Prefix, Prefixes, Seq, Text};
 use std::alloc::Global;
 
@@ -29,11 +29,13 @@ pub struct TapRow {
 pub struct FilterRow {
     pub port: Id,
     pub direction: Direction,
+    /// Of which version the packets are.
+    pub ethertype: Ethertype,
     /// By its number (IANA), or any.
     pub protocol: Option<u8>,
-    /// The least port, or the type for ICMP.
+    /// The least port, or the type for ICMP and ICMPv6.
     pub low: Option<u16>,
-    /// The greatest port, or the code for ICMP.
+    /// The greatest port, or the code for ICMP and ICMPv6.
     pub high: Option<u16>,
     pub remote_prefix: Option<Prefix>,
     /// The group in whose set the far address may be.
@@ -120,7 +122,7 @@ pub struct RouterTable {
     pub up: bool,
     /// Whether sources are translated to the gateway address.
     pub snat: bool,
-    /// The first address of the gateway port, whether or not that is live.
+    /// The first address of version 4 of the gateway port, whether or not that is live.
     pub gateway: Option<Addr4>,
     /// Its live ports, in order of creation.
     pub ports: Seq<RouterPort>,

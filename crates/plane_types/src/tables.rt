@@ -1,3 +1,4 @@
+use crate::ascending::Ascending;
 use crate::table::{
     BridgeRow, FilterRow, FloatRow, InwardRow, LeaseRow, NeighbourRow, RouteRow, RouterTable,
     SetRow, TagRow, TapRow,
@@ -12,15 +13,15 @@ pub type Tags = Seq<TagRow>;
 pub type Leases = Seq<LeaseRow>;
 
 /// The tables of one host. Each list is in order of creation of the rows of the API that its rows
-/// come from, but `sets`, `bridge` and `neighbours` ascend.
+/// come from, but `sets`, `bridge` and `neighbours` ascend; the latter two by their type.
 pub struct HostTables {
     pub tags: Tags,
     pub taps: Seq<TapRow>,
     pub filters: Seq<FilterRow>,
     pub sets: Seq<SetRow>,
-    pub bridge: Seq<BridgeRow>,
+    pub bridge: Ascending<BridgeRow>,
     pub inward: Seq<InwardRow>,
-    pub neighbours: Seq<NeighbourRow>,
+    pub neighbours: Ascending<NeighbourRow>,
     pub routers: Seq<RouterTable>,
     pub routes: Seq<RouteRow>,
     pub floats: Seq<FloatRow>,
@@ -67,6 +68,7 @@ impl Copies for HostTables {
 #[cfg(test)]
 mod tests {
     use super::*;
+    use crate::ends::Ends;
     use crate::entries::Fresh;
     use crate::entry::Entry;
     use crate::frame::{Key, KeyKind};
@@ -79,20 +81,21 @@ mod tests {
 
     const EIGHT: BridgeKey = BridgeKey::Mac(Mac(0x0200_0000_0008));
 
-    fn bridge(alloc: Global) -> Result<Seq<BridgeRow>, OutOfMemory> {
-        let mut rows = Seq::new(alloc);
-        rows.push(BridgeRow {
-            tag: 1,
-            key: SEVEN,
-            to: BridgeTo::Tap(Id::make(1, 7)),
-        })?;
-        rows.push(BridgeRow {
+    // Two rows, of which the first to be put comes last.
+    fn bridge(alloc: Global) -> Result<Ascending<BridgeRow>, OutOfMemory> {
+        let mut rows = Ascending::new(alloc);
+        rows.put(BridgeRow {
             tag: 1,
             key: EIGHT,
             to: BridgeTo::Tunnel {
                 host: Text::of(alloc, "c2")?,
                 number: 1,
             },
+        })?;
+        rows.put(BridgeRow {
+            tag: 1,
+            key: SEVEN,
+            to: BridgeTo::Tap(Id::make(1, 7)),
         })?;
         Ok(rows)
     }
@@ -107,7 +110,7 @@ mod tests {
             sets: Seq::new(alloc),
             bridge: bridge(alloc)?,
             inward: Seq::new(alloc),
-            neighbours: Seq::new(alloc),
+            neighbours: Ascending::new(alloc),
             routers: Seq::new(alloc),
             routes: Seq::new(alloc),
             floats: Seq::new(alloc),
@@ -130,9 +133,8 @@ mod tests {
     fn fresh_entries(rt: HostRuntime) -> Result<(), Fail> {
         let key = Key {
             kind: KeyKind::Tcp,
-            from: Addr4(1),
+            ends: Ends::four(Addr4(1), Addr4(3)),
             sport: 2,
-            to: Addr4(3),
             dport: 4,
         };
         let entry = Entry::Flow {

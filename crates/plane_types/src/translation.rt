@@ -1,4 +1,6 @@
 ghost use Rattle.std.specs.Prelude.{◌≡◌, ◌==◌, ◌&&◌, Some, option_map};
+ghost use Rattle.net_addr.specs.Addresses.{addr_eq};
+ghost use Rattle.plane_types.specs.Ends.{destination as destined_to};
 ghost use Rattle.plane_types.specs.Keys.{kind_eq};
 ghost use Rattle.plane_types.specs.Routing.{answers as answers_to, has_choice as may_choose};
 ghost use Rattle.plane_types.specs.Parts.{packet_of, use_if, use_of};
@@ -8,7 +10,7 @@ use crate::frame::{Key, KeyKind};
 use crate::key::is_kind;
 use crate::packet::Packet;
 use api_types::Id;
-use net_addr::Addr4;
+use net_addr::{Addr, Addr4};
 
 /// What a valid translation entry of a router says: the key, and its port at the outer address.
 #[derive(Clone, Copy)]
@@ -43,20 +45,20 @@ pub fn answers(outer: Addr4, packet: &Packet, entry: &Use) -> bool
     let key = packet.key();
     let (sport, dport) = (key.sport, key.dport);
     let kind = key.reversed().kind;
-    outer == packet.to
+    Addr::V4(outer) == packet.ends.destination()
         && is_kind(entry.key.kind, kind)
         && entry.port == dport
-        && entry.key.to == packet.from
+        && entry.key.ends.destination() == packet.ends.source()
         && entry.key.dport == sport
 }
 
 /// Whether an entry with the kind and far end of a key has the port.
 pub fn takes(entry: &Use, key: &Key, port: u16) -> bool
-    ensures { result ≡ ((entry.now.port == port) && kind_eq entry.now.key.kind key.now.kind && (entry.now.key.to == key.now.to) && (entry.now.key.dport == key.now.dport)) }
+    ensures { result ≡ ((entry.now.port == port) && kind_eq entry.now.key.kind key.now.kind && addr_eq (destined_to entry.now.key.ends) (destined_to key.now.ends) && (entry.now.key.dport == key.now.dport)) }
 {
     entry.port == port
         && is_kind(entry.key.kind, key.kind)
-        && entry.key.to == key.to
+        && entry.key.ends.destination() == key.ends.destination()
         && entry.key.dport == key.dport
 }
 

@@ -35,6 +35,7 @@ pub enum DropCause {
 /// What an ask is answered.
 #[derive(Drop)]
 pub enum AskAnswer {
+    /// By ARP, or by a neighbour advertisement (RFC 4861, 4.4).
     Arp { address: Addr, mac: Mac },
     Lease(Lease),
 }

@@ -1,20 +1,49 @@
-use net_addr::{Addr, OutOfMemory};
+use api_types::{Direction, Ethertype};
+use net_addr::{Addr, OutOfMemory, Prefix};
 use plane_types::{
     BridgeKey, BridgeRow, BridgeTo, Carrier, FilterRow, InwardRow, LeaseRow, NeighbourRow, SetRow,
     TagRow, TapRow,
 };
 use std::alloc::Global;
 
-/// A row of a table in a line: ids by their counts, MACs and addresses by their last byte.
+/// A row of a table in a line: ids by their counts, MACs and addresses by their last byte, which has
+/// two colons in front in version 6.
 pub(crate) trait Line {
     fn line(&self, alloc: Global) -> Result<String, OutOfMemory>;
 }
 
-// The last byte of an address.
-fn last_byte(address: &Addr) -> u32 {
+// An address by its last byte.
+fn short(alloc: Global, address: &Addr) -> Result<String, OutOfMemory> {
     match address {
-        Addr::V4(x) => x.0 % 256,
-        Addr::V6(x) => (x.0 % 256) as u32,
+        Addr::V4(x) => {
+            let byte = x.0 % 256;
+            Ok(format!(in alloc; "{byte}")?)
+        }
+        Addr::V6(x) => {
+            let byte = (x.0 % 256) as u32;
+            Ok(format!(in alloc; "::{byte}")?)
+        }
+    }
+}
+
+fn short_prefix(alloc: Global, prefix: &Prefix) -> Result<String, OutOfMemory> {
+    let base = short(alloc, &prefix.base)?;
+    let base = base.as_str();
+    let len = prefix.len;
+    Ok(format!(in alloc; "{base}/{len}")?)
+}
+
+fn way(direction: Direction) -> &'static str {
+    match direction {
+        Direction::Ingress => "in",
+        Direction::Egress => "out",
+    }
+}
+
+fn version(ethertype: Ethertype) -> u32 {
+    match ethertype {
+        Ethertype::Ipv4 => 4,
+        Ethertype::Ipv6 => 6,
     }
 }
 
@@ -60,9 +89,9 @@ impl Line for TapRow {
         let mut text = format!(in alloc; "{port} {tag} {mac}:")?;
         for pair in self.allowed.as_slice() {
             let mac = pair.mac.0 % 256;
-            let base = last_byte(&pair.prefix.base);
-            let len = pair.prefix.len;
-            let pair = format!(in alloc; " {mac} {base}/{len}")?;
+            let prefix = short_prefix(alloc, &pair.prefix)?;
+            let prefix = prefix.as_str();
+            let pair = format!(in alloc; " {mac} {prefix}")?;
             text.push_str(pair.as_str())?;
         }
         Ok(text)
@@ -72,12 +101,14 @@ impl Line for TapRow {
 impl Line for FilterRow {
     fn line(&self, alloc: Global) -> Result<String, OutOfMemory> {
         let port = self.port.count();
+        let way = way(self.direction);
+        let version = version(self.ethertype);
         let protocol = self.protocol.unwrap_or(0);
         match self.remote_group {
-            None => Ok(format!(in alloc; "{port} {protocol}")?),
+            None => Ok(format!(in alloc; "{port} {way} {version} {protocol}")?),
             Some(group) => {
                 let group = group.count();
-                Ok(format!(in alloc; "{port} {protocol} {group}")?)
+                Ok(format!(in alloc; "{port} {way} {version} {protocol} {group}")?)
             }
         }
     }
@@ -86,9 +117,9 @@ impl Line for FilterRow {
 impl Line for SetRow {
     fn line(&self, alloc: Global) -> Result<String, OutOfMemory> {
         let group = self.group.count();
-        let base = last_byte(&self.prefix.base);
-        let len = self.prefix.len;
-        Ok(format!(in alloc; "{group} {base}/{len}")?)
+        let prefix = short_prefix(alloc, &self.prefix)?;
+        let prefix = prefix.as_str();
+        Ok(format!(in alloc; "{group} {prefix}")?)
     }
 }
 
@@ -143,7 +174,8 @@ impl Line for InwardRow {
 impl Line for NeighbourRow {
     fn line(&self, alloc: Global) -> Result<String, OutOfMemory> {
         let tag = self.tag;
-        let address = last_byte(&self.address);
+        let address = short(alloc, &self.address)?;
+        let address = address.as_str();
         let mac = self.mac.0 % 256;
         Ok(format!(in alloc; "{tag} {address} {mac}")?)
     }
@@ -153,17 +185,17 @@ impl Line for LeaseRow {
     fn line(&self, alloc: Global) -> Result<String, OutOfMemory> {
         let tag = self.tag;
         let mac = self.mac.0 % 256;
-        let address = last_byte(&self.lease.address);
+        let address = short(alloc, &self.lease.address)?;
+        let address = address.as_str();
         let length = self.lease.length;
-        let gateway = match &self.lease.gateway {
-            Some(gateway) => last_byte(gateway),
-            None => 0,
-        };
-        let mut text = format!(in alloc; "{tag} {mac} {address}/{length} {gateway}")?;
+        let mut text = format!(in alloc; "{tag} {mac} {address}/{length}")?;
+        if let Some(gateway) = &self.lease.gateway {
+            text.push_str(" ")?;
+            text.push_str(short(alloc, gateway)?.as_str())?;
+        }
         for server in self.lease.name_servers.as_slice() {
-            let server = last_byte(server);
-            let server = format!(in alloc; " {server}")?;
-            text.push_str(server.as_str())?;
+            text.push_str(" ")?;
+            text.push_str(short(alloc, server)?.as_str())?;
         }
         Ok(text)
     }

@@ -1,5 +1,5 @@
 use crate::lines::are_lines;
-use crate::world::{INNER, add_port, add_vxlan, open_port, wired};
+use crate::world::{INNER, SIX, add_port, add_vxlan, held_six, open_port, wired};
 use api_types::{Gateway, Row, Rows, Segment, Target};
 use l2_agent::L2Tables;
 use net_addr::{Addr4, OutOfMemory};
@@ -34,7 +34,8 @@ fn add_floating(alloc: Global, rows: &mut Rows) -> Result<(), OutOfMemory> {
     add(alloc, rows, Row::Floating(row))
 }
 
-// Addresses of ports here and elsewhere, and of floating addresses, in ascending order.
+// Addresses of ports here and elsewhere, and of floating addresses, in ascending order, those of
+// version 4 first.
 #[test]
 fn holders(rt: HostRuntime) -> Result<(), Fail> {
     let alloc = rt.alloc();
@@ -42,10 +43,11 @@ fn holders(rt: HostRuntime) -> Result<(), Fail> {
     add_vxlan(alloc, &mut rows, 10, 1)?;
     add_port(alloc, &mut rows, 8, 10, "c2")?;
     let mut two = open_port(alloc, 7, 10, "c1")?;
+    two.fixed.push(held_six(92, SIX + 1))?;
     two.fixed.push(held(90, INNER + 4))?;
     add(alloc, &mut rows, Row::Port(two))?;
     add_floating(alloc, &mut rows)?;
-    let wanted = "1 3 31\n1 4 7\n1 7 7\n1 8 8\n1 9 31\n";
+    let wanted = "1 3 31\n1 4 7\n1 7 7\n1 8 8\n1 9 31\n1 ::1 7\n";
     assert!(rt; are_neighbours(alloc, &rows, wanted)?);
     Ok(())
 }

@@ -1,7 +1,7 @@
-use crate::world::{INNER, add_vlan, add_vxlan, tags};
+use crate::world::{INNER, SIX, add_vlan, add_vxlan, held_six, prefix_six, six, tags};
 use api_types::{Gateway, Hop, Row, Rows, Target};
 use l3_agent::{L3Tables, wire_routers};
-use net_addr::{Addr4, OutOfMemory, Text};
+use net_addr::{Addr, Addr4, OutOfMemory, Prefix, Text};
 use std::alloc::Global;
 use test_rows::{add, floating, four, held, id, prefix, router, service_port, subnet};
 
@@ -27,7 +27,21 @@ const ROUTER_TEXT: &str = "00000001-0000-8000-8000-00000000001e";
 
 const OTHER_TEXT: &str = "00000001-0000-8000-8000-000000000028";
 
-// Two subnets of the inner network, and one with a gateway of the external one.
+// A subnet of the external network with a gateway.
+fn add_outer(
+    alloc: Global,
+    rows: &mut Rows,
+    n: u8,
+    prefix: Prefix,
+    gateway: Addr,
+) -> Result<(), OutOfMemory> {
+    let mut outer = subnet(alloc, n, EXTERNAL, prefix)?;
+    outer.gateway = Some(gateway);
+    add(alloc, rows, Row::Subnet(outer))
+}
+
+// Two subnets of the inner network, and three with gateways of the external one, of which the last
+// is of version 6.
 fn add_networks(alloc: Global, rows: &mut Rows) -> Result<(), OutOfMemory> {
     add_vxlan(alloc, rows, OFFICE, 1)?;
     let low = subnet(alloc, 90, OFFICE, prefix(INNER, 26))?;
@@ -35,21 +49,24 @@ fn add_networks(alloc: Global, rows: &mut Rows) -> Result<(), OutOfMemory> {
     let high = subnet(alloc, 91, OFFICE, prefix(INNER + 64, 26))?;
     add(alloc, rows, Row::Subnet(high))?;
     add_vlan(alloc, rows, EXTERNAL, 100)?;
-    let mut outer = subnet(alloc, 92, EXTERNAL, prefix(OUTER, 24))?;
-    outer.gateway = Some(four(OUTER + 1));
-    add(alloc, rows, Row::Subnet(outer))
+    add_outer(alloc, rows, 92, prefix(OUTER, 25), four(OUTER + 1))?;
+    add_outer(alloc, rows, 93, prefix(OUTER + 128, 25), four(OUTER + 129))?;
+    add_outer(alloc, rows, 94, prefix_six(SIX), six(SIX + 1))
 }
 
-// The interface of the router, in the higher subnet first, and its gateway port.
+// The interface of the router, in the higher subnet first, and its gateway port, whose addresses
+// descend.
 fn add_ports(alloc: Global, rows: &mut Rows, up: bool) -> Result<(), OutOfMemory> {
     let address = held(91, INNER + 65);
     let owner = "network:router_interface";
     let mut inside = service_port(alloc, INSIDE, OFFICE, address, owner, ROUTER_TEXT)?;
     inside.fixed.push(held(90, INNER + 1))?;
     add(alloc, rows, Row::Port(inside))?;
-    let address = held(92, OUTER + 2);
+    let address = held_six(94, SIX + 2);
     let owner = "network:router_gateway";
     let mut outside = service_port(alloc, OUTSIDE, EXTERNAL, address, owner, ROUTER_TEXT)?;
+    outside.fixed.push(held(93, OUTER + 130))?;
+    outside.fixed.push(held(92, OUTER + 2))?;
     outside.up = up;
     add(alloc, rows, Row::Port(outside))
 }

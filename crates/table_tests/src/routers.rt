@@ -1,14 +1,16 @@
 use crate::routed::{EXTERNAL, INSIDE, OFFICE, OUTER, OUTSIDE, ROUTER, routed};
-use crate::world::INNER;
+use crate::world::{INNER, SIX, prefix_six, six};
 use api_types::RouteRank;
 use l3_agent::L3Tables;
-use net_addr::{Addr, Addr4, Prefix};
+use net_addr::{Addr, Addr4, Addr6, Prefix};
 use plane_types::{FloatRow, RouteRow, RouterPort, RouterTable};
 use std::test::Fail;
 use test_rows::{four, id, mac, prefix};
 
+// The gateway address is the first of version 4 that the gateway port's row has.
 fn is_router(table: &RouterTable) -> bool {
-    table.router == id(ROUTER) && table.up && table.snat && table.gateway == Some(Addr4(OUTER + 2))
+    let gateway = Addr4(OUTER + 130);
+    table.router == id(ROUTER) && table.up && table.snat && table.gateway == Some(gateway)
 }
 
 // The interface, whose addresses and prefixes are in the order that its row has.
@@ -24,11 +26,13 @@ fn is_inside(port: &RouterPort) -> bool {
 }
 
 fn is_outside(port: &RouterPort) -> bool {
+    let addresses = [six(SIX + 2), four(OUTER + 130), four(OUTER + 2)];
+    let prefixes = [prefix_six(SIX), prefix(OUTER + 128, 25), prefix(OUTER, 25)];
     port.port == id(OUTSIDE)
         && port.tag == 2
         && port.mac == mac(OUTSIDE)
-        && port.addresses.as_slice() == [four(OUTER + 2)].as_slice()
-        && port.prefixes.as_slice() == [prefix(OUTER, 24)].as_slice()
+        && port.addresses.as_slice() == addresses.as_slice()
+        && port.prefixes.as_slice() == prefixes.as_slice()
         && !port.inside
 }
 
@@ -88,25 +92,46 @@ fn extra() -> RouteRow {
     route(prefix(INNER + 128, 25), RouteRank::Extra, next, INSIDE)
 }
 
-// The routes of the gateway port.
-fn outer() -> RouteRow {
-    route(prefix(OUTER, 24), RouteRank::Connected, None, OUTSIDE)
+// The routes of the gateway port: to its subnets ..
+fn outer(prefix: Prefix) -> RouteRow {
+    route(prefix, RouteRank::Connected, None, OUTSIDE)
 }
 
-fn default() -> RouteRow {
-    let next = Some(four(OUTER + 1));
-    route(prefix(0, 0), RouteRank::Default, next, OUTSIDE)
+// .. and by their gateways.
+fn default(prefix: Prefix, gateway: Addr) -> RouteRow {
+    route(prefix, RouteRank::Default, Some(gateway), OUTSIDE)
+}
+
+fn all_of_six() -> Prefix {
+    Prefix {
+        base: Addr::V6(Addr6(0)),
+        len: 0,
+    }
+}
+
+// All routes: a default one for each address of the gateway port, in ascending order.
+fn routes() -> [RouteRow; 9] {
+    [
+        low(),
+        high(),
+        outer(prefix(OUTER, 25)),
+        outer(prefix(OUTER + 128, 25)),
+        outer(prefix_six(SIX)),
+        extra(),
+        default(prefix(0, 0), four(OUTER + 1)),
+        default(prefix(0, 0), four(OUTER + 129)),
+        default(all_of_six(), six(SIX + 1)),
+    ]
 }
 
 #[test]
 fn whole(rt: HostRuntime) -> Result<(), Fail> {
     let tables = routed(rt.alloc(), true, &[(OFFICE, 1), (EXTERNAL, 2)])?;
-    let routes = [low(), high(), outer(), extra(), default()];
-    assert!(rt; are_routed(tables, true, &routes));
+    assert!(rt; are_routed(tables, true, &routes()));
     Ok(())
 }
 
-// While the gateway port is down, there is no default route, and the gateway address stays.
+// While the gateway port is down, there are no default routes, and the gateway address stays.
 #[test]
 fn gateway_down(rt: HostRuntime) -> Result<(), Fail> {
     let tables = routed(rt.alloc(), false, &[(OFFICE, 1), (EXTERNAL, 2)])?;
@@ -119,7 +144,6 @@ fn gateway_down(rt: HostRuntime) -> Result<(), Fail> {
 #[test]
 fn untagged(rt: HostRuntime) -> Result<(), Fail> {
     let tables = routed(rt.alloc(), true, &[(OFFICE, 1)])?;
-    let routes = [low(), high(), outer(), extra(), default()];
-    assert!(rt; are_routed(tables, false, &routes));
+    assert!(rt; are_routed(tables, false, &routes()));
     Ok(())
 }

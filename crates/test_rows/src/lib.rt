@@ -9,6 +9,6 @@ mod make;
 
 pub use adding::add;
 pub use make::{
-    bound_port, floating, four, group, held, id, mac, network, policy, port, prefix, project,
-    router, rule, service_port, subnet,
+    bound_port, floating, four, group, held, held_six, hold, id, mac, network, policy, port,
+    prefix, prefix_six, project, router, rule, service_port, six, subnet,
 };

@@ -1,11 +1,11 @@
 ghost use Rattle.std.specs.Prelude.{◌≡◌, ◌≤◌};
-ghost use Rattle.net_addr.specs.declared.address.Addr.TheVariants.{V4};
+ghost use Rattle.net_addr.specs.declared.address.Addr.TheVariants.{V4, V6};
 
 use api_types::{
     Action, Direction, Ethertype, Fixed, FloatingRow, GroupRow, Id, NetworkRow, PolicyRow, PortRow,
     ProjectRow, RouterRow, RuleRow, Segment, SubnetRow, Vif,
 };
-use net_addr::{Addr, Addr4, Cidr, Mac, OutOfMemory, Prefix, Seq, Text};
+use net_addr::{Addr, Addr4, Addr6, Cidr, Mac, OutOfMemory, Prefix, Seq, Text};
 use std::alloc::Global;
 
 /// The n-th id that was drawn for the first project.
@@ -25,6 +25,13 @@ pub fn four(address: u32) -> Addr
     Addr::V4(Addr4(address))
 }
 
+/// An address of version 6.
+pub fn six(address: u128) -> Addr
+    ensures { result ≡ V6 address }
+{
+    Addr::V6(Addr6(address))
+}
+
 /// A prefix of version 4, whose base has the bits behind the length cleared.
 pub fn prefix(base: u32, len: u8) -> Prefix
     requires { len ≤ 32 }
@@ -33,11 +40,27 @@ pub fn prefix(base: u32, len: u8) -> Prefix
     Cidr { addr, len }.prefix()
 }
 
+/// A prefix of version 6, whose base has the bits behind the length cleared.
+pub fn prefix_six(base: u128, len: u8) -> Prefix
+    requires { len ≤ 128 }
+{
+    let addr = six(base);
+    Cidr { addr, len }.prefix()
+}
+
 /// An address of version 4 in a subnet.
 pub fn held(subnet: u8, address: u32) -> Fixed {
     Fixed {
         subnet: id(subnet),
         address: four(address),
+    }
+}
+
+/// An address of version 6 in a subnet.
+pub fn held_six(subnet: u8, address: u128) -> Fixed {
+    Fixed {
+        subnet: id(subnet),
+        address: six(address),
     }
 }
 
@@ -131,6 +154,12 @@ pub fn port(alloc: Global, n: u8, network: u8) -> Result<PortRow, OutOfMemory> {
     })
 }
 
+/// Gives a port one address more.
+pub fn hold(port: &mut PortRow, held: Fixed) -> Result<(), OutOfMemory> {
+    let _address = held.address;
+    port.fixed.push(held)
+}
+
 /// A port that Open vSwitch carries on a host, with an address.
 pub fn bound_port(
     alloc: Global,
@@ -140,8 +169,7 @@ pub fn bound_port(
     held: Fixed,
 ) -> Result<PortRow, OutOfMemory> {
     let mut port = port(alloc, n, network)?;
-    let _address = held.address;
-    port.fixed.push(held)?;
+    hold(&mut port, held)?;
     port.host = Text::of(alloc, host)?;
     port.vif = Vif::Ovs;
     Ok(port)

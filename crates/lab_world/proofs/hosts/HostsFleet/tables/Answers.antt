@@ -5,8 +5,8 @@ use Rattle.plane_types.specs.Node.{host_of}
 use Rattle.lab_world.proofs.Placing.{at_host}
 use Rattle.lab_world.proofs.hosts.HostsFleet.tables.Goals as goal
 
-pub returns-clause-is : goal.returns-clause-is
-returns-clause-is c =
+pub returns : goal.returns
+returns c =
     let within : c.args.at < length c.args.self.now = omega (arith, c.requires, length-map c.args.self.now host_of) in
     let is : c.index.result.now ≡ slice_index_or c.args.self.now c.args.at c.index.result.now = search (rules, c.index.ensures, c.self.view_is) in
     at_host (λ (h : Host). h.tables) c.args.self.now c.args.at c.index.result.now within is ∙ ap Some (sym c.tables.ensures.tables)
