@@ -4,7 +4,7 @@ use crate::lab::Lab;
 use crate::rows::{port_address, port_id, port_mac};
 use fabric_run::send;
 use net_addr::OutOfMemory;
-use plane_types::{Event, Frame, KeyPart, Outcome};
+use plane_types::{Ends, Event, Frame, KeyPart, Outcome};
 use std::alloc::Global;
 
 // How many ports each host has.
@@ -17,11 +17,10 @@ fn event_of(n: u16) -> Event {
     let getter = (n / EACH + n % EACH) % EACH * 2 + 1;
     Event::FromPort {
         port: port_id(sender),
-        frame: Frame::Ip4 {
+        frame: Frame::Ip {
             src: port_mac(sender),
             dst: port_mac(getter),
-            from: port_address(0, sender),
-            to: port_address(0, getter),
+            ends: Ends::four(port_address(sender), port_address(getter)),
             ttl: 64,
             part: KeyPart::Tcp {
                 sport: n.saturating_add(1024),

@@ -2,6 +2,7 @@ ghost use Rattle.api_types.specs.Consistent.{IsConsistent};
 
 use crate::failure::Failure;
 use crate::frames::deliver;
+use crate::kept::kept_entries;
 use crate::lab::Lab;
 use crate::rows::consistent_rows;
 use crate::scene::Scene;
@@ -9,7 +10,7 @@ use crate::shared::{change_rows, copy_rows};
 use agent_node::AgentNode;
 use api_types::Rows;
 use l2_agent::wire_ports;
-use net_addr::{Seq, Text};
+use net_addr::{OutOfMemory, Seq, Text};
 use std::alloc::Global;
 
 fn agents_of(alloc: Global, host: &str, rows: &Rows) -> Result<AgentNode, Failure>
@@ -46,14 +47,25 @@ fn agents_bridge(alloc: Global, rows: &Rows) -> Result<usize, Failure>
     Ok(agents.tables().bridge.len())
 }
 
-fn run_host(rt: &impl Print, alloc: Global, word: &str, ports: u16) -> Result<(), Failure> {
-    let rows = consistent_rows(alloc, &Scene::one_host(ports))?;
+// The rows of a scene, its ports wired, or all of its host.
+fn run_scene(rt: &impl Print, alloc: Global, word: &str, scene: &Scene) -> Result<(), Failure> {
+    let rows = consistent_rows(alloc, scene)?;
     let bridge = match word {
         "ports" => wired_bridge(alloc, &rows)?,
         "hosts" => agents_bridge(alloc, &rows)?,
         _ => 0,
     };
+    let ports = scene.ports;
     println!(rt; "{ports} ports, {bridge} bridge rows")?;
+    Ok(())
+}
+
+// The entries that a host of a scene keeps.
+fn run_entries(rt: &impl Print, alloc: Global, scene: &Scene, count: u16) -> Result<(), Failure> {
+    let rows = consistent_rows(alloc, scene)?;
+    let agents = agents_of(alloc, "c1", &rows)?;
+    let kept = kept_entries(alloc, agents.tables(), count)?;
+    println!(rt; "{kept} of {count} entries kept")?;
     Ok(())
 }
 
@@ -67,22 +79,54 @@ fn run_rows(rt: &impl Print, alloc: Global, word: &str, count: u16) -> Result<()
 }
 
 fn usage(rt: &impl Print) -> Result<(), Failure> {
-    println!(rt; "bench_plane frames|rows|ports|hosts|copies|changes COUNT")?;
+    println!(rt; "bench_plane frames|copies|changes COUNT")?;
+    println!(rt; "bench_plane rows|ports|hosts PORTS NETWORKS GROUPS RULES ROUTERS")?;
+    println!(rt; "bench_plane entries PORTS NETWORKS GROUPS RULES ROUTERS COUNT")?;
     Ok(())
 }
 
-/// Does what two words ask for, and tells in one line what came of it.
-pub(crate) fn run(rt: &impl Print, alloc: Global, words: &[Text]) -> Result<(), Failure> {
-    let [word, count] = words else {
-        return usage(rt);
-    };
-    let Some(count) = count.as_str().parse::<u16>().ok() else {
-        return usage(rt);
-    };
-    match word.as_str() {
+fn run_count(rt: &impl Print, alloc: Global, word: &str, count: u16) -> Result<(), Failure> {
+    match word {
         "frames" => run_frames(rt, alloc, count),
-        "rows" | "ports" | "hosts" => run_host(rt, alloc, word.as_str(), count),
-        "copies" | "changes" => run_rows(rt, alloc, word.as_str(), count),
+        "copies" | "changes" => run_rows(rt, alloc, word, count),
         _ => usage(rt),
+    }
+}
+
+fn run_counts(rt: &impl Print, alloc: Global, word: &str, counts: &[u16]) -> Result<(), Failure> {
+    let [ports, networks, groups, rules, routers, more @ ..] = counts else {
+        return usage(rt);
+    };
+    let Some(scene) = Scene::of(*ports, *networks, *groups, *rules, *routers) else {
+        return usage(rt);
+    };
+    match (word, more) {
+        ("rows" | "ports" | "hosts", []) => run_scene(rt, alloc, word, &scene),
+        ("entries", [count]) => run_entries(rt, alloc, &scene, *count),
+        _ => usage(rt),
+    }
+}
+
+// The numbers that words spell, up to the first that spells none.
+fn counts(alloc: Global, words: &[Text]) -> Result<Vec<u16>, OutOfMemory> {
+    let mut counts = Vec::new(alloc);
+    for word in words {
+        let Some(count) = word.as_str().parse::<u16>().ok() else {
+            return Ok(counts);
+        };
+        counts.push(count)?;
+    }
+    Ok(counts)
+}
+
+/// Does what words ask for, and tells in one line what came of it.
+pub(crate) fn run(rt: &impl Print, alloc: Global, words: &[Text]) -> Result<(), Failure> {
+    let Some((word, numbers)) = words.split_first() else {
+        return usage(rt);
+    };
+    let counts = counts(alloc, numbers)?;
+    match counts.as_slice() {
+        [count] => run_count(rt, alloc, word.as_str(), *count),
+        counts => run_counts(rt, alloc, word.as_str(), counts),
     }
 }

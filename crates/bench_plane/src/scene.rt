@@ -1,20 +1,22 @@
 ghost use Rattle.std.specs.Prelude.{◌≤◌};
 
-/// Of what rows are made: ports that are dealt out to networks and groups of one project.
+/// Of what rows are made: ports and routers that are dealt out to networks and groups of one project.
 #[derive(Clone, Copy)]
 pub(crate) struct Scene {
     pub(crate) ports: u16,
-    pub(crate) networks: u8,
-    pub(crate) groups: u8,
-    /// Whether a group has the four rules that each new one has, and lets TCP to port 22 in from the
-    /// next group alone. Else it lets all of IPv4 out, and TCP to port 22 in.
+    pub(crate) networks: u16,
+    pub(crate) groups: u16,
+    /// How many rules each group has.
+    pub(crate) rules: u16,
+    /// Routers of the host c1, each with an interface on a network.
+    pub(crate) routers: u16,
+    /// Whether the first four rules of a group are those that each new one has, and the others let
+    /// TCP in from the next group alone. Else one lets all of IPv4 out, and one TCP to port 22 in.
     pub(crate) usual: bool,
     /// The host of the ports with an odd number. The others are on c1.
     pub(crate) second: &'static str,
     ghost networked: { 1 ≤ networks },
     ghost grouped: { 1 ≤ groups },
-    ghost few_networks: { networks ≤ 10 },
-    ghost few_groups: { groups ≤ 5 },
 }
 
 impl Scene {
@@ -24,6 +26,8 @@ impl Scene {
             ports: 500,
             networks: 1,
             groups: 1,
+            rules: 2,
+            routers: 0,
             usual: false,
             second: "c2",
         }
@@ -35,8 +39,32 @@ impl Scene {
             ports,
             networks: 10,
             groups: 5,
+            rules: 5,
+            routers: 0,
             usual: true,
             second: "c1",
         }
+    }
+
+    /// So many of each on the host c1, where there are a network and a group.
+    pub(crate) fn of(
+        ports: u16,
+        networks: u16,
+        groups: u16,
+        rules: u16,
+        routers: u16,
+    ) -> Option<Scene> {
+        if networks == 0 || groups == 0 {
+            return None;
+        }
+        Some(Scene {
+            ports,
+            networks,
+            groups,
+            rules,
+            routers,
+            usual: true,
+            second: "c1",
+        })
     }
 }

@@ -8,5 +8,6 @@
 
 mod leases;
 mod served;
+mod tag_map;
 
 pub use leases::wire_leases;

@@ -1,4 +1,4 @@
-ghost use Rattle.std.specs.Prelude.{◌≡◌, ◌++◌, Some, find, if◌then◌else◌, option_map};
+ghost use Rattle.std.specs.Prelude.{◌≡◌, ◌<◌, ◌||◌, ◌++◌, ℕ, Some, false, find, if◌then◌else◌, option_map, slice_index_or};
 ghost use Rattle.std.specs.List.{filter_map};
 ghost use Rattle.plane_types.specs.Keys.{key_eq};
 ghost use Rattle.plane_types.specs.Routing.{Use as TheUse, answers as answers_to, is_taken as taken, least_untaken as first_untaken, new_port as new_port_of, uses_at, uses_by};
@@ -106,7 +106,37 @@ fn is_taken(
     taken_among(entries, router, outer, key, port) || taken_among(fresh, router, outer, key, port)
 }
 
-// The least port from 1,024 on that isn't taken.
+// Marks, in one pass, the ports of those entries that have the kind and far end of the key.
+fn mark(marks: &mut [bool; 65_536], entries: &[Entry], router: Id, outer: Addr4, key: &Key)
+    ensures { (port : ℕ) → port < 65536 → slice_index_or marks.new port false ≡ (slice_index_or marks.old port false || taken (filter_map (use_if router outer) entries.now) key.now port) }
+{
+    for entry in entries {
+        if let Some(valid) = use_of_entry(router, outer, entry) {
+            if takes(&valid, key, valid.port) {
+                marks[valid.port as usize] = true;
+            }
+        }
+    }
+}
+
+// Marks the ports that are taken.
+fn mark_all(
+    marks: &mut [bool; 65_536],
+    entries: &[Entry],
+    fresh: &[Entry],
+    router: Id,
+    outer: Addr4,
+    key: &Key,
+)
+    ensures { (port : ℕ) → port < 65536 → slice_index_or marks.new port false ≡ (slice_index_or marks.old port false || taken (uses_at router outer (entries.now ++ fresh.now)) key.now port) }
+{
+    mark(marks, entries, router, outer, key);
+    mark(marks, fresh, router, outer, key);
+}
+
+// The least port from 1,024 on that isn't taken. Its cost grows with the entries plus the ports up
+// to it, over a table of marks on the stack, for which only a call of this one pays.
+#[inline(never)]
 fn least_untaken(
     entries: &[Entry],
     fresh: &[Entry],
@@ -116,17 +146,20 @@ fn least_untaken(
 ) -> Option<u16>
     ensures { result ≡ first_untaken (uses_at router outer (entries.now ++ fresh.now)) key.now 64512 1024 }
 {
+    let mut marks = [false; 65_536];
+    mark_all(&mut marks, entries, fresh, router, outer, key);
     for place in 0..64_512 {
-        if !is_taken(entries, fresh, router, outer, key, 1024 + place) {
-            return Some(1024 + place);
+        let port = 1024 + place;
+        if !marks[port as usize] {
+            return Some(port);
         }
     }
     None
 }
 
 /// The outer port of a new entry: the same port where it isn't taken, else, for TCP, UDP and
-/// echoes, the least one from 1,024 on that isn't. Its cost grows with the entries times the ports
-/// that are taken.
+/// echoes, the least one from 1,024 on that isn't. Its cost grows with the entries; where the same
+/// port is taken, a table of marks for all ports is cleared too, and looked at up to the free one.
 #[tactic(auto, unfolding(plane_types::specs::Routing::new_port))]
 pub(crate) fn new_port(
     entries: &[Entry],

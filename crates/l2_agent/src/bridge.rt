@@ -3,10 +3,11 @@ ghost use Rattle.std.specs.List.{filter_map};
 ghost use Rattle.api_types.specs.Live.{segment};
 ghost use Rattle.plane_types.specs.TableRows.{bridge_row as bridge_row_of, bridge_rows as bridge_rows_of, dhcp_row as dhcp_row_of, end_of as end_for, mac_row, to_here as to_tap_or_router, to_there as to_tunnel};
 
+use crate::tag_map::TagMap;
 use api_types::{PortRow, Rows, Segment, is_dhcp, is_router_port};
 use net_addr::{Copies, OutOfMemory, Text};
 use plane_rows::{is_at, is_live, router_of, segment_of};
-use plane_types::{Ascending, BridgeKey, BridgeRow, BridgeTo, TagRow, tag_of};
+use plane_types::{Ascending, BridgeKey, BridgeRow, BridgeTo, TagRow};
 use std::alloc::Global;
 
 // To a port of this host.
@@ -57,7 +58,7 @@ fn bridge_row(
     alloc: Global,
     rows: &Rows,
     host: &Text,
-    tags: &[TagRow],
+    tags: &TagMap,
     key: BridgeKey,
     port: &PortRow,
 ) -> Result<Option<BridgeRow>, OutOfMemory>
@@ -69,7 +70,7 @@ fn bridge_row(
     let Some(to) = end_of(alloc, rows, host, port)? else {
         return Ok(None);
     };
-    match tag_of(tags, port.network) {
+    match tags.tag_of(port.network) {
         None => Ok(None),
         Some(tag) => Ok(Some(BridgeRow { tag, key, to })),
     }
@@ -81,7 +82,7 @@ fn add_macs(
     bridge: &mut Vec<BridgeRow>,
     rows: &Rows,
     host: &Text,
-    tags: &[TagRow],
+    tags: &TagMap,
 ) -> Result<(), OutOfMemory>
     ensures { OnOk result (bridge.new.items ≡ bridge.old.items ++ filter_map (mac_row rows.now host.now tags.now) rows.now.ports) }
 {
@@ -98,7 +99,7 @@ fn dhcp_row(
     alloc: Global,
     rows: &Rows,
     host: &Text,
-    tags: &[TagRow],
+    tags: &TagMap,
     port: &PortRow,
 ) -> Result<Option<BridgeRow>, OutOfMemory>
     ensures { IfOk result (λ o. o ≡ dhcp_row_of rows.now host.now tags.now port.now) }
@@ -115,7 +116,7 @@ fn add_dhcp(
     bridge: &mut Vec<BridgeRow>,
     rows: &Rows,
     host: &Text,
-    tags: &[TagRow],
+    tags: &TagMap,
 ) -> Result<(), OutOfMemory>
     ensures { OnOk result (bridge.new.items ≡ bridge.old.items ++ filter_map (dhcp_row_of rows.now host.now tags.now) rows.now.ports) }
 {
@@ -128,8 +129,8 @@ fn add_dhcp(
 }
 
 /// The entries by which frames of each tag go to ports, here and on other hosts, in ascending order
-/// of tag and key. Its cost grows with the ports times the tags and the routers, and with the entries
-/// and the logarithm of their number.
+/// of tag and key. Its cost grows with the tags, with the ports, with the routers' ports times the
+/// routers, and with the entries and the logarithm of their number.
 #[tactic(auto, unfolding(plane_types::specs::TableRows::bridge_rows))]
 pub(crate) fn bridge_rows(
     alloc: Global,
@@ -139,8 +140,9 @@ pub(crate) fn bridge_rows(
 ) -> Result<Ascending<BridgeRow>, OutOfMemory>
     ensures { IfOk result (λ b. b ≡ bridge_rows_of rows.now host.now tags.now) }
 {
+    let tags = TagMap::of(alloc, tags)?;
     let mut bridge = Vec::new(alloc);
-    add_macs(alloc, &mut bridge, rows, host, tags)?;
-    add_dhcp(alloc, &mut bridge, rows, host, tags)?;
+    add_macs(alloc, &mut bridge, rows, host, &tags)?;
+    add_dhcp(alloc, &mut bridge, rows, host, &tags)?;
     Ascending::of(bridge)
 }

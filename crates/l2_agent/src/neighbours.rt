@@ -3,10 +3,11 @@ ghost use Rattle.std.specs.List.{filter_map};
 ghost use Rattle.api_types.specs.declared.port.Fixed.{Fixed as TheFixed};
 ghost use Rattle.plane_types.specs.TableRows.{floating_neighbour, neighbour_rows as neighbour_rows_of, neighbours_of};
 
+use crate::tag_map::TagMap;
 use api_types::{Fixed, FloatingRow, PortRow, Rows};
 use net_addr::{Addr, Mac, OutOfMemory, Text};
 use plane_rows::{floating_holder, is_joined, is_live};
-use plane_types::{Ascending, NeighbourRow, TagRow, tag_of};
+use plane_types::{Ascending, NeighbourRow, TagRow};
 use std::alloc::Global;
 
 // Adds an entry for each address.
@@ -33,7 +34,7 @@ fn add_port(
     neighbours: &mut Vec<NeighbourRow>,
     rows: &Rows,
     host: &Text,
-    tags: &[TagRow],
+    tags: &TagMap,
     port: &PortRow,
 ) -> Result<(), OutOfMemory>
     ensures { OnOk result (neighbours.new.items ≡ neighbours.old.items ++ neighbours_of rows.now host.now tags.now port.now) }
@@ -41,7 +42,7 @@ fn add_port(
     if !(is_live(rows, port) && is_joined(rows, port, host)) {
         return Ok(());
     }
-    match tag_of(tags, port.network) {
+    match tags.tag_of(port.network) {
         None => Ok(()),
         Some(tag) => add_addresses(neighbours, tag, port.mac, port.fixed.as_slice()),
     }
@@ -51,7 +52,7 @@ fn add_ports(
     neighbours: &mut Vec<NeighbourRow>,
     rows: &Rows,
     host: &Text,
-    tags: &[TagRow],
+    tags: &TagMap,
 ) -> Result<(), OutOfMemory>
     ensures { OnOk result (neighbours.new.items ≡ neighbours.old.items ++ flat_map (neighbours_of rows.now host.now tags.now) rows.now.ports) }
 {
@@ -65,7 +66,7 @@ fn add_ports(
 fn floating_row(
     rows: &Rows,
     host: &Text,
-    tags: &[TagRow],
+    tags: &TagMap,
     floating: &FloatingRow,
 ) -> Option<NeighbourRow>
     ensures { result ≡ floating_neighbour rows.now host.now tags.now floating.now }
@@ -74,7 +75,7 @@ fn floating_row(
     if !is_joined(rows, port, host) {
         return None;
     }
-    let tag = tag_of(tags, floating.network)?;
+    let tag = tags.tag_of(floating.network)?;
     Some(NeighbourRow {
         tag,
         address: Addr::V4(floating.address),
@@ -86,7 +87,7 @@ fn add_floatings(
     neighbours: &mut Vec<NeighbourRow>,
     rows: &Rows,
     host: &Text,
-    tags: &[TagRow],
+    tags: &TagMap,
 ) -> Result<(), OutOfMemory>
     ensures { OnOk result (neighbours.new.items ≡ neighbours.old.items ++ filter_map (floating_neighbour rows.now host.now tags.now) rows.now.floatings) }
 {
@@ -100,8 +101,8 @@ fn add_floatings(
 }
 
 /// The MAC for each address on the networks with a tag, whose holder is joined with the host, in
-/// ascending order of tag and address. Its cost grows with the ports and the floating addresses
-/// times the tags, and with the entries and the logarithm of their number.
+/// ascending order of tag and address. Its cost grows with the tags, the ports and the floating
+/// addresses, and with the entries and the logarithm of their number.
 #[tactic(auto, unfolding(plane_types::specs::TableRows::neighbour_rows))]
 pub(crate) fn neighbour_rows(
     alloc: Global,
@@ -111,8 +112,9 @@ pub(crate) fn neighbour_rows(
 ) -> Result<Ascending<NeighbourRow>, OutOfMemory>
     ensures { IfOk result (λ n. n ≡ neighbour_rows_of rows.now host.now tags.now) }
 {
+    let tags = TagMap::of(alloc, tags)?;
     let mut neighbours = Vec::new(alloc);
-    add_ports(&mut neighbours, rows, host, tags)?;
-    add_floatings(&mut neighbours, rows, host, tags)?;
+    add_ports(&mut neighbours, rows, host, &tags)?;
+    add_floatings(&mut neighbours, rows, host, &tags)?;
     Ascending::of(neighbours)
 }

@@ -1,22 +1,34 @@
 ghost use Rattle.std.specs.Prelude.{◌≡◌, ◌++◌, IfOk, OnOk, map};
+ghost use Rattle.std.specs.HashSet.{contains};
 ghost use Rattle.std.specs.List.{list_any};
 ghost use Rattle.net_addr.specs.Prefixes.{Prefix};
-ghost use Rattle.plane_types.specs.TableRows.{names_remote, set_rows as set_rows_by, set_rows_of};
+ghost use Rattle.api_types.specs.Ident.{Ident};
+ghost use Rattle.api_types.specs.Table.{ident_eq};
+ghost use Rattle.plane_types.specs.TableRows.{names_remote, set_rows as set_rows_by};
 ghost use Rattle.plane_types.specs.declared.table.FilterRow.{FilterRow as TheFilter};
+ghost use Rattle.l2_agent.specs.Among.{set_if, sets_among};
 
 use api_secgroup::members;
 use api_types::{GroupRow, Id, Rows};
 use net_addr::{OutOfMemory, Prefix, Seq};
 use plane_types::{FilterRow, SetRow};
 use std::alloc::Global;
+use std::collections::HashSet;
 
-// Whether a filter names the group as its remote one.
-fn is_named(filters: &[FilterRow], group: Id) -> bool
-    ensures { result ≡ list_any (λ (r : TheFilter). names_remote group r.remote_group) filters.now }
+// The groups that filters name as remote ones, from the last to the first.
+fn remote_groups(alloc: Global, filters: &[FilterRow]) -> Result<HashSet<Id>, OutOfMemory>
+    ensures { IfOk result (λ s. (g : Ident) → contains ident_eq s g ≡ list_any (λ (r : TheFilter). names_remote g r.remote_group) filters.now) }
 {
-    filters
-        .iter()
-        .any(|filter| filter.remote_group == Some(group))
+    let mut remote = HashSet::new(alloc);
+    let mut left = filters.len();
+    while left > 0 {
+        left -= 1;
+        let filter = &filters[left];
+        if let Some(group) = filter.remote_group {
+            remote.insert(group)?;
+        }
+    }
+    Ok(remote)
 }
 
 fn add_prefixes(sets: &mut Seq<SetRow>, group: Id, prefixes: &[Prefix]) -> Result<(), OutOfMemory>
@@ -31,24 +43,35 @@ fn add_prefixes(sets: &mut Seq<SetRow>, group: Id, prefixes: &[Prefix]) -> Resul
     Ok(())
 }
 
-// Adds the members of a group, where a filter names it.
+// Adds the members of a group, where it is among these.
 fn add_set(
     alloc: Global,
     sets: &mut Seq<SetRow>,
     rows: &Rows,
-    filters: &[FilterRow],
+    remote: &HashSet<Id>,
     group: &GroupRow,
 ) -> Result<(), OutOfMemory>
-    ensures { OnOk result (sets.new ≡ sets.old ++ set_rows_of rows.now filters.now group.now) }
+    ensures { OnOk result (sets.new ≡ sets.old ++ set_if rows.now (contains ident_eq remote.now group.now.id) group.now) }
 {
-    if !is_named(filters, group.id) {
+    if !remote.contains(&group.id) {
         return Ok(());
     }
     let prefixes = members(alloc, rows, group.id)?;
     add_prefixes(sets, group.id, prefixes.as_slice())
 }
 
-/// The members of each group that a filter names. Its cost grows with the groups times the filters,
+// The members of each group that is among these.
+fn sets_of(alloc: Global, rows: &Rows, remote: &HashSet<Id>) -> Result<Seq<SetRow>, OutOfMemory>
+    ensures { IfOk result (λ s. s ≡ sets_among rows.now remote.now) }
+{
+    let mut sets = Seq::new(alloc);
+    for group in rows.groups().rows() {
+        add_set(alloc, &mut sets, rows, remote, group)?;
+    }
+    Ok(sets)
+}
+
+/// The members of each group that a filter names. Its cost grows with the filters and the groups,
 /// and for each of these groups with the ports.
 #[tactic(auto, unfolding(plane_types::specs::TableRows::set_rows))]
 pub(crate) fn set_rows(
@@ -58,9 +81,7 @@ pub(crate) fn set_rows(
 ) -> Result<Seq<SetRow>, OutOfMemory>
     ensures { IfOk result (λ s. s ≡ set_rows_by rows.now filters.now) }
 {
-    let mut sets = Seq::new(alloc);
-    for group in rows.groups().rows() {
-        add_set(alloc, &mut sets, rows, filters, group)?;
-    }
+    let remote = remote_groups(alloc, filters)?;
+    let sets = sets_of(alloc, rows, &remote)?;
     Ok(sets)
 }

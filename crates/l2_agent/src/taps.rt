@@ -3,10 +3,11 @@ ghost use Rattle.net_addr.specs.Ordered.{whole_prefix};
 ghost use Rattle.api_types.specs.declared.port.Fixed.{Fixed as TheFixed};
 ghost use Rattle.plane_types.specs.TableRows.{allowed_of as allowed_by_rows, is_tap as is_tap_by_rows, tap_row as tap_row_of, tap_rows as tap_rows_of};
 
+use crate::tag_map::TagMap;
 use api_types::{Fixed, Pair, PortRow, Rows, is_router_port};
 use net_addr::{Mac, OutOfMemory, Seq, Text};
 use plane_rows::is_here;
-use plane_types::{TagRow, TapRow, tag_of};
+use plane_types::{TagRow, TapRow};
 use std::alloc::Global;
 
 /// Whether a port is live on the host and no router's.
@@ -54,7 +55,7 @@ fn tap_row(
     alloc: Global,
     rows: &Rows,
     host: &Text,
-    tags: &[TagRow],
+    tags: &TagMap,
     port: &PortRow,
 ) -> Result<Option<TapRow>, OutOfMemory>
     ensures { IfOk result (λ o. o ≡ tap_row_of rows.now host.now tags.now port.now) }
@@ -62,7 +63,7 @@ fn tap_row(
     if !is_tap(rows, host, port) {
         return Ok(None);
     }
-    let Some(tag) = tag_of(tags, port.network) else {
+    let Some(tag) = tags.tag_of(port.network) else {
         return Ok(None);
     };
     Ok(Some(TapRow {
@@ -74,14 +75,13 @@ fn tap_row(
     }))
 }
 
-/// A row for each live port of the host that is no router's. Its cost grows with the ports and the
-/// tags.
+// The rows of all taps.
 #[tactic(auto, unfolding(plane_types::specs::TableRows::tap_rows))]
-pub(crate) fn tap_rows(
+fn rows_of_taps(
     alloc: Global,
     rows: &Rows,
     host: &Text,
-    tags: &[TagRow],
+    tags: &TagMap,
 ) -> Result<Seq<TapRow>, OutOfMemory>
     ensures { IfOk result (λ t. t ≡ tap_rows_of rows.now host.now tags.now) }
 {
@@ -92,4 +92,18 @@ pub(crate) fn tap_rows(
         }
     }
     Ok(taps)
+}
+
+/// A row for each live port of the host that is no router's. Its cost grows with the ports and the
+/// tags.
+pub(crate) fn tap_rows(
+    alloc: Global,
+    rows: &Rows,
+    host: &Text,
+    tags: &[TagRow],
+) -> Result<Seq<TapRow>, OutOfMemory>
+    ensures { IfOk result (λ t. t ≡ tap_rows_of rows.now host.now tags.now) }
+{
+    let tags = TagMap::of(alloc, tags)?;
+    rows_of_taps(alloc, rows, host, &tags)
 }

@@ -1,4 +1,4 @@
-ghost use Rattle.std.specs.Prelude.{◌≡◌, ◌++◌, IfOk, OnOk, Some, find, map, option_map};
+ghost use Rattle.std.specs.Prelude.{◌≡◌, ◌<◌, ◌||◌, ◌++◌, ℕ, IfOk, OnOk, Some, false, find, map, option_map, slice_index_or};
 ghost use Rattle.std.specs.List.{filter_map};
 ghost use Rattle.plane_types.specs.Keys.{key_eq};
 ghost use Rattle.api_types.specs.RouterRows.{gateway_address as gateway_by_rows, has_snat};
@@ -97,21 +97,37 @@ fn is_taken(uses: &[Use], key: &Key, port: u16) -> bool
     false
 }
 
-// The least port from 1,024 on that isn't taken.
+// Marks, in one pass, the ports of those entries that have the kind and far end of the key.
+fn mark(marks: &mut [bool; 65_536], uses: &[Use], key: &Key)
+    ensures { (port : ℕ) → port < 65536 → slice_index_or marks.new port false ≡ (slice_index_or marks.old port false || taken (map use_of uses.now) key.now port) }
+{
+    for entry in uses {
+        if takes(entry, key, entry.port) {
+            marks[entry.port as usize] = true;
+        }
+    }
+}
+
+// The least port from 1,024 on that isn't taken. Its cost grows with the entries plus the ports up
+// to it, over a table of marks on the stack, for which only a call of this one pays.
+#[inline(never)]
 fn least_untaken(uses: &[Use], key: &Key) -> Option<u16>
     ensures { result ≡ first_untaken (map use_of uses.now) key.now 64512 1024 }
 {
+    let mut marks = [false; 65_536];
+    mark(&mut marks, uses, key);
     for place in 0..64_512 {
-        if !is_taken(uses, key, 1024 + place) {
-            return Some(1024 + place);
+        let port = 1024 + place;
+        if !marks[port as usize] {
+            return Some(port);
         }
     }
     None
 }
 
 /// The outer port of a new entry: the same port where it isn't taken, else, for TCP, UDP and
-/// echoes, the least one from 1,024 on that isn't. Its cost grows with the entries times the ports
-/// that are taken.
+/// echoes, the least one from 1,024 on that isn't. Its cost grows with the entries; where the same
+/// port is taken, a table of marks for all ports is cleared too, and looked at up to the free one.
 #[tactic(auto, unfolding(plane_types::specs::Routing::new_port))]
 pub(crate) fn new_port(uses: &[Use], key: &Key) -> Option<u16>
     ensures { result ≡ new_port_of (map use_of uses.now) key.now }

@@ -1,10 +1,10 @@
 use crate::lines::are_lines;
-use crate::world::{INNER, SIX, add_vxlan, held_six, prefix_six, wired};
+use crate::world::{INNER, SIX, add_vxlan, wired};
 use api_types::{Direction, Ethertype, Pair, Row, Rows};
 use net_addr::OutOfMemory;
 use std::alloc::Global;
 use std::test::Fail;
-use test_rows::{add, bound_port, group, held, id, mac, prefix, rule};
+use test_rows::{add, bound_port, group, held, held_six, id, mac, prefix, prefix_six, rule};
 
 // A rule of the group 40: all of a version goes out, or comes in from the group.
 fn add_rule(
@@ -46,7 +46,7 @@ fn add_members(alloc: Global, rows: &mut Rows) -> Result<(), OutOfMemory> {
     first.fixed.push(held_six(92, SIX + 5))?;
     first.pairs.push(Pair {
         mac: mac(9),
-        prefix: prefix_six(SIX),
+        prefix: prefix_six(SIX, 64),
     })?;
     first.pairs.push(Pair {
         mac: mac(9),

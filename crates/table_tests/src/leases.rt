@@ -1,17 +1,17 @@
 use crate::lines::are_lines;
-use crate::world::{INNER, SIX, add_port, add_vxlan, held_six, open_port, prefix_six, tags};
+use crate::world::{INNER, SIX, add_port, add_vxlan, open_port, tags};
 use api_types::{Row, Rows};
 use dhcp_agent::wire_leases;
 use net_addr::{OutOfMemory, Text};
 use std::alloc::Global;
 use std::test::Fail;
-use test_rows::{add, bound_port, four, held, prefix, service_port, subnet};
+use test_rows::{add, bound_port, four, held, held_six, prefix, prefix_six, service_port, subnet};
 
 // Network 10 with a subnet of version 6 and two of version 4, of which the first gives a gateway and
 // a name server, and network 11 with one.
 fn add_networks(alloc: Global, rows: &mut Rows) -> Result<(), OutOfMemory> {
     add_vxlan(alloc, rows, 10, 1)?;
-    let six = subnet(alloc, 93, 10, prefix_six(SIX))?;
+    let six = subnet(alloc, 93, 10, prefix_six(SIX, 64))?;
     add(alloc, rows, Row::Subnet(six))?;
     let mut low = subnet(alloc, 90, 10, prefix(INNER, 25))?;
     low.gateway = Some(four(INNER + 1));

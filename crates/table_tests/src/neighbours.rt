@@ -1,11 +1,11 @@
 use crate::lines::are_lines;
-use crate::world::{INNER, SIX, add_port, add_vxlan, held_six, open_port, wired};
+use crate::world::{INNER, SIX, add_port, add_vxlan, open_port, wired};
 use api_types::{Gateway, Row, Rows, Segment, Target};
 use l2_agent::L2Tables;
 use net_addr::{Addr4, OutOfMemory};
 use std::alloc::Global;
 use std::test::Fail;
-use test_rows::{add, floating, held, id, network, router, service_port};
+use test_rows::{add, floating, held, held_six, id, network, router, service_port};
 
 fn are_neighbours(alloc: Global, rows: &Rows, wanted: &str) -> Result<bool, OutOfMemory> {
     let tables = wired(alloc, rows, &[])?;

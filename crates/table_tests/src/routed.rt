@@ -1,9 +1,11 @@
-use crate::world::{INNER, SIX, add_vlan, add_vxlan, held_six, prefix_six, six, tags};
+use crate::world::{INNER, SIX, add_vlan, add_vxlan, tags};
 use api_types::{Gateway, Hop, Row, Rows, Target};
 use l3_agent::{L3Tables, wire_routers};
 use net_addr::{Addr, Addr4, OutOfMemory, Prefix, Text};
 use std::alloc::Global;
-use test_rows::{add, floating, four, held, id, prefix, router, service_port, subnet};
+use test_rows::{
+    add, floating, four, held, held_six, id, prefix, prefix_six, router, service_port, six, subnet,
+};
 
 /// 203.0.113.0.
 pub(crate) const OUTER: u32 = 0xcb00_7100;
@@ -51,7 +53,7 @@ fn add_networks(alloc: Global, rows: &mut Rows) -> Result<(), OutOfMemory> {
     add_vlan(alloc, rows, EXTERNAL, 100)?;
     add_outer(alloc, rows, 92, prefix(OUTER, 25), four(OUTER + 1))?;
     add_outer(alloc, rows, 93, prefix(OUTER + 128, 25), four(OUTER + 129))?;
-    add_outer(alloc, rows, 94, prefix_six(SIX), six(SIX + 1))
+    add_outer(alloc, rows, 94, prefix_six(SIX, 64), six(SIX + 1))
 }
 
 // The interface of the router, in the higher subnet first, and its gateway port, whose addresses

@@ -1,11 +1,11 @@
 use crate::routed::{EXTERNAL, INSIDE, OFFICE, OUTER, OUTSIDE, ROUTER, routed};
-use crate::world::{INNER, SIX, prefix_six, six};
+use crate::world::{INNER, SIX};
 use api_types::RouteRank;
 use l3_agent::L3Tables;
 use net_addr::{Addr, Addr4, Addr6, Prefix};
 use plane_types::{FloatRow, RouteRow, RouterPort, RouterTable};
 use std::test::Fail;
-use test_rows::{four, id, mac, prefix};
+use test_rows::{four, id, mac, prefix, prefix_six, six};
 
 // The gateway address is the first of version 4 that the gateway port's row has.
 fn is_router(table: &RouterTable) -> bool {
@@ -27,7 +27,11 @@ fn is_inside(port: &RouterPort) -> bool {
 
 fn is_outside(port: &RouterPort) -> bool {
     let addresses = [six(SIX + 2), four(OUTER + 130), four(OUTER + 2)];
-    let prefixes = [prefix_six(SIX), prefix(OUTER + 128, 25), prefix(OUTER, 25)];
+    let prefixes = [
+        prefix_six(SIX, 64),
+        prefix(OUTER + 128, 25),
+        prefix(OUTER, 25),
+    ];
     port.port == id(OUTSIDE)
         && port.tag == 2
         && port.mac == mac(OUTSIDE)
@@ -116,7 +120,7 @@ fn routes() -> [RouteRow; 9] {
         high(),
         outer(prefix(OUTER, 25)),
         outer(prefix(OUTER + 128, 25)),
-        outer(prefix_six(SIX)),
+        outer(prefix_six(SIX, 64)),
         extra(),
         default(prefix(0, 0), four(OUTER + 1)),
         default(prefix(0, 0), four(OUTER + 129)),

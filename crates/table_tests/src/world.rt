@@ -1,6 +1,6 @@
-use api_types::{Fixed, PortRow, Row, Rows, Segment};
+use api_types::{PortRow, Row, Rows, Segment};
 use l2_agent::{L2Tables, wire_ports};
-use net_addr::{Addr, Addr6, Cidr, OutOfMemory, Prefix, Seq, Text};
+use net_addr::{OutOfMemory, Seq, Text};
 use plane_types::{TagRow, Tags};
 use std::alloc::Global;
 use test_rows::{add, bound_port, held, id, network};
@@ -10,25 +10,6 @@ pub(crate) const INNER: u32 = 0x0a00_0000;
 
 /// 2001:db8::.
 pub(crate) const SIX: u128 = 0x2001_0db8_0000_0000_0000_0000_0000_0000;
-
-/// An address of version 6.
-pub(crate) fn six(address: u128) -> Addr {
-    Addr::V6(Addr6(address))
-}
-
-/// The 64 bits in front of an address of version 6.
-pub(crate) fn prefix_six(address: u128) -> Prefix {
-    let addr = six(address);
-    Cidr { addr, len: 64 }.prefix()
-}
-
-/// An address of version 6 in a subnet.
-pub(crate) fn held_six(subnet: u8, address: u128) -> Fixed {
-    Fixed {
-        subnet: id(subnet),
-        address: six(address),
-    }
-}
 
 /// Adds a network with a number of VXLAN.
 pub(crate) fn add_vxlan(

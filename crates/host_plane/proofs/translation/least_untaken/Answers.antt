@@ -1,15 +1,23 @@
-use Rattle.std.proofs.Common.{◌≡◌, ◌∙◌, ◌+◌, ◌-◌, ◌++◌, ap, sym, arith}
+use Rattle.std.proofs.Common.{◌≡◌, ◌∙◌, ◌+◌, ◌-◌, ◌<◌, ◌++◌, ℕ, Bool, false, ap, sym, arith, get_or}
+use Rattle.std.specs.Prelude.{◌||◌, replicate}
+use Rattle.std.proofs.lemmas.List.{get_or-replicate}
 use Rattle.plane_types.proofs.UseLemmas.{untaken_found, untaken_none, untaken_past}
 use Rattle.plane_types.specs.Routing.{least_untaken, uses_at}
 use Rattle.host_plane.proofs.translation.least_untaken.Goals as goal
 
-pub returns-then-not-is_taken : goal.returns-then-not-is_taken
-returns-then-not-is_taken c =
-    sym (untaken_found (uses_at c.args.router c.args.outer (c.args.entries.now ++ c.args.fresh.now)) c.args.key.now 64512 c.loop-place.place 1024 c.loop-place-test.true (sym c.is_taken.ensures ∙ c.if-not-is_taken.true)) ∙ c.loop-place.invariant
+-- where no port was marked before, a mark is what was added
+new_mark : (many port : ℕ) (mark taken : Bool) → port < many → mark ≡ (get_or (replicate many false) port false || taken) → mark ≡ taken
+new_mark many port mark taken below is = is ∙ ap (λ b. b || taken) (get_or-replicate many port false false below)
+
+pub returns-then-not-marks-port : goal.returns-then-not-marks-port
+returns-then-not-marks-port c =
+    let below : 1024 + c.loop-place.place < 65536 = omega arith in
+    sym (untaken_found (uses_at c.args.router c.args.outer (c.args.entries.now ++ c.args.fresh.now)) c.args.key.now 64512 c.loop-place.place 1024 c.loop-place-test.true (sym (new_mark 65536 (1024 + c.loop-place.place) _ _ below (c.mark_all.ensures (1024 + c.loop-place.place) below)) ∙ c.if-not-marks-port.true)) ∙ c.loop-place.invariant
 
 pub loop-place-preserved : goal.loop-place-preserved
 loop-place-preserved c =
-    sym (untaken_past (uses_at c.args.router c.args.outer (c.args.entries.now ++ c.args.fresh.now)) c.args.key.now 64512 c.loop-place.place 1024 c.loop-place-test.true (sym c.is_taken.ensures ∙ c.if-not-is_taken.false)) ∙ c.loop-place.invariant
+    let below : 1024 + c.loop-place.place < 65536 = omega arith in
+    sym (untaken_past (uses_at c.args.router c.args.outer (c.args.entries.now ++ c.args.fresh.now)) c.args.key.now 64512 c.loop-place.place 1024 c.loop-place-test.true (sym (new_mark 65536 (1024 + c.loop-place.place) _ _ below (c.mark_all.ensures (1024 + c.loop-place.place) below)) ∙ c.if-not-marks-port.false)) ∙ c.loop-place.invariant
 
 pub returns : goal.returns
 returns c =

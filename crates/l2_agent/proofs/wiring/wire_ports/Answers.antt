@@ -1,4 +1,4 @@
-use Rattle.std.proofs.Common.{◌≡◌, ◌∙◌, ap, sym, subst}
+use Rattle.std.proofs.Common.{◌∙◌, ap, sym, subst}
 use Rattle.plane_types.specs.Realises.{RealisesTags}
 use Rattle.plane_types.specs.Retagged.{retagged}
 use Rattle.plane_types.proofs.RetaggedLaw.{tags_stand}

@@ -1,0 +1,4 @@
+pub mod Among
+pub mod Free
+pub mod Places
+pub mod Ruled
