@@ -49,19 +49,3 @@ module _ (state : State) (project : List ℕ) (change : List Item) (ordinal firs
 
   pub id_is : ident ordinal first ≡ drawn_id (drawing state.rows change ordinal first) 0
   id_is = ap (ident ordinal) (omega arith)
-
--- the default settings meet the rules
-pub default_rules : MeetsRules default_parts
-unfolding IsDistinct
-default_rules = record {
-  drivers_once = refl;
-  first_positive = lit≤ tt;
-  in_order = lit≤ tt;
-  last_small = lit≤ tt;
-  quotas_in_range = refl;
-  some_host = lit≤ tt;
-  few_hosts = lit≤ tt;
-  host_names = refl;
-  host_names_differ = ((refl, tt), (tt, tt));
-  physical_names = refl;
-}

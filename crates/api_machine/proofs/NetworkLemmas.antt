@@ -43,7 +43,8 @@ use Rattle.api_steps.proofs.NetworksKept.{created_kept, deleted_kept, owner_name
 use Rattle.api_steps.proofs.OutcomeLemmas.{named_is, none_first, not_when}
 use Rattle.api_machine.specs.Items.{made_item}
 use Rattle.api_machine.specs.Plan.{Draws, IsRefusalOf, Leads, LeadsTo, StandsIn}
-use Rattle.api_machine.proofs.CallLemmas.{and_then, default_rules, drawing, drawn_at, drawn_so, id_is, leads_by}
+use Rattle.net_settings.proofs.DefaultRules.{default_rules}
+use Rattle.api_machine.proofs.CallLemmas.{and_then, drawing, drawn_at, drawn_so, id_is, leads_by}
 use Rattle.api_machine.proofs.ShownAfter.{changed_shown, new_shown}
 
 -- of a network that has a new id there are no subnets

@@ -36,7 +36,8 @@ use Rattle.api_steps.proofs.StepKept.{step_kept}
 use Rattle.api_machine.specs.Groups.{first_groups}
 use Rattle.api_machine.specs.Items.{made_item}
 use Rattle.api_machine.specs.Plan.{Draws, IsRefusalOf, Leads}
-use Rattle.api_machine.proofs.CallLemmas.{and_then, default_rules, drawing, drawn_at, drawn_so, id_is, leads_by}
+use Rattle.net_settings.proofs.DefaultRules.{default_rules}
+use Rattle.api_machine.proofs.CallLemmas.{and_then, drawing, drawn_at, drawn_so, id_is, leads_by}
 use Rattle.api_machine.proofs.GroupLemmas.{groups_same}
 use Rattle.api_machine.proofs.ShownAfter.{port_alike}
 

@@ -1,7 +1,5 @@
 //! Frames of version 6 between two hosts.
 
-ghost use Rattle.std.specs.Prelude.{◌≤◌};
-
 use crate::lab::Lab;
 use crate::office::{
     FIRST, GROUP, HERE, OFFICE, SECOND, THERE, at_mac, empty, lab_of, neighbour, tag_row, tap_with,
@@ -9,27 +7,19 @@ use crate::office::{
 };
 use crate::seen::{End, Seen, Sender, see};
 use api_types::{Direction, Ethertype, Id};
-use net_addr::{Addr, Addr6, Cidr, OutOfMemory, Prefix};
+use net_addr::{Addr, Addr6, OutOfMemory};
 use plane_types::{
     BridgeTo, Carrier, DropCause, Ends, FilterRow, Frame, HostTables, InwardRow, KeyPart, SetRow,
 };
 use std::alloc::Global;
 use std::test::Fail;
-use test_rows::{id, mac};
+use test_rows::{id, mac, prefix_six};
 
 /// 2001:db8:1::.
 pub(crate) const INNER: u128 = 0x2001_0db8_0001_0000_0000_0000_0000_0000;
 
 pub(crate) fn inner(n: u8) -> Addr6 {
     Addr6(INNER + u128::from(n))
-}
-
-/// A prefix, whose base has the bits behind the length cleared.
-pub(crate) fn prefix_six(base: u128, len: u8) -> Prefix
-    requires { len ≤ 128 }
-{
-    let addr = Addr::V6(Addr6(base));
-    Cidr { addr, len }.prefix()
 }
 
 // Lets everything of a version through.

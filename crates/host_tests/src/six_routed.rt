@@ -6,13 +6,13 @@ use crate::outer::{
     BEYOND, EXTERNAL, INSIDE, OUTSIDE, ROUTER, outer, route, router_with, to_router, wire,
 };
 use crate::seen::{End, Seen, Sender, see, tcp};
-use crate::six::{INNER, inner, prefix_six};
+use crate::six::{INNER, inner};
 use api_types::RouteRank;
 use net_addr::{Addr, Addr6, Mac, OutOfMemory};
 use plane_types::{BridgeTo, Carrier, Ends, Frame, HostTables, InwardRow, KeyPart, Toward};
 use std::alloc::Global;
 use std::test::Fail;
-use test_rows::{id, mac, prefix};
+use test_rows::{id, mac, prefix, prefix_six};
 
 /// 2001:db8:f:: and 2001:db8:a::9.
 const BASE: u128 = 0x2001_0db8_000f_0000_0000_0000_0000_0000;

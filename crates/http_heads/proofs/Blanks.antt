@@ -1,9 +1,9 @@
 -- Empty lines that come first.
-use Rattle.std.proofs.Common.{◌≡◌, ◌≢◌, ℕ, ◌+◌, ◌≤◌, ◌<◌, ◌==◌, ◌&&◌, Bool, true, false, List, [], ◌∷◌, ◌++◌, length, drop, refl, sym, ap, ap₂, subst, ◌∙◌, arith, slice_index_or, if◌then◌else◌}
+use Rattle.std.proofs.Common.{◌≡◌, ◌≢◌, ℕ, ◌+◌, ◌≤◌, ◌<◌, ◌==◌, ◌&&◌, Bool, true, false, List, [], ◌∷◌, ◌++◌, length, refl, sym, ap, ap₂, subst, ◌∙◌, arith, slice_index_or, if◌then◌else◌}
 use Rattle.std.proofs.lemmas.Bool.{eqb-true}
 use Rattle.httparse.specs.Grammar.{LineEnd, crlf, lf, print_blank}
 use Rattle.http_heads.proofs.LineFeeds.{lf-append}
-use Rattle.http_heads.specs.Lines.{lf_one, line_feeds, behind_blank}
+use Rattle.http_heads.specs.Lines.{chosen, lf_one, line_feeds, behind_blank}
 
 pub behind_lf : (bytes : List ℕ) → behind_blank (10 ∷ bytes) ≡ behind_blank bytes
 behind_lf [] = refl
@@ -61,19 +61,57 @@ behind_more (a ∷ (c ∷ bytes)) b = by (behind_more (c ∷ bytes) b) (behind_m
     by one two false true = two
     by one two false false = omega (arith, lf-append bytes (b ∷ []))
 
--- an empty line at the front
-pub one_line : (bytes : List ℕ) → 0 < length bytes → slice_index_or bytes 0 0 ≡ 10 → behind_blank (drop 1 bytes) ≡ behind_blank bytes
-one_line [] some is = absurd (omega (arith, some))
-one_line (a ∷ bytes) some is = subst (λ x. behind_blank bytes ≡ behind_blank (x ∷ bytes)) (sym is) (sym (behind_lf bytes))
+-- empty lines are passed, whatever follows
+pub behind_past : (front bytes : List ℕ) → behind_blank front ≡ [] → behind_blank (front ++ bytes) ≡ behind_blank bytes
+behind_past [] bytes none = refl
+behind_past (a ∷ []) bytes none = by (a == 10) refl none
+  where
+    by : (t : Bool) → (a == 10) ≡ t → (if t then [] else a ∷ []) ≡ [] → behind_blank (a ∷ bytes) ≡ behind_blank bytes
+    by true e none = subst (λ x. behind_blank (x ∷ bytes) ≡ behind_blank bytes) (sym (eqb-true a 10 e)) (behind_lf bytes)
+    by false e none = absurd (cc)
+behind_past (a ∷ (b ∷ front)) bytes none = by (behind_past (b ∷ front) bytes) (behind_past front bytes) (a == 10) ((a == 13) && (b == 10)) none
+  where
+    by : (behind_blank (b ∷ front) ≡ [] → behind_blank (b ∷ (front ++ bytes)) ≡ behind_blank bytes)
+        → (behind_blank front ≡ [] → behind_blank (front ++ bytes) ≡ behind_blank bytes) → (s u : Bool)
+        → (if s then behind_blank (b ∷ front) else (if u then behind_blank front else a ∷ (b ∷ front))) ≡ []
+        → (if s then behind_blank (b ∷ (front ++ bytes)) else (if u then behind_blank (front ++ bytes) else a ∷ (b ∷ (front ++ bytes)))) ≡ behind_blank bytes
+    by one two true u none = one none
+    by one two false true none = two none
+    by one two false false none = absurd (cc)
 
-pub two_line : (bytes : List ℕ) → 1 < length bytes → slice_index_or bytes 0 0 ≡ 13 → slice_index_or bytes 1 0 ≡ 10 → behind_blank (drop 2 bytes) ≡ behind_blank bytes
-two_line [] some one two = absurd (omega (arith, some))
-two_line (a ∷ []) some one two = absurd (omega (arith, some))
-two_line (a ∷ (b ∷ bytes)) some one two = subst (λ x. behind_blank bytes ≡ behind_blank (x ∷ (b ∷ bytes))) (sym one) (subst (λ y. behind_blank bytes ≡ behind_blank (13 ∷ (y ∷ bytes))) (sym two) refl)
+-- what is behind the empty lines isn't longer
+pub behind_shorter : (bytes : List ℕ) → length (behind_blank bytes) ≤ length bytes
+behind_shorter [] = omega arith
+behind_shorter (a ∷ []) = by (a == 10)
+  where
+    by : (t : Bool) → length (if t then [] else a ∷ []) ≤ 1
+    by true = omega arith
+    by false = omega arith
+behind_shorter (a ∷ (b ∷ bytes)) = by (behind_shorter (b ∷ bytes)) (behind_shorter bytes) (a == 10) ((a == 13) && (b == 10))
+  where
+    by : length (behind_blank (b ∷ bytes)) ≤ length (b ∷ bytes) → length (behind_blank bytes) ≤ length bytes → (s u : Bool)
+        → length (if s then behind_blank (b ∷ bytes) else (if u then behind_blank bytes else a ∷ (b ∷ bytes))) ≤ length (a ∷ (b ∷ bytes))
+    by one two true u = omega (arith, one)
+    by one two false true = omega (arith, two)
+    by one two false false = omega arith
 
-pub no_line : (bytes : List ℕ) → 0 < length bytes → slice_index_or bytes 0 0 ≢ 10 → (slice_index_or bytes 0 0 ≡ 13 → slice_index_or bytes 1 0 ≢ 10) → behind_blank bytes ≡ bytes
-no_line [] some one two = refl
-no_line (a ∷ bytes) some one two = behind_other a bytes one two
+-- in a front of empty lines no other line ends
+pub blank_front : (front bytes : List ℕ) → behind_blank (front ++ bytes) ≡ [] → line_feeds (behind_blank front) ≡ 0
+blank_front [] bytes none = refl
+blank_front (a ∷ []) bytes none = by (a == 10) refl
+  where
+    by : (t : Bool) → (a == 10) ≡ t → line_feeds (if t then [] else a ∷ []) ≡ 0
+    by true e = refl
+    by false e = ap (λ s. chosen s + 0) e
+blank_front (a ∷ (b ∷ front)) bytes none = by (blank_front (b ∷ front) bytes) (blank_front front bytes) (a == 10) ((a == 13) && (b == 10)) none
+  where
+    by : (behind_blank (b ∷ (front ++ bytes)) ≡ [] → line_feeds (behind_blank (b ∷ front)) ≡ 0)
+        → (behind_blank (front ++ bytes) ≡ [] → line_feeds (behind_blank front) ≡ 0) → (s u : Bool)
+        → (if s then behind_blank (b ∷ (front ++ bytes)) else (if u then behind_blank (front ++ bytes) else a ∷ (b ∷ (front ++ bytes)))) ≡ []
+        → line_feeds (if s then behind_blank (b ∷ front) else (if u then behind_blank front else a ∷ (b ∷ front))) ≡ 0
+    by one two true u none = one none
+    by one two false true none = two none
+    by one two false false none = absurd (cc)
 
 -- the last byte, if there is one, is a line feed
 abbrev pub LastIsFeed : List ℕ → Type 0

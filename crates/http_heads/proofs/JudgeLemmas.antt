@@ -90,6 +90,24 @@ not_too_many p few e =
     let above : 66 < line_feeds (behind_blank (e.0 ++ e.1)) = too_many_lines h.blank t.0 tail e.0 e.1 t.3 t.4 whole many in
     omega (arith, above, few, ap (λ l. line_feeds (behind_blank l)) e.2)
 
+-- a head has a whole line behind the empty ones
+pub head_has_line : (p : List ℕ) (h : RequestHead) → ReadsRequest p h [] → 0 < line_feeds (behind_blank p)
+head_has_line p h reads =
+    let t = token_first h.method reads.0.method in
+    let tail = t.1 ++ behind_method h in
+    let shape : p ≡ print_blank h.blank ++ t.0 ∷ tail = reads.1 ∙ printed h ∙ ap (λ m. print_blank h.blank ++ (m ++ behind_method h)) t.2 in
+    let all : line_feeds p ≡ length h.blank + length h.fields + 2 = ap line_feeds (reads.1 ∙ append-nil (print_request h)) ∙ lf-request h reads.0 in
+    let behind : behind_blank p ≡ t.0 ∷ tail = ap behind_blank shape ∙ behind_blanks h.blank t.0 tail t.3 t.4 in
+    omega (arith, all, ap line_feeds shape, lf-append (print_blank h.blank) (t.0 ∷ tail), lf-blank h.blank, ap line_feeds behind)
+
+-- what has only its first line, and fewer bytes than a head may have, says nothing
+pub first_line_open : (p : List ℕ) → IsInFirstLine p → length p < 16384 → IsOpen p
+first_line_open p lines short = record {
+  no_head = λ h reads. omega (arith, lines, head_has_line p h reads);
+  follow = inr lines;
+  small = λ large. elim large [ inl long ↦ omega (arith, long, short) | inr many ↦ omega (arith, many, lines) ];
+}
+
 in_target : (p : List ℕ) → EndsInTarget p → IsInFirstLine p
 in_target p t =
     let first = token_first t.1 t.3 in

@@ -9,3 +9,4 @@ pub mod PartLemmas
 pub mod HeadLemmas
 pub mod ReadLemmas
 pub mod Resuming
+pub mod EmptyFronts

@@ -1,9 +1,11 @@
 //! Reading the head of a request from the bytes that have come.
 ghost use Rattle.std.specs.Prelude.{◌≡◌, ℕ, ◌≤◌, ◌<◌, length, take, true};
 ghost use Rattle.http_heads.specs.Heads.{Judgement, Decides, IsUndecided};
+ghost use Rattle.http_heads.specs.Lines.{AreEmptyLines};
 ghost use Rattle.http_heads.specs.Read.{IsHeadRead, IsReadAs, IsNumbered};
 
 use crate::HEAD_LIMIT;
+use crate::empty_lines::skip_empty_lines;
 use crate::judging::{Judged, judge_at};
 use crate::whole::read_whole;
 use httparse::spans::EMPTY_HEADER_SPAN;
@@ -52,22 +54,28 @@ pub enum HeadRead {
 /// What the first prefix that says something says of the bytes that have come.
 ///
 /// A prefix is judged where it ends with a line feed or has 16,384 bytes; `ended` tells that no more
-/// bytes come. It takes no memory and copies nothing. Each judged prefix is read from its front, so
-/// the cost is at most the number of line feeds in the head times its bytes.
+/// bytes come. It takes no memory and copies nothing. Empty lines that come first are passed, and
+/// prefixes of them aren't judged, but for one of 16,384 bytes. Behind them at most 66 prefixes are
+/// judged, each read from its front: the cost is at most so many times that of the bytes.
 pub fn read_head(buffer: &[u8], ended: bool) -> HeadRead
     requires { ended ≡ true → 0 < length buffer.now }
     ensures is { IsHeadRead buffer.now ended result }
     ensures only { (judgement : Judgement) → Decides buffer.now judgement → IsReadAs buffer.now judgement result }
     ensures number { IsNumbered result }
 {
-    resume_head(buffer, 0, ended)
+    let empty = skip_empty_lines(buffer, 0);
+    resume_head(buffer, empty, empty, ended)
 }
 
 /// The same of bytes of which the first `from` decide nothing, as an earlier look at them told.
 ///
 /// Only prefixes that end behind those are judged. So a head that comes in pieces, each of which is
-/// looked at as it comes, has each of its prefixes judged once, as a head that comes whole.
-pub fn resume_head(buffer: &[u8], from: usize, ended: bool) -> HeadRead
+/// looked at as it comes, has each of its prefixes judged once, as a head that comes whole. The first
+/// `empty` bytes are empty lines, as `skip_empty_lines` counts them, and `from` is no less: so no
+/// prefix of empty lines is judged but one of 16,384 bytes.
+pub fn resume_head(buffer: &[u8], empty: usize, from: usize, ended: bool) -> HeadRead
+    requires empty { AreEmptyLines buffer.now empty }
+    requires behind { empty ≤ from }
     requires some { ended ≡ true → 0 < length buffer.now }
     requires open { IsUndecided (take from buffer.now) }
     ensures is { IsHeadRead buffer.now ended result }
@@ -76,7 +84,7 @@ pub fn resume_head(buffer: &[u8], from: usize, ended: bool) -> HeadRead
 {
     let mut fields = [EMPTY_HEADER_SPAN; 65];
     for at in from..buffer.len().min(HEAD_LIMIT) {
-        match judge_at(buffer, at, &mut fields) {
+        match judge_at(buffer, empty, at, &mut fields) {
             Judged::Open => {}
             Judged::Wrong => return HeadRead::Refused(1),
             Judged::Large => return HeadRead::Refused(2),

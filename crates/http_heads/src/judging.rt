@@ -1,7 +1,7 @@
 //! What one prefix of the bytes says.
 ghost use Rattle.std.specs.Prelude.{◌≡◌, ℕ, ◌+◌, ◌<◌, ◌≤◌, ◌↔◌, ◌⊎◌, length, take, slice_index_or, IsTrue};
 ghost use Rattle.http_heads.specs.Heads.{IsOpen, IsJudged};
-ghost use Rattle.http_heads.specs.Lines.{line_feeds, behind_blank};
+ghost use Rattle.http_heads.specs.Lines.{line_feeds, behind_blank, AreEmptyLines};
 ghost use Rattle.http_heads.specs.Read.{IsJudgedAs, IsJudgedAt, EndsLine};
 
 use crate::HEAD_LIMIT;
@@ -18,9 +18,10 @@ pub(crate) enum Judged {
     Whole(RequestSpans),
 }
 
-// Judges one prefix, where none before it says anything. The room for fields is one more than the
+// Judges one prefix, whose first bytes are empty lines, where none before it says anything. The room for fields is one more than the
 // fields that a head may have, so it never runs out.
-fn judge(prefix: &[u8], fields: &mut [HeaderSpan]) -> Judged
+fn judge(prefix: &[u8], empty: usize, fields: &mut [HeaderSpan]) -> Judged
+    requires empty { AreEmptyLines prefix.now empty }
     requires room { length fields.old ≡ 65 }
     requires ends { (length prefix.now ≡ 16384) ⊎ EndsLine prefix.now }
     requires short { length prefix.now ≤ 16384 }
@@ -31,14 +32,14 @@ fn judge(prefix: &[u8], fields: &mut [HeaderSpan]) -> Judged
     match parse_request(prefix, fields) {
         Ok(Status::Complete(spans)) => Judged::Whole(spans),
         Ok(Status::Partial) => {
-            if is_large(prefix) {
+            if is_large(prefix, empty) {
                 Judged::Large
             } else {
                 Judged::Open
             }
         }
         Err(_) => {
-            if is_in_first_line(prefix) {
+            if is_in_first_line(prefix, empty) {
                 Judged::Large
             } else {
                 Judged::Wrong
@@ -57,7 +58,9 @@ fn is_judged(buffer: &[u8], at: usize) -> bool
 }
 
 // Judges the prefix that ends behind a byte, if it is judged.
-pub(crate) fn judge_at(buffer: &[u8], at: usize, fields: &mut [HeaderSpan]) -> Judged
+pub(crate) fn judge_at(buffer: &[u8], empty: usize, at: usize, fields: &mut [HeaderSpan]) -> Judged
+    requires empty { AreEmptyLines buffer.now empty }
+    requires behind { empty ≤ at }
     requires room { length fields.old ≡ 65 }
     requires within { at < length buffer.now }
     requires short { at < 16384 }
@@ -68,5 +71,5 @@ pub(crate) fn judge_at(buffer: &[u8], at: usize, fields: &mut [HeaderSpan]) -> J
     if !is_judged(buffer, at) {
         return Judged::Open;
     }
-    judge(&buffer[..at + 1], fields)
+    judge(&buffer[..at + 1], empty, fields)
 }

@@ -6,6 +6,7 @@
 //! follows. It takes no memory and copies nothing.
 #![tactic(auto)]
 
+mod empty_lines;
 mod field_list;
 mod head;
 mod judging;
@@ -14,6 +15,7 @@ mod line_count;
 mod values;
 mod whole;
 
+pub use empty_lines::skip_empty_lines;
 pub use head::{HeadParts, HeadRead, Part, read_head, resume_head};
 pub use laws::head_laws;
 pub use values::read_number;

@@ -144,6 +144,44 @@ fn long_heads(rt: HostRuntime) -> Result<(), Fail> {
     Ok(())
 }
 
+// So many empty lines with this end, and this behind them.
+fn with_empty(alloc: Global, count: usize, end: &[u8], last: &[u8]) -> Result<Vec<u8>, Fail> {
+    let mut bytes = Vec::new(alloc);
+    for _ in 0..count {
+        bytes.extend_from_slice(end)?;
+    }
+    bytes.extend_from_slice(last)?;
+    Ok(bytes)
+}
+
+// Empty lines before a head: how many of their bytes are passed, and what is answered.
+#[test]
+fn empty_lines_first(rt: HostRuntime) -> Result<(), Fail> {
+    let alloc = rt.alloc();
+    let request = b"GET / HTTP/1.1\r\n\r\n".as_slice();
+    let cases: [(usize, &[u8], &[u8], usize, u8); 13] = [
+        (0, b"\n", b"", 0, 9),
+        (16_000, b"\n", request, 16_000, 0),
+        (8_000, b"\r\n", request, 16_000, 0),
+        (16_366, b"\n", request, 16_366, 0),
+        (16_367, b"\n", request, 16_367, 2),
+        (16_383, b"\n", b"", 16_383, 9),
+        (16_384, b"\n", b"", 16_383, 2),
+        (8_191, b"\r\n", b"\r", 16_382, 9),
+        (8_191, b"\r\n", b"\r\n", 16_382, 2),
+        (8_191, b"\r\n", b"\n", 16_383, 9),
+        (1, b"\n", b"\r", 1, 9),
+        (1, b"\r\n", b"\r\r\nGET / HTTP/1.1\r\n\r\n", 2, 1),
+        (2, b"\r\n", b"\rGET / HTTP/1.1\r\n\r\n", 4, 1),
+    ];
+    for (count, end, last, passed, wanted) in cases {
+        let bytes = with_empty(alloc, count, end, last)?;
+        assert_eq!(rt; skip_empty_lines(bytes.as_slice(), 0), passed);
+        assert_eq!(rt; answer(bytes.as_slice(), false), wanted);
+    }
+    Ok(())
+}
+
 // The text of a part.
 fn text(bytes: &[u8], part: Part) -> &[u8] {
     bytes.get(part.start..part.end).unwrap_or(b"?")

@@ -35,7 +35,7 @@ flushed_on A B ts [] p (inl a) = inl (p (inl a))
 flushed_on A B ts [] p (inr lt) = inl (p (inr (omega (arith, lt, length-append ts []))))
 flushed_on A B ts (u ∷ us) p f = inr (omega arith)
 
-module _ {W : Type 0} (step : W → Asked → List ℕ → W → Type 0) (fixed : Fixed) where
+module _ {W : Type 0} (step : W → Asked → List ℕ → W → Type 0) (fixed : Fixed W) where
   -- bytes that come later change nothing of what was answered, and what is answered then comes behind it
   pub answers_join : (w x y : W) (bytes left more rest : List ℕ) (ts us : List Told)
       → Answers step fixed w bytes ts x left → Answers step fixed x (left ++ more) us y rest → Answers step fixed w (bytes ++ more) (ts ++ us) y rest

@@ -1,5 +1,5 @@
 -- From the head of a request to the whole of it.
-use Rattle.std.proofs.Common.{[], ◌≡◌, ℕ, ◌+◌, ◌-◌, ◌≤◌, ◌<◌, inl, inr, List, ◌++◌, length, take, drop, Option, refl, sym, ap, subst, ◌∙◌, arith, length-append, append-nil, append_assoc, Bool, false, slice_range}
+use Rattle.std.proofs.Common.{[], ◌≡◌, ℕ, ◌+◌, ◌-◌, ◌≤◌, ◌<◌, ◌⊎◌, inl, inr, max, List, ◌++◌, length, take, drop, Option, refl, sym, ap, subst, ◌∙◌, arith, length-append, append-nil, append_assoc, Bool, false, slice_range}
 use Rattle.std.proofs.lemmas.List.{take-append-drop, drop-drop, length-take-le}
 use Rattle.std.proofs.Math.Seq.{take-append_seam}
 use Rattle.std.proofs.KnownBytes.{Consumes-trans, Consumes-nil, Consumes-kept}
@@ -30,6 +30,17 @@ reads_on a b c l m n s t u p q = record {
 -- the bytes that were looked at are the first of those that are there now
 pub seen_front : (a b more : List ℕ) → b ≡ a ++ more → IsUndecided a → IsUndecided (take (length a) b)
 seen_front a b more grew u = subst IsUndecided (sym (ap (take (length a)) grew ∙ take-append_seam a more)) u
+
+-- of two fronts that decide nothing the longer one decides nothing
+pub longer_front : (bytes : List ℕ) (m n most : ℕ) → most ≡ max m n
+    → IsUndecided (take m bytes) → IsUndecided (take n bytes) → IsUndecided (take most bytes)
+longer_front bytes m n most is u v = elim (one_of most m n is) [
+  | inl e ↦ subst (λ k. IsUndecided (take k bytes)) (sym e) u
+  | inr e ↦ subst (λ k. IsUndecided (take k bytes)) (sym e) v
+]
+  where
+    one_of : (most m n : ℕ) → most ≡ max m n → (most ≡ m) ⊎ (most ≡ n)
+    one_of most m n is = grind (arith, is)
 
 -- a head that passes, by what was read of it
 pub record Passing (b : List ℕ) (size start : ℕ) (close : Bool) (parts : HeadParts) : Type 0 where

@@ -6,7 +6,7 @@ use Rattle.http_session.specs.Told.{Told, Answered, StoreFailed, NoMemory, Fixed
 use Rattle.http_session.specs.Accounts.{AllAnswered, IsFunctional}
 use Rattle.http_session.specs.Serves.{Answers}
 
-module _ {W : Type 0} (step : W → Asked → List ℕ → W → Type 0) (fixed : Fixed) (functional : IsFunctional step) where
+module _ {W : Type 0} (step : W → Asked → List ℕ → W → Type 0) (fixed : Fixed W) (functional : IsFunctional step) where
   -- where both accounts answer every request by the machine and wait then, they are one
   pub one_account : (w x y : W) (bytes left rest : List ℕ) (ts us : List Told) → AllAnswered ts → AllAnswered us
       → Answers step fixed w bytes ts x left → IsWaiting left → Answers step fixed w bytes us y rest → IsWaiting rest → (ts ≡ us) × (x ≡ y) × (left ≡ rest)

@@ -22,7 +22,7 @@ pub short_of : (old new : Option (List ℕ)) (flushed_old flushed_new : Option �
     → ((n : ℕ) × (n ≤ length reply) × Appends old new (take n reply)) → Short old new flushed_old flushed_new reply
 short_of old new flushed_old flushed_new reply same h = record { front = take h.0 reply; back = drop h.0 reply; parts = sym (take-append-drop h.0 reply); wrote = h.2; flushed_stays = same }
 
-module _ {W : Type 0} (step : W → Asked → List ℕ → W → Type 0) (fixed : Fixed) (limit : ℕ)
+module _ {W : Type 0} (step : W → Asked → List ℕ → W → Type 0) (fixed : Fixed W) (limit : ℕ)
     (w w1 : W) (b0 b1 : List ℕ) (left0 left1 wo wn : Option (List ℕ)) (fo fn : Option ℕ) (k0 k1 t0 t1 : ℕ) (reads : Reads b0 b1 left0 left1 t0 t1) where
   less : (end : ℕ) → t1 ≤ limit → 0 < end → end ≤ length b1 → (limit - t1) + length (drop end b1) < (limit - t0) + length b0
   less end within some fits = omega (arith, length-drop end b1, reads.count, ap length reads.grew, length-append b0 reads.more)
@@ -173,7 +173,7 @@ module _ {W : Type 0} (step : W → Asked → List ℕ → W → Type 0) (fixed 
   pub spent_turn : IsStop limit b1 left1 t1 Spent → IsTurn step fixed limit (moment w b0 left0 wo fo k0 t0) (moment w b1 left1 wo fo k0 t1) (Ends Budget)
   spent_turn h = (moment w b1 left1 wo fo k0 t1, read_on, (refl, h.0, h.1))
 
-module _ {W : Type 0} (step : W → Asked → List ℕ → W → Type 0) (fixed : Fixed) (limit : ℕ) where
+module _ {W : Type 0} (step : W → Asked → List ℕ → W → Type 0) (fixed : Fixed W) (limit : ℕ) where
   -- a session so far, and then a turn that ends it
   pub last_turn : (a b z : Moment W) (end : SessionEnd) → Goes step fixed a b → IsTurn step fixed limit b z (Ends end) → Serves step fixed limit a z end
   last_turn a b z end so turn = inl (turn.0, goes_on step fixed a b turn.0 so turn.1, turn.2)

@@ -6,7 +6,7 @@ use Rattle.http_session.specs.declared.handler.Answer.{Answer}
 use Rattle.http_session.specs.declared.handler.Answer.TheVariants.{Reply, StoreFault, NoMemory, Unwritten}
 
 -- how the world moved. Where the reply could not be written, the step was made for some reply
-abbrev pub MovesBy : {W : Type 0} → (W → Asked → List ℕ → W → Type 0) → Fixed → W → Asked → Answer → W → Type 0
+abbrev pub MovesBy : {W : Type 0} → (W → Asked → List ℕ → W → Type 0) → Fixed W → W → Asked → Answer → W → Type 0
 MovesBy step fixed old asked (Reply bytes) new = Moves step fixed old asked (Answered bytes) new
 MovesBy step fixed old asked (StoreFault bytes) new = Moves step fixed old asked (StoreFailed bytes) new
 MovesBy step fixed old asked NoMemory new = new ≡ old

@@ -1,5 +1,5 @@
 -- How one request is answered.
-use Rattle.std.specs.Prelude.{◌≡◌, ℕ, ◌+◌, Bool, List, [], ◌∷◌}
+use Rattle.std.specs.Prelude.{◌≡◌, ℕ, ◌+◌, Bool, true, List, [], ◌∷◌}
 use Rattle.std.specs.List.{flat_map}
 use Rattle.http_heads.specs.Heads.{Asked}
 use Rattle.http_heads.specs.Fields.{closes}
@@ -28,14 +28,16 @@ abbrev pub faults : List Told → ℕ
 faults [] = 0
 faults (told ∷ tolds) = told_faults told + faults tolds
 
--- the replies that aren't the machine's: of the store's failing, of want of memory, and of refusals 1 to 4
-pub record Fixed : Type 0 where
+-- the replies that aren't the machine's: of the store's failing, which only a change meets, of want of memory, and of refusals 1 to 4
+pub record Fixed (W : Type 0) : Type 0 where
   pub store_failed : Bool → List ℕ
   pub no_memory : Bool → List ℕ
   pub refusal : ℕ → List ℕ
+  -- whether a request comes to a change, which the store is to keep
+  pub changes : W → Asked → Bool
 
 -- a request moves the world by the machine's step, or not at all
-abbrev pub Moves : {W : Type 0} → (W → Asked → List ℕ → W → Type 0) → Fixed → W → Asked → Told → W → Type 0
+abbrev pub Moves : {W : Type 0} → (W → Asked → List ℕ → W → Type 0) → Fixed W → W → Asked → Told → W → Type 0
 Moves step fixed old asked (Answered reply) new = step old asked reply new
-Moves step fixed old asked (StoreFailed reply) new = (new ≡ old) × (reply ≡ fixed.store_failed (closes asked.head))
+Moves step fixed old asked (StoreFailed reply) new = (fixed.changes old asked ≡ true) × (new ≡ old) × (reply ≡ fixed.store_failed (closes asked.head))
 Moves step fixed old asked (NoMemory reply) new = (new ≡ old) × (reply ≡ fixed.no_memory (closes asked.head))

@@ -32,13 +32,13 @@ IsSent old new flushed_old flushed_new reply close (Ends ReadFault) = ⊥
 IsSent old new flushed_old flushed_new reply close (Ends Budget) = ⊥
 
 -- a request is answered, and so much of the reply is sent
-pub record IsAnswered {W : Type 0} (step : W → Asked → List ℕ → W → Type 0) (fixed : Fixed) (old new : W) (asked : Asked) (faults_old faults_new : ℕ) (written_old written_new : Option (List ℕ)) (flushed_old flushed_new : Option ℕ) (close : Bool) (turn : Turn) : Type 0 where
+pub record IsAnswered {W : Type 0} (step : W → Asked → List ℕ → W → Type 0) (fixed : Fixed W) (old new : W) (asked : Asked) (faults_old faults_new : ℕ) (written_old written_new : Option (List ℕ)) (flushed_old flushed_new : Option ℕ) (close : Bool) (turn : Turn) : Type 0 where
   pub told : Told
   pub moves : Moves step fixed old asked told new
   pub faults : RoseBy (told_faults told) faults_old faults_new
   pub sent : IsSent written_old written_new flushed_old flushed_new (told_bytes told) close turn
 
 -- the session goes on with less to do, or ends
-abbrev pub IsTurn : {W : Type 0} → (W → Asked → List ℕ → W → Type 0) → Fixed → ℕ → Moment W → Moment W → Turn → Type 0
+abbrev pub IsTurn : {W : Type 0} → (W → Asked → List ℕ → W → Type 0) → Fixed W → ℕ → Moment W → Moment W → Turn → Type 0
 IsTurn step fixed limit a z Again = Goes step fixed a z × ((limit - z.taken) + length z.buffer < (limit - a.taken) + length a.buffer)
 IsTurn step fixed limit a z (Ends end) = (m : Moment _) × Goes step fixed a m × Ending step fixed limit m z end

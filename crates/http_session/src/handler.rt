@@ -16,7 +16,7 @@ use std::alloc::Global;
 pub enum Answer {
     /// The whole reply of a step.
     Reply(Bytes),
-    /// The whole reply of a request that changed nothing, since the store failed.
+    /// The whole reply of a request that changed nothing, since the store failed to keep its change.
     StoreFault(Bytes),
     /// Memory could not be had, and nothing changed.
     NoMemory,
@@ -32,8 +32,8 @@ pub trait Handler {
     // a request moves the world so, with this reply
     ghost steps: { Self.World → Asked → List ℕ → Self.World → Type 0 };
 
-    // the replies that are no step's
-    ghost fixed: { Fixed };
+    // the replies that are no step's, and the requests in whose place the store may fail
+    ghost fixed: { Fixed Self.World };
 
     // the rows that the keeper is to keep
     ghost rows: { Self.World → RowLists };

@@ -5,7 +5,8 @@
 //! put in its place in the crates above. The crate stands on `http_heads`, by whose definitions the
 //! requests are cut from the bytes, and on `keeper_core`, whose sources, sinks and keepers it uses.
 //! It promises that each whole request has its one reply, which the handler's step gives, and that
-//! each end of a session has its cause.
+//! each end of a session has its cause. What the reading of a head costs grows with its bytes, in
+//! whatever pieces they come and however many empty lines stand before it (`session`).
 #![tactic(auto)]
 
 mod buffer;

@@ -3,12 +3,13 @@ ghost use Rattle.std.specs.Prelude.{◌≡◌, ℕ, ◌+◌, ◌<◌, ◌≤◌,
 ghost use Rattle.std.specs.Io.KnownBytes.{Consumes};
 ghost use Rattle.httparse.specs.Grammar.{RequestHead};
 ghost use Rattle.http_heads.specs.Heads.{IsUndecided, IsWaiting};
+ghost use Rattle.http_heads.specs.Lines.{AreEmptyLines};
 ghost use Rattle.keeper_core.specs.Counts.{RoseBy};
 ghost use Rattle.http_session.specs.Reading.{Reads, HasHead, IsLooked, IsStop, IsHeadAwaited, IsAwaited};
 
 use crate::buffer::Buffer;
 use crate::request::Request;
-use http_heads::{HeadRead, Part, resume_head};
+use http_heads::{HeadRead, Part, resume_head, skip_empty_lines};
 use keeper_core::Source;
 
 // Why no request came.
@@ -42,12 +43,14 @@ enum Looked {
     Wrong(u8),
 }
 
-// Looks at bytes of which the first `seen` decide nothing.
-fn look(bytes: &[u8], seen: usize) -> Looked
-    requires { IsUndecided (take seen bytes.now) }
+// Looks at bytes of which the first `seen` decide nothing, and the first `empty` are empty lines.
+fn look(bytes: &[u8], empty: usize, seen: usize) -> Looked
+    requires open { IsUndecided (take seen bytes.now) }
+    requires empty { AreEmptyLines bytes.now empty }
+    requires behind { empty ≤ seen }
     ensures { IsLooked bytes.now result }
 {
-    match resume_head(bytes, seen, false) {
+    match resume_head(bytes, empty, seen, false) {
         HeadRead::More => Looked::Open,
         HeadRead::Head {
             length,
@@ -107,14 +110,17 @@ fn await_head<I: Source>(input: &mut I, buffer: &mut Buffer, taken: &mut u64, li
     ensures later { I.faults input.old ≤ I.faults input.new }
     ensures fault { result ≡ Awaited.Stopped Stop.NoRead → RoseBy 1 (I.faults input.old) (I.faults input.new) }
 {
+    let mut empty = 0;
     let mut seen = 0;
     'heads: loop {
-        match look(buffer.as_slice(), seen) {
+        let bytes = buffer.as_slice();
+        empty = skip_empty_lines(bytes, empty);
+        match look(bytes, empty, seen.max(empty)) {
             Looked::Whole(request) => return Awaited::Found(request),
             Looked::Wrong(number) => return Awaited::Stopped(Stop::Bad(number)),
             Looked::Open => {}
         }
-        seen = buffer.as_slice().len();
+        seen = bytes.len();
         if let Err(stop) = read_more(input, buffer, taken, limit) {
             return Awaited::Stopped(stop);
         }
@@ -145,9 +151,10 @@ fn await_body<I: Source>(
     Awaited::Found(request)
 }
 
-// Reads until the buffer begins with a request, or tells why there is none. What was looked at is
-// not looked at again, so that the cost grows with the bytes that are read and with those of the
-// head's prefixes, in whatever pieces they come.
+// Reads until the buffer begins with a request, or tells why there is none. What was searched for
+// empty lines or for the end of a prefix isn't searched again. So the cost grows with the bytes that
+// are read, and with those of at most 66 prefixes that are judged behind the empty lines, in whatever
+// pieces they come.
 pub(crate) fn await_request<I: Source>(
     input: &mut I,
     buffer: &mut Buffer,

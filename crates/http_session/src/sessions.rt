@@ -17,8 +17,9 @@ use std::alloc::Global;
 /// that are refused have their reply, and a reply that closes the connection is the last one.
 ///
 /// A request's cost grows with its bytes and its reply, in whatever pieces either goes: each byte is
-/// read once, moved once at most, and each prefix of a head that ends with a line feed is judged
-/// once, at a cost of its bytes. Beside it stand the costs of the handler's answers.
+/// read once and moved once at most, empty lines before a head are passed once, and each of at most
+/// 66 prefixes of the head that end behind them with a line feed or at the limit is judged once, at
+/// a cost of its bytes. Beside it stand the costs of the handler's answers.
 pub fn session<H: Handler, K: Keeper, I: Source, O: Sink>(
     alloc: Global,
     world: &mut H::World,

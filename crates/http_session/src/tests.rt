@@ -75,12 +75,12 @@ impl Echo {
 impl Handler for Echo {
     type World = Echo;
 
-    ghost use Rattle.std.specs.Prelude.{codes, ◌≡◌, ◌<◌, ◌+◌, ◌%◌, ◌++◌, [], ◌∷◌};
+    ghost use Rattle.std.specs.Prelude.{codes, ◌≡◌, ◌<◌, ◌+◌, ◌%◌, ◌++◌, [], ◌∷◌, true};
     ghost use Rattle.api_types.specs.Rows.{no_rows};
 
     ghost steps = { λ old asked reply new. (old < 10) × (reply ≡ (48 + old) ∷ (asked.body ++ 59 ∷ [])) × (new ≡ (old + 1) % 10) };
 
-    ghost fixed = { record { store_failed = λ close. codes "store failed;"; no_memory = λ close. codes "no memory;"; refusal = λ n. codes "refused " ++ (48 + n) ∷ 59 ∷ [] } };
+    ghost fixed = { record { store_failed = λ close. codes "store failed;"; no_memory = λ close. codes "no memory;"; refusal = λ n. codes "refused " ++ (48 + n) ∷ 59 ∷ []; changes = λ old asked. true } };
 
     ghost rows = { λ _. no_rows };
 
@@ -294,5 +294,40 @@ fn long_streams(rt: HostRuntime) -> Result<(), Fail> {
     let wanted = wanted.as_slice();
     let served = serves_all(alloc, input, wanted, SessionEnd::Done)?;
     assert!(rt; served);
+    Ok(())
+}
+
+/// So many empty lines with this end, and this behind them.
+fn with_empty(alloc: Global, count: usize, end: &[u8], last: &[u8]) -> Result<Vec<u8>, Fail> {
+    let mut bytes = Vec::new(alloc);
+    for _ in 0..count {
+        bytes.extend_from_slice(end)?;
+    }
+    bytes.extend_from_slice(last)?;
+    Ok(bytes)
+}
+
+// Empty lines before a request, in pieces of 1, 7 and many bytes.
+#[test]
+fn empty_lines_first(rt: HostRuntime) -> Result<(), Fail> {
+    let alloc = rt.alloc();
+    let request = b"GET / HTTP/1.1\r\n\r\n".as_slice();
+    let cases: [(usize, &[u8], &[u8], &[u8]); 10] = [
+        (16_000, b"\n", request, b"0;"),
+        (8_000, b"\r\n", request, b"0;"),
+        (16_366, b"\n", request, b"0;"),
+        (16_367, b"\n", request, b"refused 2;"),
+        (16_383, b"\n", b"", b"refused 1;"),
+        (16_384, b"\n", b"", b"refused 2;"),
+        (8_191, b"\r\n", b"\r\n", b"refused 2;"),
+        (2, b"\r\n", b"\n\r", b"refused 1;"),
+        (2, b"\n", b"\r\r\nGET / HTTP/1.1\r\n\r\n", b"refused 1;"),
+        (2, b"\r\n", b"\rGET / HTTP/1.1\r\n\r\n", b"refused 1;"),
+    ];
+    for (count, end, last, wanted) in cases {
+        let input = with_empty(alloc, count, end, last)?;
+        let served = serves_all(alloc, input.as_slice(), wanted, SessionEnd::Done)?;
+        assert!(rt; served);
+    }
     Ok(())
 }

@@ -80,7 +80,7 @@ kept_of P Q step (x ∷ old) (z ∷ new) s go each zero y at = subst Q (some_equ
 kept_of P Q step (x ∷ old) (z ∷ new) s go each (suc k) y at =
     kept_of P Q (λ i. step (suc i)) old new (later step x z old new s) (λ i a b h p. go (suc i) a b h p) (λ i a h. each (suc i) a h) k y at
 
-each_map : {S T : Type 0} (f : S → T) (P : T → Type 0) (xs : List S) → Each (λ x. P (f x)) xs → Each P (map f xs)
+pub each_map : {S T : Type 0} (f : S → T) (P : T → Type 0) (xs : List S) → Each (λ x. P (f x)) xs → Each P (map f xs)
 each_map f P [] each k y at = none_some y _ at
 each_map f P (x ∷ xs) each zero y at = subst P (some_equal (f x) y at) (each 0 x refl)
 each_map f P (x ∷ xs) each (suc k) y at = each_map f P xs (λ i a h. each (suc i) a h) k y at
@@ -158,7 +158,7 @@ pub ready_matches : (version : ℕ) (rows : RowLists) (nodes : List Node) → Ar
 ready_matches version rows [] = refl
 ready_matches version rows (n ∷ nodes) = λ j. held_by n ∷ ready_matches version rows nodes j
 
-realised_tables : (rows : RowLists) (name : List ℕ) (old : List TagRow) → AreTags old → IsConsistent rows → Realises rows name (wired rows name old)
+pub realised_tables : (rows : RowLists) (name : List ℕ) (old : List TagRow) → AreTags old → IsConsistent rows → Realises rows name (wired rows name old)
 unfolding wired
 realised_tables rows name old tags c = record { tags = tags_stand rows name old tags c; taps = refl; filters = refl; sets = refl; bridge = refl; inward = refl; neighbours = refl; routers = refl; routes = refl; floats = refl; leases = refl }
 
@@ -252,7 +252,7 @@ found_host name (n ∷ nodes) = by (is_named name (host_of n)) (found_host name 
 
 -- ---- the first hosts
 
-abbrev unspared : Node → Node
+abbrev pub unspared : Node → Node
 unspared n = record n { spare = 0 }
 
 no_tags : AreTags []

@@ -1,5 +1,6 @@
-mod AskApart
-mod HostLaws
+pub mod AskApart
+pub mod HostLaws
 mod OwnRefusals
 mod SoFar
 mod Placing
+pub mod WorldLaws

@@ -1,5 +1,5 @@
 -- What a server makes of an ask: the machine's step, which its hosts follow, or what the lab answers.
-use Rattle.std.specs.Prelude.{◌≡◌, ◌⊎◌, ◌+◌, ℕ, List, [], map, ⊤}
+use Rattle.std.specs.Prelude.{◌≡◌, ◌⊎◌, ◌+◌, ℕ, Bool, true, false, List, [], map, ⊤}
 use Rattle.std.specs.List.{filter}
 use Rattle.api_types.specs.Outcome.{Outcome, Refused as RefusedWith, Told, Moved}
 use Rattle.api_types.specs.Printed.{reply_of}
@@ -80,13 +80,20 @@ pub record IsHandled (outcome : AskOutcome) (old new : WorldState) (reply : Repl
   pub tells : IsTold outcome reply
   pub moves : new ≡ world_after old outcome
 
--- memory could not be had, or the store failed
-abbrev pub IsOutside : Reply → Type 0
-IsOutside reply = (reply ≡ Refused OutOfMemory) ⊎ (reply ≡ Refused StoreFault)
+-- the outcome is a change of the rows
+abbrev pub is_change : AskOutcome → Bool
+is_change (ByMachine (RefusedWith refusal)) = false
+is_change (ByMachine (Told reply)) = false
+is_change (ByMachine (Moved rows reply)) = true
+is_change (ByLab outcome) = false
+
+-- memory could not be had, or the store failed to keep a change
+abbrev pub IsOutside : AskOutcome → Reply → Type 0
+IsOutside outcome reply = (reply ≡ Refused OutOfMemory) ⊎ ((reply ≡ Refused StoreFault) × (is_change outcome ≡ true))
 
 -- the ask is answered, or it is refused for one of these and all is as it was
 abbrev pub Handles : AskOutcome → WorldState → WorldState → Reply → Type 0
-Handles outcome old new reply = IsHandled outcome old new reply ⊎ (IsOutside reply × (new ≡ old))
+Handles outcome old new reply = IsHandled outcome old new reply ⊎ (IsOutside outcome reply × (new ≡ old))
 
 -- each host holds the rows, and can carry its ports: what the laws of frames suppose
 abbrev pub HoldsRows : WorldState → Type 0

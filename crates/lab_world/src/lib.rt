@@ -18,5 +18,5 @@ mod laws;
 mod world;
 
 pub use hosts::Hosts;
-pub use laws::tenants_stay_apart;
+pub use laws::{frames_mean_what_rows_say, tenants_stay_apart, worlds_hold_their_rows};
 pub use world::World;

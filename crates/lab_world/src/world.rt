@@ -1,13 +1,12 @@
-ghost use Rattle.std.specs.Prelude.{◌≡◌, ◌⊎◌, ◌-◌, ◌^◌, ◌<◌, ◌≤◌, List, IfOk, IfErr, OnOk, OnErr, map};
+ghost use Rattle.std.specs.Prelude.{◌≡◌, ◌⊎◌, ◌-◌, ◌^◌, ◌<◌, ◌≤◌, IfOk, IfErr, OnOk, OnErr, map, true};
 ghost use Rattle.api_types.specs.Consistent.{IsConsistent};
-ghost use Rattle.api_types.specs.Lists.{Each};
 ghost use Rattle.api_types.specs.Outcome.{Refused as RefusedWith};
 ghost use Rattle.api_types.specs.Rows.{Fits, after};
 ghost use Rattle.net_settings.specs.Defaults.{default_hosts, default_parts};
 ghost use Rattle.plane_types.specs.Crossing.{CrossesAtRouters};
 ghost use Rattle.plane_types.specs.Hosts.{all_entries};
 ghost use Rattle.plane_types.specs.Meaning.{life_of};
-ghost use Rattle.plane_types.specs.Told.{fabric_verdicts, rows_verdict, rows_verdicts, without_hosts};
+ghost use Rattle.plane_types.specs.Told.{rows_verdict, without_hosts};
 ghost use Rattle.plane_types.specs.declared.ask.Ask.TheVariants.{Lab as LabAsk};
 ghost use Rattle.plane_types.specs.declared.ask.LabAnswer.TheVariants.{Seen};
 ghost use Rattle.plane_types.specs.declared.ask.LabCall.TheVariants.{Frames};
@@ -21,7 +20,7 @@ ghost use Rattle.api_steps.specs.InForm.{IsInForm};
 ghost use Rattle.api_steps.specs.Step.{api_step};
 ghost use Rattle.keeper_core.specs.Counts.{RoseBy, Tells};
 ghost use Rattle.lab_world.specs.Lab.{Answered, IsBarred, lab_outcome};
-ghost use Rattle.lab_world.specs.World.{Handles, HoldsRows, IsAskInForm, IsHandled, ByLab, ByMachine, ask_outcome, fresh_world, moved};
+ghost use Rattle.lab_world.specs.World.{Handles, HoldsRows, IsAskInForm, IsHandled, ByLab, ByMachine, ask_outcome, fresh_world, is_change, moved};
 
 use crate::hosts::Hosts;
 use crate::lab::{bar_event, bar_tenant, tables_of};
@@ -87,12 +86,10 @@ impl World {
     /// Answers what a caller asks. An accepted change is in the rows and in the kept rows, each host
     /// wires the rows after it, and the version has risen by one. Frames go by the tables that the
     /// hosts hold, come to what the rows say, and cross between networks at routers alone; the entries
-    /// that they make are kept at the hosts that made them. So it is with any events one after the
-    /// other, while no change comes between them. After a refusal all is as it was: one for want of
-    /// memory, which is free, one because the store failed, where the keeper counted a fault, or that
-    /// of the ask. The cost grows with the rows, for an accepted change with that of wiring each host
-    /// too, and for a frame with the entries of the hosts.
-    #[tactic(auto, using(crate::proofs::HostLaws::events_mean, crate::proofs::HostLaws::events_cross))]
+    /// that they make are kept at the hosts that made them. After a refusal all is as it was: one for
+    /// want of memory, which is free, one because the store failed to keep an accepted change, where
+    /// the keeper counted a fault, or that of the ask. The cost grows with the rows, for an accepted
+    /// change with that of wiring each host too, and for a frame with the entries of the hosts.
     pub fn handle<K: Keeper>(
         &mut self,
         alloc: Global,
@@ -105,9 +102,7 @@ impl World {
         ensures handled { Handles (ask_outcome self.old caller.now ask.now) self.old self.new result }
         ensures frames { (event : TheEvent) (verdict : TheVerdict) → ask.now ≡ LabAsk (Frames event) → result ≡ Reply.LabDone (Seen verdict) → without_hosts verdict ≡ rows_verdict self.old.state.rows (all_entries self.old.hosts) event }
         ensures crosses { (event : TheEvent) (verdict : TheVerdict) → ask.now ≡ LabAsk (Frames event) → result ≡ Reply.LabDone (Seen verdict) → CrossesAtRouters self.old.state.rows verdict }
-        ensures events { (events : List TheEvent) → map without_hosts (fabric_verdicts self.old.hosts events) ≡ rows_verdicts self.old.state.rows (all_entries self.old.hosts) events }
-        ensures paths { (events : List TheEvent) → Each (CrossesAtRouters self.old.state.rows) (fabric_verdicts self.old.hosts events) }
-        ensures store_fault { result ≡ Reply.Refused Refusal.StoreFault → RoseBy 1 (K.faults keeper.old) (K.faults keeper.new) }
+        ensures store_fault { result ≡ Reply.Refused Refusal.StoreFault → (is_change (ask_outcome self.old caller.now ask.now) ≡ true) × RoseBy 1 (K.faults keeper.old) (K.faults keeper.new) }
         ensures later { K.faults keeper.old ≤ K.faults keeper.new }
         ensures kept { Tells (K.kept keeper.new) self.new.state.rows }
     {
@@ -201,8 +196,8 @@ impl World {
         requires kept { Tells (K.kept keeper.old) self.old.state.rows }
         requires in_form { IsInForm caller.now call.now }
         ensures ok { IfOk result (λ answer. IsHandled (ByMachine (api_step default_parts self.old.state caller.now call.now)) self.old self.new (Reply.Done answer)) }
-        ensures err { IfErr result (λ refusal. (self.new ≡ self.old) × ((refusal ≡ Refusal.OutOfMemory) ⊎ ((refusal ≡ Refusal.StoreFault) ⊎ (api_step default_parts self.old.state caller.now call.now ≡ RefusedWith refusal)))) }
-        ensures store_fault { IfErr result (λ refusal. refusal ≡ Refusal.StoreFault → RoseBy 1 (K.faults keeper.old) (K.faults keeper.new)) }
+        ensures err { IfErr result (λ refusal. (self.new ≡ self.old) × ((refusal ≡ Refusal.OutOfMemory) ⊎ (((refusal ≡ Refusal.StoreFault) × (is_change (ByMachine (api_step default_parts self.old.state caller.now call.now)) ≡ true)) ⊎ (api_step default_parts self.old.state caller.now call.now ≡ RefusedWith refusal)))) }
+        ensures store_fault { IfErr result (λ refusal. refusal ≡ Refusal.StoreFault → (is_change (ByMachine (api_step default_parts self.old.state caller.now call.now)) ≡ true) × RoseBy 1 (K.faults keeper.old) (K.faults keeper.new)) }
         ensures later { K.faults keeper.old ≤ K.faults keeper.new }
         ensures kept { Tells (K.kept keeper.new) self.new.state.rows }
     {

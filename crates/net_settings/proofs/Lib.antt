@@ -1,4 +1,4 @@
-mod DefaultRules
+pub mod DefaultRules
 mod EmptyFile
 mod HostRules
 mod Kept

@@ -1,6 +1,9 @@
 //! The program `neutron`: its words, standard input and standard output go to the server.
 #![tactic(auto)]
 
+ghost use Rattle.std.specs.Prelude.{◌≡◌};
+ghost use Rattle.std.specs.IoError.{error_kind};
+
 mod console;
 
 use crate::console::Console;
@@ -8,7 +11,7 @@ use keeper_core::{ReaderSource, WriterSink};
 use net_addr::Text;
 use std::alloc::Global;
 use std::env::{self, Env};
-use std::io;
+use std::io::{self, ErrorKind};
 use std::process::ExitCode;
 
 // The words behind the program's name.
@@ -20,10 +23,23 @@ fn words(rt: &(impl Env + AllocGlobal), alloc: Global) -> io::Result<Vec<Text>> 
     Ok(words)
 }
 
+// The status where words can't be had: 1 where one is no UTF-8, as where they are no command line,
+// and 4 for want of memory.
+fn unread(error: &io::Error) -> u8
+    ensures no_text { error_kind error.now ≡ ErrorKind.InvalidData → result ≡ 1 }
+    ensures other { (error_kind error.now ≡ ErrorKind.InvalidData → ⊥) → result ≡ 4 }
+{
+    match error.kind() {
+        ErrorKind::InvalidData => 1,
+        _ => 4,
+    }
+}
+
 fn main(rt: HostRuntime) -> ExitCode {
     let alloc = rt.alloc();
-    let Ok(words) = words(&rt, alloc) else {
-        return ExitCode::from(4);
+    let words = match words(&rt, alloc) {
+        Ok(words) => words,
+        Err(error) => return ExitCode::from(unread(&error)),
     };
     let mut desk = Console::new();
     let mut input = ReaderSource::make(rt.stdin());

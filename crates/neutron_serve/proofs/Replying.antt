@@ -15,7 +15,7 @@ use Rattle.http_heads.specs.Fields.{closes}
 use Rattle.http_heads.specs.Heads.{Asked}
 use Rattle.lab_world.specs.Lab.{Barred, LabOutcome, WorldState, event_refusal, host_told, lab_outcome, tables_told, unless_barred}
 use Rattle.lab_world.specs.Lab as lab
-use Rattle.lab_world.specs.World.{AskOutcome, ByLab, ByMachine, Handles, IsHandled, IsTold, ask_outcome, world_after}
+use Rattle.lab_world.specs.World.{AskOutcome, ByLab, ByMachine, Handles, IsHandled, IsTold, ask_outcome, world_after, is_change}
 use Rattle.http_session.specs.Told.{Answered, Moves, StoreFailed}
 use Rattle.neutron_serve.specs.Replies.{outcome_bytes, refusal_bytes, reply_written}
 use Rattle.neutron_serve.specs.Causes.{cause_in, tells_entries, tells_in}
@@ -139,12 +139,13 @@ pub inside_handled : (outcome : AskOutcome) (old new : WorldState) (reply : Repl
     → IsHandled outcome old new reply
 inside_handled outcome old new reply (inl handled) memory store = handled
 inside_handled outcome old new reply (inr (inl wanting, same)) memory store = absurd (memory wanting)
-inside_handled outcome old new reply (inr (inr failed, same)) memory store = absurd (store failed)
+inside_handled outcome old new reply (inr (inr failed, same)) memory store = absurd (store failed.0)
 
 -- the store failed: nothing moved, and the reply says so
-pub store_failed_moves : (old new : WorldState) (asked : Asked) (reply : Reply) (close : Bool) (written : List ℕ) → reply ≡ Refused StoreFault → close ≡ closes asked.head
+pub store_failed_moves : (old new : WorldState) (asked : Asked) (reply : Reply) (close : Bool) (written : List ℕ) → reply ≡ Refused StoreFault → is_change (request_outcome old (request_of asked)) ≡ true → close ≡ closes asked.head
     → written ≡ reply_written close reply → Handles (request_outcome old (request_of asked)) old new reply → Moves Steps fixed_replies old asked (StoreFailed written) new
-store_failed_moves old new asked reply close written is same bytes handled = (
+store_failed_moves old new asked reply close written is change same bytes handled = (
+  change,
   refusal_same _ old new StoreFault (subst (Handles (request_outcome old (request_of asked)) old new) is handled),
   bytes ∙ (ap (reply_written close) is ∙ ap (λ (c : Bool). refusal_bytes c StoreFault) same),
 )

@@ -1,12 +1,12 @@
 -- What the program does by its words.
 use Rattle.std.specs.Prelude.{ℕ, ◌^◌, ◌≤◌, List, [], ◌∷◌, Bool, false, Option, codes}
 use Rattle.std.specs.Str.{bytes_eq}
-use Rattle.http_session.specs.Serves.{Serves, moment}
+use Rattle.http_session.specs.Serves.{moment}
 use Rattle.http_session.specs.declared.session_end.SessionEnd.{SessionEnd}
 use Rattle.http_session.specs.declared.session_end.SessionEnd.TheVariants.{Done, ReadFault, WriteFault, Budget, OutOfMemory}
 use Rattle.lab_world.specs.Lab.{WorldState}
 use Rattle.lab_world.specs.World.{fresh_world}
-use Rattle.neutron_serve.specs.Steps.{Steps, fixed_replies}
+use Rattle.neutron_serve.specs.Promises.{Promises}
 
 -- the words are the one word `session`
 abbrev pub is_session : List (List ℕ) → Bool
@@ -30,6 +30,6 @@ pub record Ends : Type 0 where
 
 -- a session from no rows on, over a store that never fails, of at most 2^40 bytes
 abbrev pub RunsSession : Ends → Ends → SessionEnd → Type 0
-RunsSession old new end = (world : WorldState) × (buffer : List ℕ) × (taken : ℕ) × (taken ≤ 2 ^ 40) × Serves Steps fixed_replies (2 ^ 40)
+RunsSession old new end = (world : WorldState) × (buffer : List ℕ) × (taken : ℕ) × (taken ≤ 2 ^ 40) × Promises (2 ^ 40)
     (moment fresh_world [] old.left old.written old.flushed 0 0)
     (moment world buffer new.left new.written new.flushed 0 taken) end

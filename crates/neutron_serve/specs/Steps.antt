@@ -8,7 +8,7 @@ use Rattle.http_heads.specs.Fields.{closes}
 use Rattle.http_heads.specs.Heads.{Asked}
 use Rattle.http_session.specs.Told.{Fixed}
 use Rattle.lab_world.specs.Lab.{WorldState}
-use Rattle.lab_world.specs.World.{AskOutcome, ByMachine, ask_outcome, world_after}
+use Rattle.lab_world.specs.World.{AskOutcome, ByMachine, ask_outcome, is_change, world_after}
 use Rattle.neutron_http.specs.Replies.{reply_bytes, no_memory_body}
 use Rattle.neutron_serve.specs.Replies.{outcome_bytes, refusal_bytes}
 use Rattle.neutron_serve.specs.Requests.{request_of}
@@ -28,10 +28,11 @@ pub record Steps (old : WorldState) (asked : Asked) (reply : List ℕ) (new : Wo
 abbrev pub byte_refusal : ℕ → Refusal
 byte_refusal n = if n == 1 then Malformed else (if n == 2 then HeadLarge else (if n == 3 then BodyLarge else NoLength))
 
--- the replies that are none of a step
-abbrev pub fixed_replies : Fixed
+-- the replies that are none of a step, and the requests that come to a change
+abbrev pub fixed_replies : Fixed WorldState
 fixed_replies = record {
   store_failed = λ close. refusal_bytes close StoreFault;
   no_memory = λ close. reply_bytes 507 close None no_memory_body;
   refusal = λ n. refusal_bytes true (byte_refusal n);
+  changes = λ world asked. is_change (request_outcome world (request_of asked));
 }

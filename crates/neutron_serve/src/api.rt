@@ -1,9 +1,9 @@
 //! The Networking API as what a session is answered with.
-ghost use Rattle.std.specs.Prelude.{◌≡◌, ◌≤◌, ◌==◌, ◌&&◌, if◌then◌else◌, not};
+ghost use Rattle.std.specs.Prelude.{◌≡◌, ◌≤◌, ◌==◌, ◌&&◌, if◌then◌else◌, not, true};
 ghost use Rattle.http_heads.specs.Heads.{Asked};
 ghost use Rattle.http_session.specs.Requests.{IsRequest, BeginsWith};
 ghost use Rattle.keeper_core.specs.Counts.{RoseBy, Tells};
-ghost use Rattle.lab_world.specs.World.{Handles};
+ghost use Rattle.lab_world.specs.World.{Handles, is_change};
 ghost use Rattle.neutron_serve.specs.Replies.{refusal_bytes};
 ghost use Rattle.neutron_serve.specs.Causes.{cause_in, tells_entries};
 ghost use Rattle.neutron_serve.specs.Requests.{request_of};
@@ -31,6 +31,7 @@ fn reply_to<K: Keeper>(
     requires kept { Tells (K.kept keeper.old) world.old.state.rows }
     requires begins { BeginsWith bytes.now request.now }
     ensures handled { (asked : Asked) → IsRequest bytes.now request.now asked → Handles (request_outcome world.old (request_of asked)) world.old world.new result }
+    ensures store_change { (asked : Asked) → IsRequest bytes.now request.now asked → result ≡ Reply.Refused Refusal.StoreFault → is_change (request_outcome world.old (request_of asked)) ≡ true }
     ensures store_fault { result ≡ Reply.Refused Refusal.StoreFault → RoseBy 1 (K.faults keeper.old) (K.faults keeper.new) }
     ensures later { K.faults keeper.old ≤ K.faults keeper.new }
     ensures kept { Tells (K.kept keeper.new) world.new.state.rows }

@@ -1,8 +1,8 @@
 //! Sessions over a world.
 ghost use Rattle.std.specs.Prelude.{◌≡◌, ℕ, ◌≤◌, List, []};
-ghost use Rattle.http_session.specs.Serves.{Serves, moment};
+ghost use Rattle.http_session.specs.Serves.{moment};
 ghost use Rattle.keeper_core.specs.Counts.{RoseBy, Tells};
-ghost use Rattle.neutron_serve.specs.Steps.{Steps, fixed_replies};
+ghost use Rattle.neutron_serve.specs.Promises.{Promises};
 
 use crate::api::Api;
 use http_session::SessionEnd;
@@ -13,10 +13,12 @@ use std::alloc::Global;
 /// Answers the requests of the input, one after the other, and says why it ended.
 ///
 /// At most `limit` bytes are read. A buffer of 81,920 bytes, which the longest request fills, is
-/// taken first. Each request is answered by the machine's step, and each reply is flushed before
-/// more is read. An accepted change is in the rows and in the kept rows, or the reply says that the
-/// store failed or that memory was wanting, and nothing changed. Bytes that are refused have their
-/// reply, and a reply that closes the connection is the last one.
+/// taken first. What is promised of each request stands in specs/Promises: it is answered by the
+/// step of the API or of the lab, frames come to what the rows say, and a tenant's reply depends on
+/// its footing alone. Each reply is flushed before more is read. An accepted change is in the rows
+/// and in the kept rows, or the reply says that the store failed or that memory was wanting, and
+/// nothing changed. Bytes that are refused have their reply, and a reply that closes the connection
+/// is the last one.
 ///
 /// A request's cost grows with its bytes, in whatever pieces they come, with its reply, and with the
 /// rows.
@@ -29,12 +31,13 @@ pub fn session<K: Keeper, I: Source, O: Sink>(
     limit: u64,
 ) -> SessionEnd
     requires { Tells (K.kept keeper.old) world.old.state.rows }
-    ensures serves { (buffer : List ℕ) × (taken : ℕ) × (taken ≤ limit) × Serves Steps fixed_replies limit
+    ensures promises { (buffer : List ℕ) × (taken : ℕ) × (taken ≤ limit) × Promises limit
         (moment world.old [] (I.left input.old) (O.written output.old) (O.flushed output.old) (K.faults keeper.old) 0)
         (moment world.new buffer (I.left input.new) (O.written output.new) (O.flushed output.new) (K.faults keeper.new) taken) result }
     ensures kept { Tells (K.kept keeper.new) world.new.state.rows }
     ensures read_fault { result ≡ SessionEnd.ReadFault → RoseBy 1 (I.faults input.old) (I.faults input.new) }
     ensures write_fault { result ≡ SessionEnd.WriteFault → RoseBy 1 (O.faults output.old) (O.faults output.new) }
 {
+    let _held = world.rows(); // for the proof: the hosts hold the rows
     http_session::session::<Api, K, I, O>(alloc, world, keeper, input, output, limit)
 }

@@ -8,6 +8,7 @@ use Rattle.row_laws.specs.NewRows.{with_network, with_port, IsNewPort}
 use Rattle.api_types.proofs.ListLemmas.{none_some}
 use Rattle.api_types.proofs.NameLemmas.{bytes_same}
 use Rattle.row_laws.proofs.NetworkCreated.{network_created}
+use Rattle.row_laws.proofs.NoRows.{no_rows_consistent, nothing_there}
 use Rattle.row_laws.proofs.PortPushed.{port_pushed}
 use Rattle.plane_laws.proofs.Counted.{each-of}
 use Rattle.plane_laws.proofs.Theorem.{tables-mean-rows}
@@ -33,42 +34,6 @@ use Rattle.plane_types.specs.declared.table.TagRow.{TagRow}
 use Rattle.plane_types.specs.declared.tables.HostTables.{HostTables}
 use Rattle.plane_laws.specs.Held.{HoldRows}
 
-nothing-there : {R : Type 0} (P : R → Type 0) → Each P []
-nothing-there P k r at = none_some r (P r) at
-
-none-consistent : IsConsistent no_rows
-none-consistent = record {
-  numbered = record {
-    projects = record { ordered = λ k p at. none_some p _ at; names = λ name. omega arith; named = nothing-there _; few = omega arith };
-    ids = λ i. omega arith;
-    drawn = record { networks = nothing-there _; subnets = nothing-there _; ports = nothing-there _; groups = nothing-there _; rules = nothing-there _; routers = nothing-there _; floatings = nothing-there _; policies = nothing-there _ };
-  };
-  named = record {
-    networks = record { of_subnets = nothing-there _; of_ports = nothing-there _; of_gateways = nothing-there _; of_floatings = nothing-there _; of_policies = nothing-there _ };
-    subnets = record { of_ports = nothing-there _ };
-    ports = record { of_gateways = nothing-there _; of_floatings = nothing-there _; of_targets = nothing-there _ };
-    groups = record { of_ports = nothing-there _; of_rules = nothing-there _; of_remotes = nothing-there _ };
-    routers = record { of_targets = nothing-there _ };
-    projects = record { of_networks = nothing-there _; of_subnets = nothing-there _; of_ports = nothing-there _; of_groups = nothing-there _; of_rules = nothing-there _; of_routers = nothing-there _; of_floatings = nothing-there _; of_policies = nothing-there _ };
-  };
-  in_form = record { segments = nothing-there _; subnet_owners = nothing-there _; subnet_forms = nothing-there _; dhcp_owners = nothing-there _; port_forms = nothing-there _; rule_owners = nothing-there _; routes = nothing-there _ };
-  held_once = record { macs = λ n mac. omega arith; addresses = λ n x. omega arith };
-  hosts = record { addresses = nothing-there _ };
-  disjoint = record { in_network = nothing-there _; at_router = nothing-there _ };
-  segments = record { apart = λ s. omega arith; few = omega arith };
-  on_hosts = record { at_router = nothing-there _ };
-  services = record {
-    dhcp = record { there = nothing-there _; holds = nothing-there _; no_other = nothing-there _; unsecured = nothing-there _ };
-    of_routers = record { devices = nothing-there _; interfaces = nothing-there _; gateways = nothing-there _; unsecured = nothing-there _; counts = nothing-there _; named = nothing-there _ };
-    of_floatings = record { once = λ i. omega arith; there = nothing-there _; unsecured = nothing-there _ };
-  };
-  floatings = record { once = λ n p x. omega arith; targets = nothing-there _ };
-  groups = record { defaults = nothing-there _; of_ports = nothing-there _; bare = nothing-there _; remotes = nothing-there _; apart = nothing-there _ };
-  allowed = record { of_ports = nothing-there _ };
-  outsides = record { gateways = nothing-there _; addresses = nothing-there _; once = λ p. omega arith };
-  routes = record { routes = nothing-there _ };
-}
-
 -- a project's first network, and a port of it on each host
 abbrev drawn : Drawing
 drawn = record { rows = with_project no_rows (codes "a") 1 8; ordinal = 1; first = 6 }
@@ -86,7 +51,7 @@ abbrev world : RowLists
 world = with_port (with_port with_one here) there
 
 one-consistent : IsConsistent with_one
-one-consistent = network_created no_rows (codes "a") 3 drawn (network (id 6) (Vxlan 1)) none-consistent refl (omega arith) (omega arith) refl
+one-consistent = network_created no_rows (codes "a") 3 drawn (network (id 6) (Vxlan 1)) no_rows_consistent refl (omega arith) (omega arith) refl
     (record { id = refl; project = refl; segment = refl; alone = λ s h. refl; few = omega arith })
 
 here-new : IsNewPort with_one here
@@ -178,7 +143,7 @@ unfolding is_live
 tags-there = tags-at c2 1 (omega arith) (omega arith) refl
 
 no-entries : (name : List ℕ) (t : HostTables) → IsPlaced (record { name = name; tables = t; entries = [] })
-no-entries name t = record { stand = nothing-there _; once_outside = λ r k o p f g. omega arith; once_inside = λ r k o. omega arith }
+no-entries name t = record { stand = nothing_there _; once_outside = λ r k o p f g. omega arith; once_inside = λ r k o. omega arith }
 
 names-differ : (name : List ℕ) → count_by (is_named name) world_hosts ≤ 1
 names-differ name = of-two (is_named name) (host world c1 (tag (id 6) 5 None ∷ [])) (host world c2 (tag (id 6) 1 None ∷ []))

@@ -44,3 +44,4 @@ pub mod FloatingOn
 pub mod FloatingOff
 pub mod RouterOff
 pub mod FloatingsFreed
+pub mod NoRows

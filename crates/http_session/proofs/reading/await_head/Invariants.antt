@@ -1,5 +1,6 @@
 use Rattle.std.proofs.Common.{◌-◌, ◌≤◌, take}
 use Rattle.http_heads.specs.Heads.{IsUndecided}
+use Rattle.http_heads.specs.Lines.{AreEmptyLines}
 use Rattle.http_session.specs.Reading.{Reads}
 use Rattle.http_session.proofs.reading.await_head.Given as goal
 
@@ -9,6 +10,7 @@ invariant-heads g l = record {
   within : l.taken ≤ l.limit;
   later : g.I.Source.faults l.fn.input ≤ g.I.Source.faults l.input;
   undecided : IsUndecided (take l.seen l.buffer);
+  lines : AreEmptyLines l.buffer l.empty;
 }
 
 abbrev pub decreases-heads : goal.decreases-heads

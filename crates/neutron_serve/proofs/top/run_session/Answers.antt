@@ -1,24 +1,25 @@
 use Rattle.std.proofs.Common.{[], arith, inr, refl, subst}
-use Rattle.http_session.specs.Serves.{Serves, moment}
+use Rattle.http_session.specs.Serves.{moment}
 use Rattle.lab_world.specs.Lab.{WorldState}
 use Rattle.lab_world.specs.World.{fresh_world}
-use Rattle.neutron_serve.specs.Steps.{Steps, fixed_replies}
+use Rattle.lab_world.proofs.WorldLaws.{first_holds}
+use Rattle.neutron_serve.specs.Promises.{Promises}
 use Rattle.neutron_serve.proofs.top.run_session.Goals as goal
 
 pub returns-in_default-clause-runs : goal.returns-in_default-clause-runs
-returns-in_default-clause-runs g c = (fresh_world, [], 0, omega arith, inr (refl, refl))
+returns-in_default-clause-runs g c = (fresh_world, [], 0, omega arith, record { serves = inr (refl, refl); holds = first_holds })
 
 pub returns-in_default-empty-clause-runs : goal.returns-in_default-empty-clause-runs
-returns-in_default-empty-clause-runs g c = (fresh_world, [], 0, omega arith, inr (refl, refl))
+returns-in_default-empty-clause-runs g c = (fresh_world, [], 0, omega arith, record { serves = inr (refl, refl); holds = first_holds })
 
 pub returns-clause-runs : goal.returns-clause-runs
 returns-clause-runs g c =
-    let s = c.session.ensures.serves in (
+    let s = c.session.ensures.promises in (
       c.session.new.world,
       s.0,
       s.1,
       s.2,
-      subst (λ (w : WorldState). Serves Steps fixed_replies 1099511627776
+      subst (λ (w : WorldState). Promises 1099511627776
           (moment w [] (g.I.Source.left c.args.input.now) (g.O.Sink.written c.args.output.now) (g.O.Sink.flushed c.args.output.now) 0 0)
           (moment c.session.new.world s.0 (g.I.Source.left c.session.new.input) (g.O.Sink.written c.session.new.output) (g.O.Sink.flushed c.session.new.output) 0 s.1) c.session.result)
           c.in-Ok.ensures s.3,

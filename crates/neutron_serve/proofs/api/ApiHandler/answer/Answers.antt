@@ -8,7 +8,7 @@ use Rattle.neutron_serve.proofs.api.ApiHandler.answer.Goals as goal
 pub returns-in-Ok-clause-moves : goal.returns-in-Ok-clause-moves
 returns-in-Ok-clause-moves g c asked rest takes is =
     store_failed_moves c.args.world.now c.reply_to-reply.new.world asked c.reply_to-reply.result c.args.request.close c.in-Ok.written
-    (c.cause_of.ensures.store_fault c.in-StoreFault.is) is.close c.in-Ok.ensures (c.reply_to-reply.ensures.handled asked is)
+    (c.cause_of.ensures.store_fault c.in-StoreFault.is) (c.reply_to-reply.ensures.store_change asked is (c.cause_of.ensures.store_fault c.in-StoreFault.is)) is.close c.in-Ok.ensures (c.reply_to-reply.ensures.handled asked is)
 
 pub returns-in-Ok-write-clause-moves : goal.returns-in-Ok-write-clause-moves
 returns-in-Ok-write-clause-moves g c asked rest takes is =
