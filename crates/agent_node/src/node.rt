@@ -34,14 +34,33 @@ impl Model for AgentNode {
 
     ghost Value = { Node };
 
-    ghost view = { λ a. record { name = a.name; held = a.held; version = a.version; rows = a.rows; tables = a.tables; entries = a.entries.items; spare = a.entries.spare } };
+    ghost view = { λ a.
+        record {
+          name = a.name;
+          held = a.held;
+          version = a.version;
+          rows = a.rows;
+          tables = a.tables;
+          entries = a.entries.items;
+          spare = a.entries.spare;
+        } };
 
-    ghost invariant = { λ a. Stands (record { name = a.name; held = a.held; version = a.version; rows = a.rows; tables = a.tables; entries = a.entries.items; spare = a.entries.spare }) };
+    ghost invariant = { λ a.
+        Stands
+        (record {
+          name = a.name;
+          held = a.held;
+          version = a.version;
+          rows = a.rows;
+          tables = a.tables;
+          entries = a.entries.items;
+          spare = a.entries.spare;
+        }) };
 }
 
 impl AgentNode {
-    /// The agents of a host that is given its first rows, at a version that it then holds. There are
-    /// no entries. Its cost is that of wiring and of a copy of the rows.
+    /// The agents of a host that is given its first rows, at a version that it then holds. There
+    /// are no entries. Its cost is that of wiring and of a copy of the rows.
     pub fn make(
         alloc: Global,
         host: Text,
@@ -77,16 +96,25 @@ impl AgentNode {
         rows: &Rows,
     ) -> Result<ReadyNode, OutOfMemory>
         requires { IsConsistent rows.now }
-        ensures { IfOk result (λ r. r ≡ record { name = self.now.name; version = version; rows = rows.now; tables = wired_by_rows rows.now self.now.name self.now.tables.tags; old = self.now.tables.tags }) }
+        ensures { IfOk result
+            (λ r. r
+            ≡ record {
+              name = self.now.name;
+              version = version;
+              rows = rows.now;
+              tables = wired_by_rows rows.now self.now.name self.now.tables.tags;
+              old = self.now.tables.tags;
+            }) }
     {
         let name = self.name.copy(alloc)?;
         let old = self.tables.tags.copy(alloc)?;
         ReadyNode::make(alloc, name, version, rows, old)
     }
 
-    /// Puts in place what was made ready for this host and the tags that it has. Its version is then
-    /// held. Entries without a tap or router in the new tables are dropped, and the others stay in
-    /// their order. It takes no memory. Its cost grows with the entries times taps and routers.
+    /// Puts in place what was made ready for this host and the tags that it has. Its version is
+    /// then held. Entries without a tap or router in the new tables are dropped, and the others
+    /// stay in their order. It takes no memory. Its cost grows with the entries times taps and
+    /// routers.
     pub fn put(&mut self, ready: ReadyNode)
         requires name { ready.name ≡ self.old.name }
         requires tags { ready.old ≡ self.old.tables.tags }
@@ -107,10 +135,10 @@ impl AgentNode {
         self.tables = tables;
     }
 
-    /// Gives the host the rows of a version, which it then holds, and wires them: networks keep their
-    /// tags, entries without a tap or router in the new tables are dropped, and the others stay in
-    /// their order. Its cost is that of wiring and of a copy of the rows, and grows with the entries
-    /// times taps and routers.
+    /// Gives the host the rows of a version, which it then holds, and wires them: networks keep
+    /// their tags, entries without a tap or router in the new tables are dropped, and the others
+    /// stay in their order. Its cost is that of wiring and of a copy of the rows, and grows with
+    /// the entries times taps and routers.
     pub fn resync(&mut self, alloc: Global, version: u64, rows: &Rows) -> Result<(), OutOfMemory>
         requires { IsConsistent rows.now }
         ensures node { OnOk result (self.new ≡ resynced self.old version rows.now self.new.spare) }
@@ -173,7 +201,8 @@ impl AgentNode {
     pub fn add(&mut self, entry: Entry)
         requires room { 0 < self.old.spare }
         requires placed { IsPlaced (host_with self.old (self.old.entries ++ entry ∷ [])) }
-        ensures node { self.new ≡ with_entries self.old (self.old.entries ++ entry ∷ []) self.new.spare }
+        ensures node { self.new
+            ≡ with_entries self.old (self.old.entries ++ entry ∷ []) self.new.spare }
         ensures spare { self.old.spare ≤ self.new.spare + 1 }
     {
         self.entries.add(entry);

@@ -26,9 +26,19 @@ impl Model for ReadyNode {
 
     ghost Value = { Ready };
 
-    ghost view = { λ r. record { name = r.name; version = r.version; rows = r.rows; tables = r.tables; old = r.old } };
+    ghost view = { λ r.
+        record
+        { name = r.name; version = r.version; rows = r.rows; tables = r.tables; old = r.old } };
 
-    ghost invariant = { λ r. IsReady (record { name = r.name; version = r.version; rows = r.rows; tables = r.tables; old = r.old }) };
+    ghost invariant = { λ r.
+        IsReady
+        (record {
+          name = r.name;
+          version = r.version;
+          rows = r.rows;
+          tables = r.tables;
+          old = r.old;
+        }) };
 }
 
 impl ReadyNode {
@@ -43,7 +53,15 @@ impl ReadyNode {
     ) -> Result<ReadyNode, OutOfMemory>
         requires consistent { IsConsistent rows.now }
         requires tags { AreTags old }
-        ensures { IfOk result (λ r. r ≡ record { name = name; version = version; rows = rows.now; tables = wired_by_rows rows.now name old; old = old }) }
+        ensures { IfOk result
+            (λ r. r
+            ≡ record {
+              name = name;
+              version = version;
+              rows = rows.now;
+              tables = wired_by_rows rows.now name old;
+              old = old;
+            }) }
     {
         let tables = wired(alloc, rows, &name, &old)?;
         let rows = rows.copy(alloc)?;

@@ -14,7 +14,20 @@ use std::alloc::Global;
 
 // The tables of three agents as those of their host.
 fn joined(l2: L2Tables, l3: L3Tables, leases: Leases) -> HostTables
-    ensures { result ≡ record { tags = l2.tags; taps = l2.taps; filters = l2.filters; sets = l2.sets; bridge = l2.bridge; inward = l2.inward; neighbours = l2.neighbours; routers = l3.routers; routes = l3.routes; floats = l3.floats; leases = leases } }
+    ensures { result
+        ≡ record {
+          tags = l2.tags;
+          taps = l2.taps;
+          filters = l2.filters;
+          sets = l2.sets;
+          bridge = l2.bridge;
+          inward = l2.inward;
+          neighbours = l2.neighbours;
+          routers = l3.routers;
+          routes = l3.routes;
+          floats = l3.floats;
+          leases = leases;
+        } }
 {
     HostTables {
         tags: l2.tags,
@@ -31,8 +44,8 @@ fn joined(l2: L2Tables, l3: L3Tables, leases: Leases) -> HostTables
     }
 }
 
-/// The tables that a host makes of rows, where its tags were these. Its cost is that of `wire_ports`,
-/// `wire_routers` and `wire_leases`.
+/// The tables that a host makes of rows, where its tags were these. Its cost is that of
+/// `wire_ports`, `wire_routers` and `wire_leases`.
 #[tactic(auto, unfolding(plane_types::specs::Wired::wired))]
 pub(crate) fn wired(
     alloc: Global,

@@ -10,7 +10,8 @@ use api_check_rows::{is_apart_port, is_apart_subnet};
 use api_types::{Kind, PortRow, Rows, Shared, SubnetRow};
 
 fn first_subnet(rows: &Rows, subnets: &[Shared<SubnetRow>]) -> Option<usize>
-    ensures { result ≡ position (λ r. not (not (list_any (clash_of_subnets r) rows.now.subnets))) subnets.now }
+    ensures { result
+        ≡ position (λ r. not (not (list_any (clash_of_subnets r) rows.now.subnets))) subnets.now }
 {
     subnets
         .iter()
@@ -18,20 +19,31 @@ fn first_subnet(rows: &Rows, subnets: &[Shared<SubnetRow>]) -> Option<usize>
 }
 
 fn broken_subnet(rows: &Rows) -> Option<Inconsistent>
-    ensures { result ≡ breaks 6 Subnet (λ r. r.id) (λ r. not (list_any (clash_of_subnets r) rows.now.subnets)) rows.now.subnets }
+    ensures { result
+        ≡ breaks 6 Subnet (λ r. r.id) (λ r. not (list_any (clash_of_subnets r) rows.now.subnets))
+        rows.now.subnets }
 {
     let subnets = rows.subnets().rows();
     told(6, Kind::Subnet, subnets, first_subnet(rows, subnets))
 }
 
 fn first_port(rows: &Rows, ports: &[Shared<PortRow>]) -> Option<usize>
-    ensures { result ≡ position (λ r. not (not (list_any (clash_of_ports rows.now.routers rows.now.subnets r) rows.now.ports))) ports.now }
+    ensures { result
+        ≡ position
+        (λ r.
+        not (not
+        (list_any (clash_of_ports rows.now.routers rows.now.subnets r)
+        rows.now.ports))) ports.now }
 {
     ports.iter().position(|port| !is_apart_port(rows, port))
 }
 
 fn broken_port(rows: &Rows) -> Option<Inconsistent>
-    ensures { result ≡ breaks 6 Port (λ r. r.id) (λ r. not (list_any (clash_of_ports rows.now.routers rows.now.subnets r) rows.now.ports)) rows.now.ports }
+    ensures { result
+        ≡ breaks 6 Port (λ r. r.id)
+        (λ r.
+        not (list_any (clash_of_ports rows.now.routers rows.now.subnets r) rows.now.ports))
+        rows.now.ports }
 {
     let ports = rows.ports().rows();
     told(6, Kind::Port, ports, first_port(rows, ports))

@@ -70,7 +70,9 @@ fn first_of(rows: &Rows, settings: &Settings) -> Option<Inconsistent>
 /// rows.
 pub fn first_broken(rows: &Rows, settings: &Settings) -> Option<Inconsistent>
     ensures first { result ≡ first_broken_of settings.now.hosts rows.now }
-    ensures none { (result ≡ None) ↔ (IsConsistent rows.now × AreCarried (carries settings.now.hosts) rows.now.networks rows.now.ports) }
+    ensures none { (result ≡ None) ↔
+        (IsConsistent rows.now
+        × AreCarried (carries settings.now.hosts) rows.now.networks rows.now.ports) }
 {
     first_of(rows, settings)
 }

@@ -20,7 +20,8 @@ fn first_network(networks: &[Shared<NetworkRow>]) -> Option<usize>
 }
 
 fn broken_network(rows: &Rows) -> Option<Inconsistent>
-    ensures { result ≡ breaks 3 Network (λ r. r.id) (λ r. segment_formed r.segment) rows.now.networks }
+    ensures { result
+        ≡ breaks 3 Network (λ r. r.id) (λ r. segment_formed r.segment) rows.now.networks }
 {
     let networks = rows.networks().rows();
     told(3, Kind::Network, networks, first_network(networks))
@@ -35,7 +36,8 @@ fn first_subnet(rows: &Rows, subnets: &[Shared<SubnetRow>]) -> Option<usize>
 }
 
 fn broken_subnet(rows: &Rows) -> Option<Inconsistent>
-    ensures { result ≡ breaks 3 Subnet (λ r. r.id) (subnet_formed rows.now.networks) rows.now.subnets }
+    ensures { result
+        ≡ breaks 3 Subnet (λ r. r.id) (subnet_formed rows.now.networks) rows.now.subnets }
 {
     let subnets = rows.subnets().rows();
     told(3, Kind::Subnet, subnets, first_subnet(rows, subnets))
@@ -55,13 +57,16 @@ fn broken_port(rows: &Rows) -> Option<Inconsistent>
 }
 
 fn first_rule(rows: &Rows, rules: &[Shared<RuleRow>]) -> Option<usize>
-    ensures { result ≡ position (λ r. not (group_of_in rows.now.groups r.project r.group)) rules.now }
+    ensures { result
+        ≡ position (λ r. not (group_of_in rows.now.groups r.project r.group)) rules.now }
 {
     rules.iter().position(|rule| !is_group_of(rows.groups().rows(), &rule.project, rule.group))
 }
 
 fn broken_rule(rows: &Rows) -> Option<Inconsistent>
-    ensures { result ≡ breaks 3 Rule (λ r. r.id) (λ r. group_of_in rows.now.groups r.project r.group) rows.now.rules }
+    ensures { result
+        ≡ breaks 3 Rule (λ r. r.id) (λ r. group_of_in rows.now.groups r.project r.group)
+        rows.now.rules }
 {
     let rules = rows.rules().rows();
     told(3, Kind::Rule, rules, first_rule(rows, rules))
@@ -74,7 +79,8 @@ fn first_router(routers: &[Shared<RouterRow>]) -> Option<usize>
 }
 
 fn broken_router(rows: &Rows) -> Option<Inconsistent>
-    ensures { result ≡ breaks 3 Router (λ r. r.id) (λ r. nat_le (length r.routes) 30) rows.now.routers }
+    ensures { result
+        ≡ breaks 3 Router (λ r. r.id) (λ r. nat_le (length r.routes) 30) rows.now.routers }
 {
     let routers = rows.routers().rows();
     told(3, Kind::Router, routers, first_router(routers))

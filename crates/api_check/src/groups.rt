@@ -24,7 +24,8 @@ fn first_project(rows: &Rows, projects: &[Shared<ProjectRow>]) -> Option<usize>
 }
 
 fn broken_project(rows: &Rows) -> Option<Inconsistent>
-    ensures { result ≡ breaks 11 Project project_id (project_grouped rows.now.groups) rows.now.projects }
+    ensures { result
+        ≡ breaks 11 Project project_id (project_grouped rows.now.groups) rows.now.projects }
 {
     let projects = rows.projects().rows();
     told(11, Kind::Project, projects, first_project(rows, projects))
@@ -44,13 +45,15 @@ fn broken_port(rows: &Rows) -> Option<Inconsistent>
 }
 
 fn first_rule(rows: &Rows, rules: &[Shared<RuleRow>]) -> Option<usize>
-    ensures { result ≡ position (λ r. not (rule_grouped rows.now.groups rows.now.rules r)) rules.now }
+    ensures { result
+        ≡ position (λ r. not (rule_grouped rows.now.groups rows.now.rules r)) rules.now }
 {
     rules.iter().position(|rule| !is_grouped_rule(rows, rule))
 }
 
 fn broken_rule(rows: &Rows) -> Option<Inconsistent>
-    ensures { result ≡ breaks 11 Rule (λ r. r.id) (rule_grouped rows.now.groups rows.now.rules) rows.now.rules }
+    ensures { result
+        ≡ breaks 11 Rule (λ r. r.id) (rule_grouped rows.now.groups rows.now.rules) rows.now.rules }
 {
     let rules = rows.rules().rows();
     told(11, Kind::Rule, rules, first_rule(rows, rules))

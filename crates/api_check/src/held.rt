@@ -30,7 +30,8 @@ pub(crate) fn broken_twice(rows: &Rows) -> Option<Inconsistent>
 }
 
 fn first_host(rows: &Rows, ports: &[Shared<PortRow>]) -> Option<usize>
-    ensures { result ≡ position (λ r. not (list_all (host_in rows.now.subnets r) r.fixed)) ports.now }
+    ensures { result
+        ≡ position (λ r. not (list_all (host_in rows.now.subnets r) r.fixed)) ports.now }
 {
     ports
         .iter()
@@ -39,7 +40,9 @@ fn first_host(rows: &Rows, ports: &[Shared<PortRow>]) -> Option<usize>
 
 /// Fixed addresses that are no host addresses of their subnet.
 pub(crate) fn broken_host(rows: &Rows) -> Option<Inconsistent>
-    ensures { result ≡ breaks 5 Port (λ r. r.id) (λ r. list_all (host_in rows.now.subnets r) r.fixed) rows.now.ports }
+    ensures { result
+        ≡ breaks 5 Port (λ r. r.id) (λ r. list_all (host_in rows.now.subnets r) r.fixed)
+        rows.now.ports }
 {
     let ports = rows.ports().rows();
     told(5, Kind::Port, ports, first_host(rows, ports))

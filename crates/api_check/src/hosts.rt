@@ -14,7 +14,9 @@ use api_types::{Kind, NetworkRow, PortRow, RouterRow, Rows, Shared, Vif, is_port
 use net_settings::{Host, Settings};
 
 fn is_carried(hosts: &[Host], networks: &[Shared<NetworkRow>], port: &PortRow) -> bool
-    ensures { result ≡ stands_so (λ n. n.id) port.now.network (λ n. carried_at hosts.now port.now.host n.segment) networks.now }
+    ensures { result
+        ≡ stands_so (λ n. n.id) port.now.network
+        (λ n. carried_at hosts.now port.now.host n.segment) networks.now }
 {
     networks.iter().any(|network| {
         port.network == network.id && carries(hosts, &port.host, &network.segment)
@@ -22,7 +24,8 @@ fn is_carried(hosts: &[Host], networks: &[Shared<NetworkRow>], port: &PortRow) -
 }
 
 fn is_on(port: &PortRow, router: &RouterRow) -> bool
-    ensures { result ≡ not (port_of router.now port.now) || is_some_so (bytes_eq port.now.host) router.now.host }
+    ensures { result
+        ≡ not (port_of router.now port.now) || is_some_so (bytes_eq port.now.host) router.now.host }
 {
     let there = match &router.host {
         Some(host) => port.host == *host,
@@ -32,7 +35,9 @@ fn is_on(port: &PortRow, router: &RouterRow) -> bool
 }
 
 fn is_with_router(routers: &[Shared<RouterRow>], port: &PortRow) -> bool
-    ensures { result ≡ list_all (λ r. not (port_of r port.now) || is_some_so (bytes_eq port.now.host) r.host) routers.now }
+    ensures { result
+        ≡ list_all (λ r. not (port_of r port.now) || is_some_so (bytes_eq port.now.host) r.host)
+        routers.now }
 {
     routers.iter().all(|router| is_on(port, router))
 }
@@ -46,13 +51,15 @@ fn is_placed(hosts: &[Host], rows: &Rows, port: &PortRow) -> bool
 }
 
 fn first_port(hosts: &[Host], rows: &Rows, ports: &[Shared<PortRow>]) -> Option<usize>
-    ensures { result ≡ position (λ r. not (port_placed (carried_at hosts.now) rows.now r)) ports.now }
+    ensures { result
+        ≡ position (λ r. not (port_placed (carried_at hosts.now) rows.now r)) ports.now }
 {
     ports.iter().position(|port| !is_placed(hosts, rows, port))
 }
 
 fn broken_port(hosts: &[Host], rows: &Rows) -> Option<Inconsistent>
-    ensures { result ≡ breaks 8 Port (λ r. r.id) (port_placed (carried_at hosts.now) rows.now) rows.now.ports }
+    ensures { result
+        ≡ breaks 8 Port (λ r. r.id) (port_placed (carried_at hosts.now) rows.now) rows.now.ports }
 {
     let ports = rows.ports().rows();
     told(8, Kind::Port, ports, first_port(hosts, rows, ports))
@@ -60,7 +67,9 @@ fn broken_port(hosts: &[Host], rows: &Rows) -> Option<Inconsistent>
 
 /// Ports that are bound to hosts that can't carry them, or to another host than their router.
 pub(crate) fn broken_placing(settings: &Settings, rows: &Rows) -> Option<Inconsistent>
-    ensures { result ≡ breaks 8 Port (λ r. r.id) (port_placed (carried_at settings.now.hosts) rows.now) rows.now.ports }
+    ensures { result
+        ≡ breaks 8 Port (λ r. r.id) (port_placed (carried_at settings.now.hosts) rows.now)
+        rows.now.ports }
 {
     broken_port(settings.hosts(), rows)
 }

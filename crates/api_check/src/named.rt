@@ -16,13 +16,16 @@ use api_types::{
 };
 
 fn first_network(rows: &Rows, networks: &[Shared<NetworkRow>]) -> Option<usize>
-    ensures { result ≡ position (λ r. not (registered_in rows.now.projects r.project)) networks.now }
+    ensures { result
+        ≡ position (λ r. not (registered_in rows.now.projects r.project)) networks.now }
 {
     networks.iter().position(|network| !is_registered(rows.projects().rows(), &network.project))
 }
 
 fn broken_network(rows: &Rows) -> Option<Inconsistent>
-    ensures { result ≡ breaks 2 Network (λ r. r.id) (λ r. registered_in rows.now.projects r.project) rows.now.networks }
+    ensures { result
+        ≡ breaks 2 Network (λ r. r.id) (λ r. registered_in rows.now.projects r.project)
+        rows.now.networks }
 {
     let networks = rows.networks().rows();
     told(2, Kind::Network, networks, first_network(rows, networks))
@@ -63,7 +66,9 @@ fn first_group(rows: &Rows, groups: &[Shared<GroupRow>]) -> Option<usize>
 }
 
 fn broken_group(rows: &Rows) -> Option<Inconsistent>
-    ensures { result ≡ breaks 2 Group (λ r. r.id) (λ r. registered_in rows.now.projects r.project) rows.now.groups }
+    ensures { result
+        ≡ breaks 2 Group (λ r. r.id) (λ r. registered_in rows.now.projects r.project)
+        rows.now.groups }
 {
     let groups = rows.groups().rows();
     told(2, Kind::Group, groups, first_group(rows, groups))

@@ -32,7 +32,9 @@ fn first_unnumbered<R: Keyed>(rows: &Rows, list: &[Shared<R>]) -> Option<usize>
 }
 
 fn broken_id<R: Keyed>(rows: &Rows, kind: Kind, list: &[Shared<R>]) -> Option<Inconsistent>
-    ensures { result ≡ Rattle.api_check.specs.Broken.breaks 1 kind R.id_of (λ r. numbered_in rows.now (R.id_of r)) list.now }
+    ensures { result
+        ≡ Rattle.api_check.specs.Broken.breaks 1 kind R.id_of
+        (λ r. numbered_in rows.now (R.id_of r)) list.now }
 {
     told(1, kind, list, first_unnumbered(rows, list))
 }

@@ -15,14 +15,17 @@ use api_check_services::{
 use api_types::{FloatingRow, Kind, PolicyRow, PortRow, RouterRow, Rows, Shared};
 
 fn first_port(rows: &Rows, ports: &[Shared<PortRow>]) -> Option<usize>
-    ensures { result ≡ position (λ r. not (may_stand rows.now.networks rows.now.policies r)) ports.now }
+    ensures { result
+        ≡ position (λ r. not (may_stand rows.now.networks rows.now.policies r)) ports.now }
 {
     ports.iter().position(|port| !may_be_there(rows, port))
 }
 
 /// Ports on networks that their project may not use.
 pub(crate) fn broken_port(rows: &Rows) -> Option<Inconsistent>
-    ensures { result ≡ breaks 12 Port (λ r. r.id) (may_stand rows.now.networks rows.now.policies) rows.now.ports }
+    ensures { result
+        ≡ breaks 12 Port (λ r. r.id) (may_stand rows.now.networks rows.now.policies)
+        rows.now.ports }
 {
     let ports = rows.ports().rows();
     told(12, Kind::Port, ports, first_port(rows, ports))
@@ -37,14 +40,16 @@ fn first_router(rows: &Rows, routers: &[Shared<RouterRow>]) -> Option<usize>
 }
 
 fn broken_router(rows: &Rows) -> Option<Inconsistent>
-    ensures { result ≡ breaks 13 Router (λ r. r.id) (router_permitted rows.now.policies) rows.now.routers }
+    ensures { result
+        ≡ breaks 13 Router (λ r. r.id) (router_permitted rows.now.policies) rows.now.routers }
 {
     let routers = rows.routers().rows();
     told(13, Kind::Router, routers, first_router(rows, routers))
 }
 
 fn first_floating(rows: &Rows, floatings: &[Shared<FloatingRow>]) -> Option<usize>
-    ensures { result ≡ position (λ r. not (external_to rows.now.policies r.network r.project)) floatings.now }
+    ensures { result
+        ≡ position (λ r. not (external_to rows.now.policies r.network r.project)) floatings.now }
 {
     floatings
         .iter()
@@ -52,7 +57,9 @@ fn first_floating(rows: &Rows, floatings: &[Shared<FloatingRow>]) -> Option<usiz
 }
 
 fn broken_floating(rows: &Rows) -> Option<Inconsistent>
-    ensures { result ≡ breaks 13 Floating (λ r. r.id) (λ r. external_to rows.now.policies r.network r.project) rows.now.floatings }
+    ensures { result
+        ≡ breaks 13 Floating (λ r. r.id) (λ r. external_to rows.now.policies r.network r.project)
+        rows.now.floatings }
 {
     let floatings = rows.floatings().rows();
     told(
@@ -72,13 +79,15 @@ fn first_policy(rows: &Rows, policies: &[Shared<PolicyRow>]) -> Option<usize>
 }
 
 fn broken_policy(rows: &Rows) -> Option<Inconsistent>
-    ensures { result ≡ breaks 13 Policy (λ r. r.id) (policy_alone rows.now.policies) rows.now.policies }
+    ensures { result
+        ≡ breaks 13 Policy (λ r. r.id) (policy_alone rows.now.policies) rows.now.policies }
 {
     let policies = rows.policies().rows();
     told(13, Kind::Policy, policies, first_policy(rows, policies))
 }
 
-/// Gateways and floating addresses on networks that are not external, and policies that stand twice.
+/// Gateways and floating addresses on networks that are not external, and policies that stand
+/// twice.
 #[tactic(auto, unfolding(crate::specs::FirstBroken::outsides_broken))]
 pub(crate) fn broken_outside(rows: &Rows) -> Option<Inconsistent>
     ensures { result ≡ outsides_broken rows.now }
@@ -93,7 +102,9 @@ pub(crate) fn broken_outside(rows: &Rows) -> Option<Inconsistent>
 }
 
 fn first_route(rows: &Rows, routers: &[Shared<RouterRow>]) -> Option<usize>
-    ensures { result ≡ position (λ r. not (list_all (reached_by rows.now.subnets rows.now.ports r) r.routes)) routers.now }
+    ensures { result
+        ≡ position (λ r. not (list_all (reached_by rows.now.subnets rows.now.ports r) r.routes))
+        routers.now }
 {
     routers
         .iter()
@@ -102,7 +113,10 @@ fn first_route(rows: &Rows, routers: &[Shared<RouterRow>]) -> Option<usize>
 
 /// Extra routes that lead nowhere.
 pub(crate) fn broken_route(rows: &Rows) -> Option<Inconsistent>
-    ensures { result ≡ breaks 14 Router (λ r. r.id) (λ r. list_all (reached_by rows.now.subnets rows.now.ports r) r.routes) rows.now.routers }
+    ensures { result
+        ≡ breaks 14 Router (λ r. r.id)
+        (λ r. list_all (reached_by rows.now.subnets rows.now.ports r) r.routes)
+        rows.now.routers }
 {
     let routers = rows.routers().rows();
     told(14, Kind::Router, routers, first_route(rows, routers))

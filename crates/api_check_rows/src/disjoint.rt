@@ -28,13 +28,17 @@ fn share_router(routers: &[Shared<RouterRow>], a: &PortRow, b: &PortRow) -> bool
 }
 
 fn holds_overlapping(subnets: &[Shared<SubnetRow>], prefix: Prefix, port: &PortRow) -> bool
-    ensures { result ≡ list_any (λ t. held_in t.id port.now && overlaps prefix t.prefix) subnets.now }
+    ensures { result
+        ≡ list_any (λ t. held_in t.id port.now && overlaps prefix t.prefix) subnets.now }
 {
     subnets.iter().any(|other| holds_in(other.id, port) && prefix.overlaps(other.prefix))
 }
 
 fn reaches(subnets: &[Shared<SubnetRow>], subnet: &SubnetRow, a: &PortRow, b: &PortRow) -> bool
-    ensures { result ≡ (held_in subnet.now.id a.now && list_any (λ t. held_in t.id b.now && overlaps subnet.now.prefix t.prefix) subnets.now) }
+    ensures { result
+        ≡ (held_in subnet.now.id a.now
+        && list_any (λ t. held_in t.id b.now && overlaps subnet.now.prefix t.prefix)
+        subnets.now) }
 {
     holds_in(subnet.id, a) && holds_overlapping(subnets, subnet.prefix, b)
 }
@@ -53,7 +57,8 @@ fn ports_clash(rows: &Rows, a: &PortRow, b: &PortRow) -> bool
 }
 
 fn clashes_with_port(rows: &Rows, port: &PortRow) -> bool
-    ensures { result ≡ list_any (clash_of_ports rows.now.routers rows.now.subnets port.now) rows.now.ports }
+    ensures { result
+        ≡ list_any (clash_of_ports rows.now.routers rows.now.subnets port.now) rows.now.ports }
 {
     rows.ports()
         .rows()
@@ -71,7 +76,9 @@ pub fn is_apart_subnet(rows: &Rows, subnet: &SubnetRow) -> bool
 /// Whether a port holds no address in a subnet that overlaps one in which another port of the same
 /// router holds an address. Its cost grows with the ports times routers and subnets.
 pub fn is_apart_port(rows: &Rows, port: &PortRow) -> bool
-    ensures { result ≡ not (list_any (clash_of_ports rows.now.routers rows.now.subnets port.now) rows.now.ports) }
+    ensures { result
+        ≡ not
+        (list_any (clash_of_ports rows.now.routers rows.now.subnets port.now) rows.now.ports) }
 {
     !clashes_with_port(rows, port)
 }

@@ -11,8 +11,8 @@ use crate::modes::{are_modes, are_versions};
 use api_types::{PortRow, RouterRow, Rows, Segment, SubnetRow, is_dhcp, is_network_of};
 use net_addr::{Addr, Prefix, Span};
 
-/// Whether the number of a segment is in its range: 1 to 4094 of a vlan (IEEE 802.1Q), 1 to 2^24 - 1 of
-/// a vxlan (RFC 7348).
+/// Whether the number of a segment is in its range: 1 to 4094 of a vlan (IEEE 802.1Q), 1 to 2^24 -
+/// 1 of a vxlan (RFC 7348).
 pub fn is_segment(segment: &Segment) -> bool
     ensures { result ≡ segment_formed segment.now }
 {
@@ -34,7 +34,8 @@ fn is_gateway_host(prefix: Prefix, gateway: Option<Addr>) -> bool
 }
 
 fn is_without(pool: &Span, gateway: Option<Addr>) -> bool
-    ensures { result ≡ if_some (λ g. not (Rattle.net_addr.specs.Spans.is_within pool.now g)) gateway }
+    ensures { result
+        ≡ if_some (λ g. not (Rattle.net_addr.specs.Spans.is_within pool.now g)) gateway }
 {
     match gateway {
         Some(gateway) => !pool.contains(gateway),
@@ -101,10 +102,10 @@ fn is_subnet_form(subnet: &SubnetRow) -> bool
         && subnet.host_routes.len() <= 20
 }
 
-/// Whether a subnet has its network's project, and its values are in form: a length of 1 to 30, or to
-/// 126 in version 6, modes that go together, name servers and routes of its version, a gateway that is
-/// a host address, pools that are disjoint spans of host addresses without the gateway, and lists within
-/// their limits. Its cost grows with the networks.
+/// Whether a subnet has its network's project, and its values are in form: a length of 1 to 30, or
+/// to 126 in version 6, modes that go together, name servers and routes of its version, a gateway
+/// that is a host address, pools that are disjoint spans of host addresses without the gateway, and
+/// lists within their limits. Its cost grows with the networks.
 pub fn is_formed_subnet(rows: &Rows, subnet: &SubnetRow) -> bool
     ensures { result ≡ subnet_formed rows.now.networks subnet.now }
 {
@@ -131,8 +132,8 @@ fn is_port_form(port: &PortRow) -> bool
 }
 
 /// Whether a DHCP port has its network's project, and the values of any port are in form: MAC
-/// addresses that have an even first byte and aren't zero, lists within their limits. Its cost grows
-/// with the networks.
+/// addresses that have an even first byte and aren't zero, lists within their limits. Its cost
+/// grows with the networks.
 pub fn is_formed_port(rows: &Rows, port: &PortRow) -> bool
     ensures { result ≡ port_formed rows.now.networks port.now }
 {

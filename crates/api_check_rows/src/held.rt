@@ -18,7 +18,9 @@ fn has_mac(network: Id, mac: Mac, port: &PortRow) -> bool
 }
 
 fn is_mac_once(ports: &[Shared<PortRow>], port: &PortRow) -> bool
-    ensures { result ≡ nat_le (Rattle.std.specs.Prelude.count_by (mac_of port.now.network port.now.mac) ports.now) 1 }
+    ensures { result
+        ≡ nat_le
+        (Rattle.std.specs.Prelude.count_by (mac_of port.now.network port.now.mac) ports.now) 1 }
 {
     ports
         .iter()
@@ -60,8 +62,8 @@ fn are_held_once(ports: &[Shared<PortRow>], port: &PortRow) -> bool
         .all(|fixed| is_held_once(ports, port.network, fixed))
 }
 
-/// Whether no other port of a network has the same MAC address or holds one of the same addresses, and
-/// none holds one twice. Its cost grows with the port's addresses times the ports.
+/// Whether no other port of a network has the same MAC address or holds one of the same addresses,
+/// and none holds one twice. Its cost grows with the port's addresses times the ports.
 pub fn is_held_alone(ports: &[Shared<PortRow>], port: &PortRow) -> bool
     ensures { result ≡ port_alone ports.now port.now }
 {
@@ -86,7 +88,8 @@ fn is_own_address(port: &PortRow, address: &Addr, subnet: &SubnetRow) -> bool
 }
 
 fn is_host_of_port(port: &PortRow, address: &Addr, subnet: &SubnetRow) -> bool
-    ensures { result ≡ (is_host_of subnet.now.prefix address.now && own_address port.now address.now subnet.now) }
+    ensures { result
+        ≡ (is_host_of subnet.now.prefix address.now && own_address port.now address.now subnet.now) }
 {
     subnet.prefix.is_host(*address) && is_own_address(port, address, subnet)
 }

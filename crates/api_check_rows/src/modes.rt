@@ -49,7 +49,8 @@ fn is_like(mode: Ipv6Mode, other: Option<Ipv6Mode>) -> bool
 }
 
 fn are_alike(subnet: &SubnetRow) -> bool
-    ensures { result ≡ if_some (λ a. if_some (mode_eq a) subnet.now.ra_mode) subnet.now.address_mode }
+    ensures { result
+        ≡ if_some (λ a. if_some (mode_eq a) subnet.now.ra_mode) subnet.now.address_mode }
 {
     match subnet.address_mode {
         Some(mode) => is_like(mode, subnet.ra_mode),
@@ -57,7 +58,8 @@ fn are_alike(subnet: &SubnetRow) -> bool
     }
 }
 
-// No mode in version 4 and without DHCP, two modes are equal, and addresses are made of MACs in 64 bits.
+// No mode in version 4 and without DHCP, two modes are equal, and addresses are made of MACs in 64
+// bits.
 pub(crate) fn are_modes(subnet: &SubnetRow) -> bool
     ensures { result ≡ modes_formed subnet.now }
 {

@@ -10,8 +10,8 @@ use api_types::{
     Target, is_gateway, is_own_port,
 };
 
-/// Whether the network that a subnet names is there, and its project registered. Its cost grows with
-/// the projects.
+/// Whether the network that a subnet names is there, and its project registered. Its cost grows
+/// with the projects.
 pub fn is_named_subnet(rows: &Rows, subnet: &SubnetRow) -> bool
     ensures { result ≡ subnet_names rows.now subnet.now }
 {
@@ -52,8 +52,9 @@ fn has_project(rows: &Rows, port: &PortRow) -> bool
 }
 
 /// Whether what a port names is there: its network, its groups, of each address a subnet of that
-/// network, and its project, where a gateway port and a floating address's own port have the empty one.
-/// Its cost grows with its addresses times the subnets, with the projects and the floating addresses.
+/// network, and its project, where a gateway port and a floating address's own port have the empty
+/// one. Its cost grows with its addresses times the subnets, with the projects and the floating
+/// addresses.
 pub fn is_named_port(rows: &Rows, port: &PortRow) -> bool
     ensures { result ≡ port_names rows.now port.now }
 {
@@ -84,8 +85,8 @@ fn is_named_gateway(rows: &Rows, gateway: &Option<Gateway>) -> bool
     }
 }
 
-/// Whether the network and the port of a router's gateway are there, and its project registered. Its
-/// cost grows with the projects.
+/// Whether the network and the port of a router's gateway are there, and its project registered.
+/// Its cost grows with the projects.
 pub fn is_named_router(rows: &Rows, router: &RouterRow) -> bool
     ensures { result ≡ router_names rows.now router.now }
 {
@@ -102,8 +103,8 @@ fn is_named_target(rows: &Rows, target: &Option<Target>) -> bool
     }
 }
 
-/// Whether what a floating address names is there: its network, its own port, the port and the router
-/// of its target, and its project. Its cost grows with the projects.
+/// Whether what a floating address names is there: its network, its own port, the port and the
+/// router of its target, and its project. Its cost grows with the projects.
 pub fn is_named_floating(rows: &Rows, floating: &FloatingRow) -> bool
     ensures { result ≡ floating_names rows.now floating.now }
 {
@@ -113,8 +114,8 @@ pub fn is_named_floating(rows: &Rows, floating: &FloatingRow) -> bool
                 && is_registered(rows.projects().rows(), &floating.project)))
 }
 
-/// Whether the network of a policy is there, and the project that owns it registered. Its cost grows
-/// with the projects.
+/// Whether the network of a policy is there, and the project that owns it registered. Its cost
+/// grows with the projects.
 pub fn is_named_policy(rows: &Rows, policy: &PolicyRow) -> bool
     ensures { result ≡ policy_names rows.now policy.now }
 {

@@ -13,9 +13,9 @@ fn is_name_once(projects: &[Shared<ProjectRow>], name: &Text) -> bool
     projects.iter().filter(|other| other.name == *name).count() <= 1
 }
 
-/// Whether a project stands in its place: the k-th, counted from 0, has the ordinal k + 1, which has 32
-/// bits, a count below 2^62, and a name that isn't empty and that no other has. Its cost grows with the
-/// projects.
+/// Whether a project stands in its place: the k-th, counted from 0, has the ordinal k + 1, which
+/// has 32 bits, a count below 2^62, and a name that isn't empty and that no other has. Its cost
+/// grows with the projects.
 pub fn is_numbered_project(
     projects: &[Shared<ProjectRow>],
     place: usize,

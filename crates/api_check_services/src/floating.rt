@@ -20,7 +20,10 @@ fn has_interface(ports: &[Shared<PortRow>], router: Id, subnet: Id) -> bool
 }
 
 fn holds_target(ports: &[Shared<PortRow>], target: &Target, port: &PortRow) -> bool
-    ensures { result ≡ list_any (λ (x : TheFixed). is_four x.address target.now.fixed && interface_on ports.now target.now.router x.subnet) port.now.fixed }
+    ensures { result
+        ≡ list_any
+        (λ (x : TheFixed). is_four x.address target.now.fixed
+        && interface_on ports.now target.now.router x.subnet) port.now.fixed }
 {
     port.fixed.as_slice().iter().any(|fixed| {
         fixed.address == Addr::V4(target.fixed) && has_interface(ports, target.router, fixed.subnet)
@@ -39,7 +42,9 @@ fn is_target_port(
 }
 
 fn has_target_port(ports: &[Shared<PortRow>], floating: &FloatingRow, target: &Target) -> bool
-    ensures { result ≡ stands_so (λ p. p.id) target.now.port (target_port_of ports.now floating.now target.now) ports.now }
+    ensures { result
+        ≡ stands_so (λ p. p.id) target.now.port (target_port_of ports.now floating.now target.now)
+        ports.now }
 {
     ports.iter().any(|port| target.port == port.id && is_target_port(ports, floating, target, port))
 }
@@ -55,7 +60,8 @@ fn is_target_router(floating: &FloatingRow, router: &RouterRow) -> bool
 }
 
 fn has_target_router(routers: &[Shared<RouterRow>], floating: &FloatingRow, target: &Target) -> bool
-    ensures { result ≡ stands_so (λ r. r.id) target.now.router (target_router_of floating.now) routers.now }
+    ensures { result
+        ≡ stands_so (λ r. r.id) target.now.router (target_router_of floating.now) routers.now }
 {
     routers.iter().any(|router| target.router == router.id && is_target_router(floating, router))
 }
@@ -84,10 +90,10 @@ fn is_target_alone(
         <= 1
 }
 
-/// Whether an associated floating address leads to a port of its project that holds the fixed address,
-/// by a router of its project with an interface on that address's subnet and its gateway on the floating
-/// network, and no other floating address of its network leads there. Its cost grows with the square of
-/// the ports at most.
+/// Whether an associated floating address leads to a port of its project that holds the fixed
+/// address, by a router of its project with an interface on that address's subnet and its gateway
+/// on the floating network, and no other floating address of its network leads there. Its cost
+/// grows with the square of the ports at most.
 pub fn leads(rows: &Rows, floating: &FloatingRow) -> bool
     ensures { result ≡ floating_leads rows.now floating.now }
 {

@@ -34,8 +34,8 @@ fn are_its_groups(groups: &[Shared<GroupRow>], port: &PortRow) -> bool
         .all(|group| is_group_of(groups, &port.project, *group))
 }
 
-/// Whether the groups of a port are its project's, and a port without port security has neither groups
-/// nor pairs. Its cost grows with the port's groups times all groups.
+/// Whether the groups of a port are its project's, and a port without port security has neither
+/// groups nor pairs. Its cost grows with the port's groups times all groups.
 pub fn is_grouped_port(rows: &Rows, port: &PortRow) -> bool
     ensures { result ≡ port_grouped rows.now.groups port.now }
 {
@@ -82,8 +82,8 @@ fn is_its_remote(groups: &[Shared<GroupRow>], rule: &RuleRow) -> bool
     }
 }
 
-/// Whether the remote group of a rule is its project's, and no other rule of its group says the same.
-/// Its cost grows with the groups and the rules.
+/// Whether the remote group of a rule is its project's, and no other rule of its group says the
+/// same. Its cost grows with the groups and the rules.
 pub fn is_grouped_rule(rows: &Rows, rule: &RuleRow) -> bool
     ensures { result ≡ rule_grouped rows.now.groups rows.now.rules rule.now }
 {

@@ -1,9 +1,9 @@
 //! Tests of single rows of services: DHCP, routers, floating addresses, groups and policies.
 //!
-//! Each call tells whether a row meets a clause of consistency among the rows that stand: whether the
-//! ports of a service are those that it should have, a floating address leads to its port, groups
-//! are a project's own, networks are permitted, and routes reach their next hops. It stands on
-//! the rows of `api_types`, takes no memory, and answers each question by its definition.
+//! Each call tells whether a row meets a clause of consistency among the rows that stand: whether
+//! the ports of a service are those that it should have, a floating address leads to its port,
+//! groups are a project's own, networks are permitted, and routes reach their next hops. It stands
+//! on the rows of `api_types`, takes no memory, and answers each question by its definition.
 #![tactic(auto)]
 
 mod floating;

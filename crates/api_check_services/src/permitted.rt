@@ -50,7 +50,8 @@ fn same_policy(a: &PolicyRow, b: &PolicyRow) -> bool
     a.object == b.object && (a.action == b.action && a.target == b.target)
 }
 
-/// Whether no other policy has the same network, action and target. Its cost grows with the policies.
+/// Whether no other policy has the same network, action and target. Its cost grows with the
+/// policies.
 pub fn is_only_policy(policies: &[Shared<PolicyRow>], policy: &PolicyRow) -> bool
     ensures { result ≡ policy_alone policies.now policy.now }
 {
@@ -62,13 +63,17 @@ pub fn is_only_policy(policies: &[Shared<PolicyRow>], policy: &PolicyRow) -> boo
 }
 
 fn reaches(subnets: &[Shared<SubnetRow>], port: &PortRow, next: &Addr) -> bool
-    ensures { result ≡ list_any (λ s. held_in s.id port.now && contains s.prefix next.now) subnets.now }
+    ensures { result
+        ≡ list_any (λ s. held_in s.id port.now && contains s.prefix next.now) subnets.now }
 {
     subnets.iter().any(|subnet| holds_in(subnet.id, port) && subnet.prefix.contains(*next))
 }
 
 fn is_way(subnets: &[Shared<SubnetRow>], router: &RouterRow, hop: &Hop, port: &PortRow) -> bool
-    ensures { result ≡ (port_of router.now port.now && list_any (λ s. held_in s.id port.now && contains s.prefix hop.now.next) subnets.now) }
+    ensures { result
+        ≡ (port_of router.now port.now
+        && list_any (λ s. held_in s.id port.now && contains s.prefix hop.now.next)
+        subnets.now) }
 {
     is_port_of(router, port) && reaches(subnets, port, &hop.next)
 }
@@ -86,7 +91,8 @@ fn is_reached(rows: &Rows, router: &RouterRow, hop: &Hop) -> bool
 /// Whether the next hop of each extra route lies in a subnet in which a port of the router holds an
 /// address. Its cost grows with the routes times ports times subnets.
 pub fn has_reached_routes(rows: &Rows, router: &RouterRow) -> bool
-    ensures { result ≡ list_all (reached_by rows.now.subnets rows.now.ports router.now) router.now.routes }
+    ensures { result
+        ≡ list_all (reached_by rows.now.subnets rows.now.ports router.now) router.now.routes }
 {
     router
         .routes

@@ -36,8 +36,8 @@ fn wants_dhcp(subnets: &[Shared<SubnetRow>], network: Id) -> bool
         .any(|subnet| network == subnet.network && subnet.dhcp)
 }
 
-/// Whether a network has as many DHCP ports as it should: one where a subnet of it has DHCP enabled,
-/// and else none. Its cost grows with the ports and the subnets.
+/// Whether a network has as many DHCP ports as it should: one where a subnet of it has DHCP
+/// enabled, and else none. Its cost grows with the ports and the subnets.
 pub fn is_served_network(rows: &Rows, network: &NetworkRow) -> bool
     ensures { result ≡ network_served rows.now network.now }
 {
@@ -109,10 +109,11 @@ fn serves_router(routers: &[Shared<RouterRow>], port: &PortRow) -> bool
             && (!is_gateway(&port.owner) || !port.fixed.is_empty()))
 }
 
-/// Whether a port of a service is in order. A DHCP port holds one address in each subnet of its network
-/// with DHCP enabled and no other; a router's port names a router that is there, an interface has one
-/// address and a gateway at least one; none of these and no floating address's own port has port
-/// security. Its cost grows with the subnets, the routers and the floating addresses.
+/// Whether a port of a service is in order. A DHCP port holds one address in each subnet of its
+/// network with DHCP enabled and no other; a router's port names a router that is there, an
+/// interface has one address and a gateway at least one; none of these and no floating address's
+/// own port has port security. Its cost grows with the subnets, the routers and the floating
+/// addresses.
 pub fn is_serving_port(rows: &Rows, port: &PortRow) -> bool
     ensures { result ≡ port_serves rows.now port.now }
 {
@@ -160,7 +161,8 @@ fn has_named_gateway(ports: &[Shared<PortRow>], router: &RouterRow, gateway: Gat
 }
 
 fn has_gateway(ports: &[Shared<PortRow>], router: &RouterRow) -> bool
-    ensures { result ≡ if_some (λ g. list_any (gateway_named_by router.now g) ports.now) router.now.gateway }
+    ensures { result
+        ≡ if_some (λ g. list_any (gateway_named_by router.now g) ports.now) router.now.gateway }
 {
     match router.gateway {
         Some(gateway) => has_named_gateway(ports, router, gateway),
@@ -194,13 +196,15 @@ fn is_port_for(floating: &FloatingRow, port: &PortRow) -> bool
 }
 
 fn has_port(ports: &[Shared<PortRow>], floating: &FloatingRow) -> bool
-    ensures { result ≡ stands_so (λ p. p.id) floating.now.own_port (serves_floating floating.now) ports.now }
+    ensures { result
+        ≡ stands_so (λ p. p.id) floating.now.own_port (serves_floating floating.now) ports.now }
 {
     ports.iter().any(|port| floating.own_port == port.id && is_port_for(floating, port))
 }
 
 fn owns_alone(floatings: &[Shared<FloatingRow>], floating: &FloatingRow) -> bool
-    ensures { result ≡ nat_le (count_by (λ g. ident_eq floating.now.own_port g.own_port) floatings.now) 1 }
+    ensures { result
+        ≡ nat_le (count_by (λ g. ident_eq floating.now.own_port g.own_port) floatings.now) 1 }
 {
     floatings
         .iter()
@@ -209,8 +213,8 @@ fn owns_alone(floatings: &[Shared<FloatingRow>], floating: &FloatingRow) -> bool
         <= 1
 }
 
-/// Whether the own port of a floating address is no other's, is on its network, has that owner, holds
-/// just its address and is unbound. Its cost grows with the ports and the floating addresses.
+/// Whether the own port of a floating address is no other's, is on its network, has that owner,
+/// holds just its address and is unbound. Its cost grows with the ports and the floating addresses.
 pub fn is_served_floating(rows: &Rows, floating: &FloatingRow) -> bool
     ensures { result ≡ floating_served rows.now floating.now }
 {

@@ -21,7 +21,8 @@ pub fn is_network_ahead(form: &NetworkForm) -> bool
 
 // Whether no host is named, or c1.
 fn is_near_host(host: &Given<Text>) -> bool
-    ensures { result ≡ is_empty (value_or [] host.now) || bytes_eq (value_or [] host.now) (codes "c1") }
+    ensures { result
+        ≡ is_empty (value_or [] host.now) || bytes_eq (value_or [] host.now) (codes "c1") }
 {
     match host {
         Given::Is(host) => host.is_empty() || host.as_str() == "c1",
@@ -29,8 +30,8 @@ fn is_near_host(host: &Given<Text>) -> bool
     }
 }
 
-/// Whether the body of a port needs what isn't built yet: a MAC address that is generated, addresses,
-/// pairs or groups of its own, or a host other than c1.
+/// Whether the body of a port needs what isn't built yet: a MAC address that is generated,
+/// addresses, pairs or groups of its own, or a host other than c1.
 pub fn is_port_ahead(form: &PortForm) -> bool
     ensures { result ≡ is_port_ahead_of form.now }
 {

@@ -142,7 +142,9 @@ fn draw_ids(alloc: Global, rows: &Rows, name: &Text, many: u64) -> Result<Drawn,
     requires few { many < 2 ^ 16 }
     ensures drawn { IfOk result (λ d. Draws rows.now name.now many d.change d.ordinal d.first) }
     ensures within { IfOk result (λ d. d.first + many ≤ 2 ^ 62) }
-    ensures spent { IfErr result (λ e. (e ≡ Refusal.OutOfMemory) ⊎ ((e ≡ Refusal.CountersSpent) × (draw_of rows.now name.now many ≡ None))) }
+    ensures spent { IfErr result
+        (λ e. (e ≡ Refusal.OutOfMemory)
+        ⊎ ((e ≡ Refusal.CountersSpent) × (draw_of rows.now name.now many ≡ None))) }
 {
     let projects = rows.projects().rows();
     let Some(place) = place_of(projects, name) else {
@@ -182,7 +184,10 @@ pub fn draw(
     ensures drawn { IfOk result (λ d. Draws rows.now name.now many d.change d.ordinal d.first) }
     ensures room { IfOk result (λ d. version < 2 ^ 64 - 1) }
     ensures within { IfOk result (λ d. d.first + many ≤ 2 ^ 62) }
-    ensures spent { let state : State = record { rows = rows.now; version = version } in IfErr result (λ e. (e ≡ Refusal.OutOfMemory) ⊎ ((e ≡ Refusal.CountersSpent) × (drawing_at state name.now many ≡ None))) }
+    ensures spent { let state : State = record { rows = rows.now; version = version } in
+        IfErr result
+        (λ e. (e ≡ Refusal.OutOfMemory)
+        ⊎ ((e ≡ Refusal.CountersSpent) × (drawing_at state name.now many ≡ None))) }
 {
     if version == u64::MAX {
         return Err(Refusal::CountersSpent);

@@ -116,7 +116,8 @@ fn drop_rows<R: OfNetwork>(
     rows: &[Shared<R>],
     network: Id,
 ) -> Result<(), OutOfMemory>
-    ensures { OnOk result (change.new ≡ change.old ++ dropped_items kind R.row_of (R.network_of network) 0 rows.now) }
+    ensures { OnOk result
+        (change.new ≡ change.old ++ dropped_items kind R.row_of (R.network_of network) 0 rows.now) }
 {
     let mut place = 0;
     for row in rows {

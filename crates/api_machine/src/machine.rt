@@ -112,10 +112,16 @@ impl Machine {
     /// other state in which it has the same footing. Its cost grows with the rows.
     pub fn plan(&self, alloc: Global, caller: &Caller, call: &Call) -> Result<Planned, Refusal>
         requires in_form { IsInForm caller.now call.now }
-        ensures ok { IfOk result (Plans self.now (api_step default_parts self.now caller.now call.now)) }
-        ensures err { IfErr result (IsRefusalOf (api_step default_parts self.now caller.now call.now)) }
-        ensures answer_apart { (other : State) → AreAlike caller.now self.now other → IfOk result (λ p. told (api_step default_parts other caller.now call.now) ≡ Told (reply_of p.answer)) }
-        ensures refusal_apart { (other : State) → AreAlike caller.now self.now other → IfErr result (IsRefusalOf (told (api_step default_parts other caller.now call.now))) }
+        ensures ok { IfOk result
+            (Plans self.now (api_step default_parts self.now caller.now call.now)) }
+        ensures err { IfErr result
+            (IsRefusalOf (api_step default_parts self.now caller.now call.now)) }
+        ensures answer_apart { (other : State) → AreAlike caller.now self.now other
+            → IfOk result
+            (λ p. told (api_step default_parts other caller.now call.now)
+            ≡ Told (reply_of p.answer)) }
+        ensures refusal_apart { (other : State) → AreAlike caller.now self.now other
+            → IfErr result (IsRefusalOf (told (api_step default_parts other caller.now call.now))) }
     {
         let _consistent = self.rows();
         self.planned(alloc, caller, call)
@@ -123,8 +129,10 @@ impl Machine {
 
     fn planned(&self, alloc: Global, caller: &Caller, call: &Call) -> Result<Planned, Refusal>
         requires { IsInForm caller.now call.now }
-        ensures ok { IfOk result (Plans self.now (api_step default_parts self.now caller.now call.now)) }
-        ensures err { IfErr result (IsRefusalOf (api_step default_parts self.now caller.now call.now)) }
+        ensures ok { IfOk result
+            (Plans self.now (api_step default_parts self.now caller.now call.now)) }
+        ensures err { IfErr result
+            (IsRefusalOf (api_step default_parts self.now caller.now call.now)) }
     {
         match call {
             Call::List { kind, query } => self.list(alloc, caller, *kind, query),
@@ -162,8 +170,10 @@ impl Machine {
         name: &IdText,
         fields: &Names,
     ) -> Result<Planned, Refusal>
-        ensures ok { IfOk result (Plans self.now (row_shown self.now caller.now kind name.now fields.now)) }
-        ensures err { IfErr result (IsRefusalOf (row_shown self.now caller.now kind name.now fields.now)) }
+        ensures ok { IfOk result
+            (Plans self.now (row_shown self.now caller.now kind name.now fields.now)) }
+        ensures err { IfErr result
+            (IsRefusalOf (row_shown self.now caller.now kind name.now fields.now)) }
     {
         match kind {
             Kind::Network => {
@@ -183,8 +193,10 @@ impl Machine {
     fn create(&self, alloc: Global, caller: &Caller, form: &Form) -> Result<Planned, Refusal>
         requires named { not (is_empty caller.now.project) ≡ true }
         requires in_form { IsForm form.now }
-        ensures ok { IfOk result (Plans self.now (row_created default_parts self.now caller.now form.now)) }
-        ensures err { IfErr result (IsRefusalOf (row_created default_parts self.now caller.now form.now)) }
+        ensures ok { IfOk result
+            (Plans self.now (row_created default_parts self.now caller.now form.now)) }
+        ensures err { IfErr result
+            (IsRefusalOf (row_created default_parts self.now caller.now form.now)) }
     {
         match form {
             Form::Network(form) => create_network(alloc, &self.rows, self.version, caller, form),
@@ -200,8 +212,10 @@ impl Machine {
         name: &IdText,
         form: &Form,
     ) -> Result<Planned, Refusal>
-        ensures ok { IfOk result (Plans self.now (row_updated self.now caller.now name.now form.now)) }
-        ensures err { IfErr result (IsRefusalOf (row_updated self.now caller.now name.now form.now)) }
+        ensures ok { IfOk result
+            (Plans self.now (row_updated self.now caller.now name.now form.now)) }
+        ensures err { IfErr result
+            (IsRefusalOf (row_updated self.now caller.now name.now form.now)) }
     {
         match form {
             Form::Network(form) => {
@@ -233,7 +247,8 @@ impl Machine {
         requires fits { Fits self.old.rows change.now }
         requires consistent { IsConsistent (after self.old.rows change.now) }
         requires room { self.old.version < 2 ^ 64 - 1 }
-        ensures ready { IfOk result (λ r. r ≡ record { rows = after self.old.rows change.now; version = self.old.version }) }
+        ensures ready { IfOk result
+            (λ r. r ≡ record { rows = after self.old.rows change.now; version = self.old.version }) }
         ensures same { self.new ≡ self.old }
     {
         let mut rows = self.rows.copy(alloc)?;

@@ -8,15 +8,16 @@ use api_types::{Caller, Id, Kind, PolicyRule, Refusal, Rows, Table};
 use net_addr::{Copies, OutOfMemory, Text};
 use std::alloc::Global;
 
-/// The row with this id, where it is there and the caller sees it. Its cost grows with the policies,
-/// at most.
+/// The row with this id, where it is there and the caller sees it. Its cost grows with the
+/// policies, at most.
 pub fn named<'r, R: Visible>(
     rows: &Rows,
     caller: &Caller,
     table: &'r Table<R>,
     id: Option<Id>,
 ) -> Option<&'r R>
-    ensures { option_copied result ≡ at_name R.id_of id (filter (R.seen rows.now caller.now) table.now) }
+    ensures { option_copied result
+        ≡ at_name R.id_of id (filter (R.seen rows.now caller.now) table.now) }
 {
     let _own_ids = table.rows();
     let row = table.get(id?)?;

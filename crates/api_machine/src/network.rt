@@ -72,8 +72,10 @@ pub fn create_network(
     requires consistent { IsConsistent rows.now }
     requires named { not (is_empty caller.now.project) ≡ true }
     requires in_form { have_names form.now.project_id form.now.tenant_id ≡ true }
-    ensures ok { let state : State = record { rows = rows.now; version = version } in IfOk result (Plans state (network_asked default_parts state caller.now form.now)) }
-    ensures err { let state : State = record { rows = rows.now; version = version } in IfErr result (IsRefusalOf (network_asked default_parts state caller.now form.now)) }
+    ensures ok { let state : State = record { rows = rows.now; version = version } in
+        IfOk result (Plans state (network_asked default_parts state caller.now form.now)) }
+    ensures err { let state : State = record { rows = rows.now; version = version } in
+        IfErr result (IsRefusalOf (network_asked default_parts state caller.now form.now)) }
 {
     if is_network_ahead(form) {
         return Err(Refusal::NotBuilt);
@@ -128,7 +130,8 @@ fn check_update(
     caller: &Caller,
     network: &NetworkRow,
 ) -> Result<(), Refusal>
-    ensures { let state : State = record { rows = rows.now; version = version } in Passes (update_refusal state caller.now network.now) result }
+    ensures { let state : State = record { rows = rows.now; version = version } in
+        Passes (update_refusal state caller.now network.now) result }
 {
     if !is_own(caller, &network.project) {
         return Err(forbidden(PolicyRule::OwnerOnly));
@@ -180,8 +183,10 @@ pub fn update_network(
     form: &NetworkForm,
 ) -> Result<Planned, Refusal>
     requires { IsConsistent rows.now }
-    ensures ok { let state : State = record { rows = rows.now; version = version } in IfOk result (Plans state (network_change_asked state caller.now name.now form.now)) }
-    ensures err { let state : State = record { rows = rows.now; version = version } in IfErr result (IsRefusalOf (network_change_asked state caller.now name.now form.now)) }
+    ensures ok { let state : State = record { rows = rows.now; version = version } in
+        IfOk result (Plans state (network_change_asked state caller.now name.now form.now)) }
+    ensures err { let state : State = record { rows = rows.now; version = version } in
+        IfErr result (IsRefusalOf (network_change_asked state caller.now name.now form.now)) }
 {
     if is_network_ahead(form) {
         return Err(Refusal::NotBuilt);
@@ -240,7 +245,8 @@ fn check_deletion(
     caller: &Caller,
     network: &NetworkRow,
 ) -> Result<(), Refusal>
-    ensures { let state : State = record { rows = rows.now; version = version } in Passes (deletion_refusal state caller.now network.now) result }
+    ensures { let state : State = record { rows = rows.now; version = version } in
+        Passes (deletion_refusal state caller.now network.now) result }
 {
     if !is_own(caller, &network.project) {
         return Err(forbidden(PolicyRule::OwnerOnly));
@@ -263,8 +269,10 @@ pub fn delete_network(
     name: &IdText,
 ) -> Result<Planned, Refusal>
     requires { IsConsistent rows.now }
-    ensures ok { let state : State = record { rows = rows.now; version = version } in IfOk result (Plans state (network_deleted state caller.now name.now)) }
-    ensures err { let state : State = record { rows = rows.now; version = version } in IfErr result (IsRefusalOf (network_deleted state caller.now name.now)) }
+    ensures ok { let state : State = record { rows = rows.now; version = version } in
+        IfOk result (Plans state (network_deleted state caller.now name.now)) }
+    ensures err { let state : State = record { rows = rows.now; version = version } in
+        IfErr result (IsRefusalOf (network_deleted state caller.now name.now)) }
 {
     let Some(network) = named(rows, caller, rows.networks(), name.id) else {
         return Err(not_found(alloc, Kind::Network, &name.text)?);

@@ -130,7 +130,11 @@ fn port_network<'r>(
     form: &PortForm,
 ) -> Result<&'r NetworkRow, Refusal>
     ensures ok { IfOk result (λ n. IsOpen rows.now caller.now form.now n.now) }
-    ensures err { (version : ℕ) → IfErr result (IsRefusalOf (port_asked default_parts (record { rows = rows.now; version = version }) caller.now form.now)) }
+    ensures err { (version : ℕ)
+        → IfErr result
+        (IsRefusalOf
+        (port_asked default_parts (record { rows = rows.now; version = version })
+        caller.now form.now)) }
 {
     if is_port_ahead(form) {
         return Err(Refusal::NotBuilt);
@@ -197,7 +201,12 @@ fn new_port(
     drawn: &Drawn,
 ) -> Result<PortRow, OutOfMemory>
     requires { drawn.now.first < 2 ^ 62 }
-    ensures { IfOk result (λ p. p ≡ port_of default_parts rows.now caller.now form.now network.now owner.now (ident drawn.now.ordinal drawn.now.first) (first_groups rows.now.groups owner.now drawn.now.ordinal (value_or_of true form.now.port_security_enabled))) }
+    ensures { IfOk result
+        (λ p. p
+        ≡ port_of default_parts rows.now caller.now form.now network.now owner.now
+        (ident drawn.now.ordinal drawn.now.first)
+        (first_groups rows.now.groups owner.now drawn.now.ordinal
+        (value_or_of true form.now.port_security_enabled))) }
 {
     let empty = Text::new(alloc);
     let host = text_or(alloc, &empty, &form.binding_host_id)?;
@@ -233,8 +242,10 @@ pub fn create_port(
     requires consistent { IsConsistent rows.now }
     requires named { not (is_empty caller.now.project) ≡ true }
     requires in_form { IsPortForm form.now }
-    ensures ok { let state : State = record { rows = rows.now; version = version } in IfOk result (Plans state (port_asked default_parts state caller.now form.now)) }
-    ensures err { let state : State = record { rows = rows.now; version = version } in IfErr result (IsRefusalOf (port_asked default_parts state caller.now form.now)) }
+    ensures ok { let state : State = record { rows = rows.now; version = version } in
+        IfOk result (Plans state (port_asked default_parts state caller.now form.now)) }
+    ensures err { let state : State = record { rows = rows.now; version = version } in
+        IfErr result (IsRefusalOf (port_asked default_parts state caller.now form.now)) }
 {
     let network = port_network(alloc, rows, caller, form)?;
     let owner = owner(caller, &form.project_id, &form.tenant_id);

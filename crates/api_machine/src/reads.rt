@@ -21,8 +21,13 @@ pub fn show<R: Shows + Visible>(
     name: &IdText,
     fields: &Names,
 ) -> Result<Answer, Refusal>
-    ensures ok { IfOk result (λ a. row_told kind R.id_of (R.members_of rows.now caller.now) caller.now name.now fields.now (filter (R.seen rows.now caller.now) table.now) ≡ Told (reply_of a)) }
-    ensures err { IfErr result (IsRefusalOf (row_told kind R.id_of (R.members_of rows.now caller.now) caller.now name.now fields.now (filter (R.seen rows.now caller.now) table.now))) }
+    ensures ok { IfOk result
+        (λ a. row_told kind R.id_of (R.members_of rows.now caller.now) caller.now name.now
+        fields.now (filter (R.seen rows.now caller.now) table.now) ≡ Told (reply_of a)) }
+    ensures err { IfErr result
+        (IsRefusalOf
+        (row_told kind R.id_of (R.members_of rows.now caller.now) caller.now name.now
+        fields.now (filter (R.seen rows.now caller.now) table.now))) }
 {
     let Some(row) = named(rows, caller, table, name.id) else {
         return Err(not_found(alloc, kind, &name.text)?);
@@ -38,7 +43,8 @@ pub fn list(
     kind: Kind,
     query: &Query,
 ) -> Result<Answer, Refusal>
-    ensures ok { IfOk result (λ a. rows_listed rows.now caller.now kind query.now ≡ Told (reply_of a)) }
+    ensures ok { IfOk result
+        (λ a. rows_listed rows.now caller.now kind query.now ≡ Told (reply_of a)) }
     ensures err { IfErr result (IsRefusalOf (rows_listed rows.now caller.now kind query.now)) }
 {
     match listed(alloc, rows, caller, kind, query) {

@@ -19,7 +19,9 @@ const MOST_NETWORKS: usize = 4000;
 // Marks the number of a segment, from 1 on.
 fn mark(marks: &mut Vec<bool>, segment: &Segment)
     ensures length { length marks.new.items ≡ length marks.old.items }
-    ensures marked { (k : ℕ) → k < length marks.old.items → slice_get marks.new.items k ≡ Some (slice_index_or marks.old.items k false || is_vxlan (k + 1) segment.now) }
+    ensures marked { (k : ℕ) → k < length marks.old.items
+        → slice_get marks.new.items k
+        ≡ Some (slice_index_or marks.old.items k false || is_vxlan (k + 1) segment.now) }
 {
     let Segment::Vxlan { number } = segment else {
         return;

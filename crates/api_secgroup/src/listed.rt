@@ -47,7 +47,9 @@ fn sorted_once(alloc: Global, prefixes: Vec<Prefix>) -> Result<Vec<Prefix>, OutO
 
 // Adds a prefix for each address of a port.
 fn add_addresses(prefixes: &mut Vec<Prefix>, fixed: &[Fixed]) -> Result<(), OutOfMemory>
-    ensures { OnOk result (prefixes.new.items ≡ prefixes.old.items ++ map (λ (f : TheFixed). whole_prefix f.address) fixed.now) }
+    ensures { OnOk result
+        (prefixes.new.items
+        ≡ prefixes.old.items ++ map (λ (f : TheFixed). whole_prefix f.address) fixed.now) }
 {
     for held in fixed {
         prefixes.push(held.address.whole_prefix())?;
@@ -57,7 +59,8 @@ fn add_addresses(prefixes: &mut Vec<Prefix>, fixed: &[Fixed]) -> Result<(), OutO
 
 // Adds the prefix of each pair of a port.
 fn add_pairs(prefixes: &mut Vec<Prefix>, pairs: &[Pair]) -> Result<(), OutOfMemory>
-    ensures { OnOk result (prefixes.new.items ≡ prefixes.old.items ++ map (λ (x : ThePair). x.prefix) pairs.now) }
+    ensures { OnOk result
+        (prefixes.new.items ≡ prefixes.old.items ++ map (λ (x : ThePair). x.prefix) pairs.now) }
 {
     for pair in pairs {
         prefixes.push(pair.prefix)?;
@@ -92,8 +95,8 @@ fn prefixes_of_all(
 }
 
 /// The members of a group, in ascending order and each once: the fixed addresses, as prefixes of
-/// their whole length, and the prefixes of the allowed pairs of all ports that name it. Its cost grows with
-/// the ports, and with the members and the logarithm of their number.
+/// their whole length, and the prefixes of the allowed pairs of all ports that name it. Its cost
+/// grows with the ports, and with the members and the logarithm of their number.
 #[tactic(auto, unfolding(api_types::specs::Members::members))]
 pub fn members(alloc: Global, rows: &Rows, group: Id) -> Result<Prefixes, OutOfMemory>
     ensures { IfOk result (λ p. p ≡ members_of rows.now group) }

@@ -58,7 +58,11 @@ fn meets_name(
     filters: &[Filter],
     name: &Text,
 ) -> Result<bool, OutOfMemory>
-    ensures { IfOk result (λ b. b ≡ list_any (λ (g : TheFilter). bytes_eq name.now g.name && has_value_in admin (map member_of members.now) g) filters.now) }
+    ensures { IfOk result
+        (λ b. b
+        ≡ list_any
+        (λ (g : TheFilter). bytes_eq name.now g.name
+        && has_value_in admin (map member_of members.now) g) filters.now) }
 {
     for filter in filters {
         if *name == filter.name && has_value(alloc, admin, members, filter)? {

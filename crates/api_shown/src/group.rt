@@ -114,7 +114,8 @@ fn rules_of(
     caller: &Caller,
     group: &GroupRow,
 ) -> Result<Vec<Printed>, OutOfMemory>
-    ensures { IfOk result (λ v. map tree_of v.items ≡ map rule_object (rules_of_group rows.now.rules group.now)) }
+    ensures { IfOk result
+        (λ v. map tree_of v.items ≡ map rule_object (rules_of_group rows.now.rules group.now)) }
 {
     let mut objects = Vec::new(alloc);
     for rule in rows.rules().rows() {

@@ -77,7 +77,11 @@ fn listed_of<R: Shows + Visible>(
     candidates: &[Shared<R>],
     query: &Query,
 ) -> Result<ShownList, OutOfMemory>
-    ensures { IfOk result (λ s. map shown_row s ≡ cut query.now.limit (rows_listed_of (R.seen rows.now caller.now) (R.members_of rows.now caller.now) kind caller.now.admin query.now candidates.now)) }
+    ensures { IfOk result
+        (λ s. map shown_row s
+        ≡ cut query.now.limit
+        (rows_listed_of (R.seen rows.now caller.now) (R.members_of rows.now caller.now)
+        kind caller.now.admin query.now candidates.now)) }
 {
     let mut listed = Vec::new(alloc);
     for row in candidates {
@@ -127,7 +131,10 @@ fn listed_in<R: Shows + Visible>(
     table: &Table<R>,
     query: &Query,
 ) -> Result<ShownList, OutOfMemory>
-    ensures { IfOk result (λ s. map shown_row s ≡ rows_listed_in R.id_of (R.seen rows.now caller.now) (R.members_of rows.now caller.now) kind caller.now.admin query.now table.now) }
+    ensures { IfOk result
+        (λ s. map shown_row s
+        ≡ rows_listed_in R.id_of (R.seen rows.now caller.now)
+        (R.members_of rows.now caller.now) kind caller.now.admin query.now table.now) }
 {
     let candidates = behind_marker(table.rows(), &query.marker);
     listed_of(alloc, rows, caller, kind, candidates, query)
@@ -198,8 +205,10 @@ pub fn listed(
     kind: Kind,
     query: &Query,
 ) -> Result<ShownList, ListRefusal>
-    ensures rows { IfOk result (λ s. map shown_row s ≡ rows_listed rows.now caller.now kind query.now) }
-    ensures marker { IfOk result (λ _. IsTrue (has_marker rows.now caller.now kind query.now.marker)) }
+    ensures rows { IfOk result
+        (λ s. map shown_row s ≡ rows_listed rows.now caller.now kind query.now) }
+    ensures marker { IfOk result
+        (λ _. IsTrue (has_marker rows.now caller.now kind query.now.marker)) }
     ensures refused { IfErr result (IsListRefusal rows.now caller.now kind query.now.marker) }
 {
     check_marker(alloc, rows, caller, kind, &query.marker)?;

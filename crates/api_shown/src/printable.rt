@@ -141,7 +141,9 @@ fn printed_two<A: Printable, B: Printable>(
     second: &str,
     b: &B,
 ) -> Result<Printed, OutOfMemory>
-    ensures { IfOk result (λ p. tree_of p ≡ object (branches_of ((first.now, A.tree a.now) ∷ (second.now, B.tree b.now) ∷ []))) }
+    ensures { IfOk result
+        (λ p. tree_of p
+        ≡ object (branches_of ((first.now, A.tree a.now) ∷ (second.now, B.tree b.now) ∷ []))) }
 {
     let mut members = Seq::new(alloc);
     push(alloc, &mut members, first, a)?;
@@ -208,7 +210,8 @@ pub(crate) fn push_value(
     name: &str,
     value: Printed,
 ) -> Result<(), OutOfMemory>
-    ensures { OnOk result (map member_of members.new ≡ map member_of members.old ++ (name.now, tree_of value) ∷ []) }
+    ensures { OnOk result
+        (map member_of members.new ≡ map member_of members.old ++ (name.now, tree_of value) ∷ []) }
 {
     members.push((Text::of(alloc, name)?, value))
 }
@@ -220,7 +223,9 @@ pub(crate) fn push<T: Printable>(
     name: &str,
     value: &T,
 ) -> Result<(), OutOfMemory>
-    ensures { OnOk result (map member_of members.new ≡ map member_of members.old ++ (name.now, T.tree value.now) ∷ []) }
+    ensures { OnOk result
+        (map member_of members.new
+        ≡ map member_of members.old ++ (name.now, T.tree value.now) ∷ []) }
 {
     push_value(alloc, members, name, value.printed(alloc)?)
 }
@@ -232,7 +237,8 @@ pub(crate) fn push_word(
     name: &str,
     value: &str,
 ) -> Result<(), OutOfMemory>
-    ensures { OnOk result (map member_of members.new ≡ map member_of members.old ++ (name.now, word value.now) ∷ []) }
+    ensures { OnOk result
+        (map member_of members.new ≡ map member_of members.old ++ (name.now, word value.now) ∷ []) }
 {
     push_value(alloc, members, name, Printed::Word(Text::of(alloc, value)?))
 }

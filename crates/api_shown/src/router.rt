@@ -17,7 +17,10 @@ use std::alloc::Global;
 
 // The addresses of a gateway's port, printed.
 fn gateway_addresses(alloc: Global, rows: &Rows, gateway: &Gateway) -> Result<Printed, OutOfMemory>
-    ensures { IfOk result (λ p. tree_of p ≡ list_of fixed_object (fixed_of (row_of (λ (r : PortRow). r.id) gateway.now.port rows.now.ports))) }
+    ensures { IfOk result
+        (λ p. tree_of p
+        ≡ list_of fixed_object
+        (fixed_of (row_of (λ (r : PortRow). r.id) gateway.now.port rows.now.ports))) }
 {
     let ports = rows.ports();
     let _own_ids = ports.rows();

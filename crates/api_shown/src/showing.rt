@@ -47,7 +47,8 @@ pub(crate) fn kept(
     fields: &Names,
     members: Members,
 ) -> Result<Members, OutOfMemory>
-    ensures { IfOk result (λ m. map member_of m ≡ shown_members admin fields.now (map member_of members)) }
+    ensures { IfOk result
+        (λ m. map member_of m ≡ shown_members admin fields.now (map member_of members)) }
 {
     let mut kept = Vec::new(alloc);
     for member in members.into_vec() {
@@ -68,7 +69,9 @@ pub fn shown_of<R: Shows>(
     row: &R,
     fields: &Names,
 ) -> Result<Shown, OutOfMemory>
-    ensures { IfOk result (λ s. shown_row s ≡ shown_as kind caller.now.admin fields.now (R.members_of rows.now caller.now row.now)) }
+    ensures { IfOk result
+        (λ s. shown_row s
+        ≡ shown_as kind caller.now.admin fields.now (R.members_of rows.now caller.now row.now)) }
 {
     let members = row.members(alloc, rows, caller)?;
     Ok(Shown {
@@ -87,7 +90,12 @@ fn shown_in<R: Shows>(
     fields: &Names,
     table: &Table<R>,
 ) -> Result<Option<Shown>, OutOfMemory>
-    ensures { IfOk result (λ s. option_map shown_row s ≡ option_map (λ r. shown_as kind caller.now.admin fields.now (R.members_of rows.now caller.now r)) (row_of R.id_of id table.now)) }
+    ensures { IfOk result
+        (λ s. option_map shown_row s
+        ≡ option_map
+        (λ r.
+        shown_as kind caller.now.admin fields.now (R.members_of rows.now caller.now r))
+        (row_of R.id_of id table.now)) }
 {
     let _own_ids = table.rows();
     match table.get(id) {
@@ -104,7 +112,8 @@ fn shown_if_there(
     id: Id,
     fields: &Names,
 ) -> Result<Option<Shown>, OutOfMemory>
-    ensures { IfOk result (λ s. option_map shown_row s ≡ shown_at rows.now caller.now kind id fields.now) }
+    ensures { IfOk result
+        (λ s. option_map shown_row s ≡ shown_at rows.now caller.now kind id fields.now) }
 {
     match kind {
         Kind::Project => Ok(None),
@@ -130,7 +139,8 @@ pub fn shown(
     fields: &Names,
 ) -> Result<Shown, OutOfMemory>
     requires { IsTrue (is_some (shown_at rows.now caller.now kind id fields.now)) }
-    ensures { IfOk result (λ s. Some (shown_row s) ≡ shown_at rows.now caller.now kind id fields.now) }
+    ensures { IfOk result
+        (λ s. Some (shown_row s) ≡ shown_at rows.now caller.now kind id fields.now) }
 {
     match shown_if_there(alloc, rows, caller, kind, id, fields)? {
         Some(shown) => Ok(shown),

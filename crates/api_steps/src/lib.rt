@@ -25,15 +25,27 @@ ghost use Rattle.api_steps.specs.Step.{api_step};
 
 /// Each accepted call leaves consistent rows consistent.
 pub fn calls_keep_rows_consistent()
-    ensures kept { (settings : SettingsParts) (state : State) (caller : Caller) (call : Call) (rows : RowLists) (reply : Reply) → MeetsRules settings → IsConsistent state.rows → IsInForm caller call → api_step settings state caller call ≡ Moved rows reply → IsConsistent rows }
+    ensures kept { (settings : SettingsParts) (state : State) (caller : Caller) (call : Call)
+        (rows : RowLists) (reply : Reply) → MeetsRules settings → IsConsistent state.rows
+        → IsInForm caller call → api_step settings state caller call ≡ Moved rows reply
+        → IsConsistent rows }
 {}
 
 /// Each accepted call leaves rows that the hosts of the settings can hold, where they could before.
 pub fn calls_keep_rows_holdable()
-    ensures kept { (settings : SettingsParts) (state : State) (caller : Caller) (call : Call) (rows : RowLists) (reply : Reply) → IsConsistent state.rows → AreHoldable (carries settings.hosts) state.rows → api_step settings state caller call ≡ Moved rows reply → AreHoldable (carries settings.hosts) rows }
+    ensures kept { (settings : SettingsParts) (state : State) (caller : Caller) (call : Call)
+        (rows : RowLists) (reply : Reply) → IsConsistent state.rows
+        → AreHoldable (carries settings.hosts) state.rows
+        → api_step settings state caller call ≡ Moved rows reply
+        → AreHoldable (carries settings.hosts) rows }
 {}
 
-/// A tenant, whose project has a name, is told the same at any two consistent states in which it has the same footing.
+/// A tenant, whose project has a name, is told the same at any two consistent states in which it
+/// has the same footing.
 pub fn tenants_stay_apart()
-    ensures apart { (settings : SettingsParts) (caller : Caller) (s t : State) → caller.admin ≡ false → not (is_empty caller.project) ≡ true → IsConsistent s.rows → IsConsistent t.rows → footing settings s caller ≡ footing settings t caller → (call : Call) → told (api_step settings s caller call) ≡ told (api_step settings t caller call) }
+    ensures apart { (settings : SettingsParts) (caller : Caller) (s t : State)
+        → caller.admin ≡ false → not (is_empty caller.project) ≡ true → IsConsistent s.rows
+        → IsConsistent t.rows → footing settings s caller ≡ footing settings t caller
+        → (call : Call)
+        → told (api_step settings s caller call) ≡ told (api_step settings t caller call) }
 {}

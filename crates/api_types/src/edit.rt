@@ -243,7 +243,9 @@ pub(crate) fn add_shared<R: Keyed>(
     table: &mut Shared<Table<R>>,
     row: R,
 ) -> Result<bool, OutOfMemory>
-    ensures added { IfOk result (λ added. (added ≡ is_new R.id_of row table.old) × (table.new ≡ (if added then table.old ++ row ∷ [] else table.old))) }
+    ensures added { IfOk result
+        (λ added. (added ≡ is_new R.id_of row table.old)
+        × (table.new ≡ (if added then table.old ++ row ∷ [] else table.old))) }
     ensures err { OnErr result (table.new ≡ table.old) }
 {
     if table.get().get(row.id()).is_some() {

@@ -74,7 +74,8 @@ impl Keyed for FloatingRow {
     }
 }
 
-/// Whether a floating address names the port as its own. Its cost grows with the floating addresses.
+/// Whether a floating address names the port as its own. Its cost grows with the floating
+/// addresses.
 pub fn is_own_port(floatings: &[Shared<FloatingRow>], port: &PortRow) -> bool
     ensures { result ≡ own_port_in floatings.now port.now.id }
 {

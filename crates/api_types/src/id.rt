@@ -69,8 +69,8 @@ impl Id {
         Text::of(alloc, text)
     }
 
-    /// The id that a text spells in the hyphenated form, with letters in either case. A UUID that no
-    /// ordinal and count from 1 on give is no id.
+    /// The id that a text spells in the hyphenated form, with letters in either case. A UUID that
+    /// no ordinal and count from 1 on give is no id.
     pub fn read(text: &[u8]) -> Option<Id>
         ensures found { IfSome result (Spells text.now) }
         ensures none { IfNone result ((i : Ident) → ¬ Spells text.now i) }

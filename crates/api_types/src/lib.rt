@@ -3,8 +3,8 @@
 //! What the Networking API keeps and says. It stands on `net_addr`, `uuid` and `indexmap`. `Rows`
 //! is seen as a record of nine lists in order of creation. A change is put into rows, and taken
 //! back, exactly as its definition says, or nothing changes. Beside the rows stand the questions
-//! that many ask of them: whose a port is and what it holds, what policies let projects use, which of
-//! two goes first; in specs/ what consistent rows are, and what frames and rows ask alike.
+//! that many ask of them: whose a port is and what it holds, what policies let projects use, which
+//! of two goes first; in specs/ what consistent rows are, and what frames and rows ask alike.
 #![tactic(auto)]
 
 mod answer;

@@ -29,7 +29,10 @@ impl Ordered for Prefix {
 
     ghost before = { prefix_before };
 
-    ghost order = { record { one_way = λ x y h. Prim.grind (arith, nat_tests); chain = λ x y z h k. Prim.grind (arith, nat_tests) } };
+    ghost order = { record {
+      one_way = λ x y h. Prim.grind (arith, nat_tests);
+      chain = λ x y z h k. Prim.grind (arith, nat_tests);
+    } };
 
     fn is_before(&self, other: &Prefix) -> bool {
         self.base < other.base || (self.base == other.base && self.len < other.len)
@@ -43,7 +46,10 @@ impl Ordered for Fixed {
 
     ghost before = { by_address };
 
-    ghost order = { record { one_way = λ x y h. Prim.grind (arith, nat_tests); chain = λ x y z h k. Prim.grind (arith, nat_tests) } };
+    ghost order = { record {
+      one_way = λ x y h. Prim.grind (arith, nat_tests);
+      chain = λ x y z h k. Prim.grind (arith, nat_tests);
+    } };
 
     fn is_before(&self, other: &Fixed) -> bool {
         self.address < other.address

@@ -37,7 +37,18 @@ impl Model for Rows {
 
     ghost Value = { RowLists };
 
-    ghost view = { λ r. record { projects = r.projects; networks = r.networks; subnets = r.subnets; ports = r.ports; groups = r.groups; rules = r.rules; routers = r.routers; floatings = r.floatings; policies = r.policies } };
+    ghost view = { λ r.
+        record {
+          projects = r.projects;
+          networks = r.networks;
+          subnets = r.subnets;
+          ports = r.ports;
+          groups = r.groups;
+          rules = r.rules;
+          routers = r.routers;
+          floatings = r.floatings;
+          policies = r.policies;
+        } };
 }
 
 // One call in place of nine drops at each exit of a function that owns rows: a check of such a
@@ -172,7 +183,9 @@ impl Rows {
 
     /// Adds a project last, where none has its id, and answers whether it did. Else all stays.
     pub fn add_project(&mut self, alloc: Global, row: ProjectRow) -> Result<bool, OutOfMemory>
-        ensures added { IfOk result (λ added. (added ≡ is_new project_id row self.old.projects) × (self.new ≡ (if added then record self.old { projects = self.old.projects ++ row ∷ [] } else self.old))) }
+        ensures added { IfOk result (λ added. (added ≡ is_new project_id row self.old.projects)
+            × (self.new ≡ (if added then
+            record self.old { projects = self.old.projects ++ row ∷ [] } else self.old))) }
         ensures err { OnErr result (self.new ≡ self.old) }
     {
         add_shared(alloc, &mut self.projects, row)
@@ -180,7 +193,9 @@ impl Rows {
 
     /// Adds a network last, where none has its id, and answers whether it did. Else all stays.
     pub fn add_network(&mut self, alloc: Global, row: NetworkRow) -> Result<bool, OutOfMemory>
-        ensures added { IfOk result (λ added. (added ≡ is_new (λ r. r.id) row self.old.networks) × (self.new ≡ (if added then record self.old { networks = self.old.networks ++ row ∷ [] } else self.old))) }
+        ensures added { IfOk result (λ added. (added ≡ is_new (λ r. r.id) row self.old.networks)
+            × (self.new ≡ (if added then
+            record self.old { networks = self.old.networks ++ row ∷ [] } else self.old))) }
         ensures err { OnErr result (self.new ≡ self.old) }
     {
         add_shared(alloc, &mut self.networks, row)
@@ -188,7 +203,9 @@ impl Rows {
 
     /// Adds a subnet last, where none has its id, and answers whether it did. Else all stays.
     pub fn add_subnet(&mut self, alloc: Global, row: SubnetRow) -> Result<bool, OutOfMemory>
-        ensures added { IfOk result (λ added. (added ≡ is_new (λ r. r.id) row self.old.subnets) × (self.new ≡ (if added then record self.old { subnets = self.old.subnets ++ row ∷ [] } else self.old))) }
+        ensures added { IfOk result (λ added. (added ≡ is_new (λ r. r.id) row self.old.subnets)
+            × (self.new ≡ (if added then
+            record self.old { subnets = self.old.subnets ++ row ∷ [] } else self.old))) }
         ensures err { OnErr result (self.new ≡ self.old) }
     {
         add_shared(alloc, &mut self.subnets, row)
@@ -196,15 +213,20 @@ impl Rows {
 
     /// Adds a port last, where none has its id, and answers whether it did. Else all stays.
     pub fn add_port(&mut self, alloc: Global, row: PortRow) -> Result<bool, OutOfMemory>
-        ensures added { IfOk result (λ added. (added ≡ is_new (λ r. r.id) row self.old.ports) × (self.new ≡ (if added then record self.old { ports = self.old.ports ++ row ∷ [] } else self.old))) }
+        ensures added { IfOk result (λ added. (added ≡ is_new (λ r. r.id) row self.old.ports)
+            × (self.new ≡ (if added then
+            record self.old { ports = self.old.ports ++ row ∷ [] } else self.old))) }
         ensures err { OnErr result (self.new ≡ self.old) }
     {
         add_shared(alloc, &mut self.ports, row)
     }
 
-    /// Adds a security group last, where none has its id, and answers whether it did. Else all stays.
+    /// Adds a security group last, where none has its id, and answers whether it did. Else all
+    /// stays.
     pub fn add_group(&mut self, alloc: Global, row: GroupRow) -> Result<bool, OutOfMemory>
-        ensures added { IfOk result (λ added. (added ≡ is_new (λ r. r.id) row self.old.groups) × (self.new ≡ (if added then record self.old { groups = self.old.groups ++ row ∷ [] } else self.old))) }
+        ensures added { IfOk result (λ added. (added ≡ is_new (λ r. r.id) row self.old.groups)
+            × (self.new ≡ (if added then
+            record self.old { groups = self.old.groups ++ row ∷ [] } else self.old))) }
         ensures err { OnErr result (self.new ≡ self.old) }
     {
         add_shared(alloc, &mut self.groups, row)
@@ -212,7 +234,9 @@ impl Rows {
 
     /// Adds a rule last, where none has its id, and answers whether it did. Else all stays.
     pub fn add_rule(&mut self, alloc: Global, row: RuleRow) -> Result<bool, OutOfMemory>
-        ensures added { IfOk result (λ added. (added ≡ is_new (λ r. r.id) row self.old.rules) × (self.new ≡ (if added then record self.old { rules = self.old.rules ++ row ∷ [] } else self.old))) }
+        ensures added { IfOk result (λ added. (added ≡ is_new (λ r. r.id) row self.old.rules)
+            × (self.new ≡ (if added then
+            record self.old { rules = self.old.rules ++ row ∷ [] } else self.old))) }
         ensures err { OnErr result (self.new ≡ self.old) }
     {
         add_shared(alloc, &mut self.rules, row)
@@ -220,15 +244,20 @@ impl Rows {
 
     /// Adds a router last, where none has its id, and answers whether it did. Else all stays.
     pub fn add_router(&mut self, alloc: Global, row: RouterRow) -> Result<bool, OutOfMemory>
-        ensures added { IfOk result (λ added. (added ≡ is_new (λ r. r.id) row self.old.routers) × (self.new ≡ (if added then record self.old { routers = self.old.routers ++ row ∷ [] } else self.old))) }
+        ensures added { IfOk result (λ added. (added ≡ is_new (λ r. r.id) row self.old.routers)
+            × (self.new ≡ (if added then
+            record self.old { routers = self.old.routers ++ row ∷ [] } else self.old))) }
         ensures err { OnErr result (self.new ≡ self.old) }
     {
         add_shared(alloc, &mut self.routers, row)
     }
 
-    /// Adds a floating address last, where none has its id, and answers whether it did. Else all stays.
+    /// Adds a floating address last, where none has its id, and answers whether it did. Else all
+    /// stays.
     pub fn add_floating(&mut self, alloc: Global, row: FloatingRow) -> Result<bool, OutOfMemory>
-        ensures added { IfOk result (λ added. (added ≡ is_new (λ r. r.id) row self.old.floatings) × (self.new ≡ (if added then record self.old { floatings = self.old.floatings ++ row ∷ [] } else self.old))) }
+        ensures added { IfOk result (λ added. (added ≡ is_new (λ r. r.id) row self.old.floatings)
+            × (self.new ≡ (if added then
+            record self.old { floatings = self.old.floatings ++ row ∷ [] } else self.old))) }
         ensures err { OnErr result (self.new ≡ self.old) }
     {
         add_shared(alloc, &mut self.floatings, row)
@@ -236,7 +265,9 @@ impl Rows {
 
     /// Adds a policy last, where none has its id, and answers whether it did. Else all stays.
     pub fn add_policy(&mut self, alloc: Global, row: PolicyRow) -> Result<bool, OutOfMemory>
-        ensures added { IfOk result (λ added. (added ≡ is_new (λ r. r.id) row self.old.policies) × (self.new ≡ (if added then record self.old { policies = self.old.policies ++ row ∷ [] } else self.old))) }
+        ensures added { IfOk result (λ added. (added ≡ is_new (λ r. r.id) row self.old.policies)
+            × (self.new ≡ (if added then
+            record self.old { policies = self.old.policies ++ row ∷ [] } else self.old))) }
         ensures err { OnErr result (self.new ≡ self.old) }
     {
         add_shared(alloc, &mut self.policies, row)
@@ -314,7 +345,8 @@ impl Rows {
     pub fn undo_change(&mut self, alloc: Global, change: &Change) -> Result<(), OutOfMemory>
         requires { CameBy self.old change.now }
         ensures ok { OnOk result (self.new ≡ before self.old change.now) }
-        ensures old_rows { (rows : RowLists) → Fits rows change.now → self.old ≡ after rows change.now → OnOk result (self.new ≡ rows) }
+        ensures old_rows { (rows : RowLists) → Fits rows change.now
+            → self.old ≡ after rows change.now → OnOk result (self.new ≡ rows) }
         ensures err { OnErr result (self.new ≡ self.old) }
     {
         let mut made = self.copy(alloc)?;

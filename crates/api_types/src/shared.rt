@@ -44,7 +44,8 @@ impl<T: Drop> Shared<T> {
 
     /// The value, to write to, where it has no other owner.
     pub(crate) fn get_mut(&mut self) -> Option<&mut T>
-        ensures* writes_back { sem 𝓛 (LendsIf (the_row T.row) T.row self.entry result (λ w. w) self.old) }
+        ensures* writes_back { sem 𝓛
+            (LendsIf (the_row T.row) T.row self.entry result (λ w. w) self.old) }
         ensures value { IfSome result (λ x. x.now ≡ self.old) }
     {
         Rc::get_mut(&mut self.counted)

@@ -25,8 +25,8 @@ fn is_granted(policies: &[Shared<PolicyRow>], action: Action, network: Id, proje
         .any(|policy| grants(policy, action, network, project))
 }
 
-/// Whether a network is shared with a project: a policy lets the project, or everyone, use it as its
-/// own. Its cost grows with the policies.
+/// Whether a network is shared with a project: a policy lets the project, or everyone, use it as
+/// its own. Its cost grows with the policies.
 pub fn is_shared_with(rows: &Rows, network: Id, project: &Text) -> bool
     ensures { result ≡ is_shared_with_of rows.now.policies network project.now }
 {

@@ -1,6 +1,7 @@
 ghost use Rattle.std.specs.Prelude.{◌≤◌};
 
-/// Of what rows are made: ports and routers that are dealt out to networks and groups of one project.
+/// Of what rows are made: ports and routers that are dealt out to networks and groups of one
+/// project.
 #[derive(Clone, Copy)]
 pub(crate) struct Scene {
     pub(crate) ports: u16,

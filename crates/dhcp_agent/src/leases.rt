@@ -18,7 +18,8 @@ fn lease_row_by(
     port: &PortRow,
     dhcp: &PortRow,
 ) -> Result<Option<LeaseRow>, OutOfMemory>
-    ensures { IfOk result (λ o. o ≡ lease_row_from rows.now host.now tags.now port.now (Some dhcp.now)) }
+    ensures { IfOk result
+        (λ o. o ≡ lease_row_from rows.now host.now tags.now port.now (Some dhcp.now)) }
 {
     if !is_at(host, dhcp) {
         return Ok(None);

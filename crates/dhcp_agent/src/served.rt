@@ -38,7 +38,9 @@ impl<'r> Model for Served<'r> {
 
     ghost view = { λ s. s.rows.now };
 
-    ghost invariant = { λ s. (n : Ident) → option_and_then (slice_get s.rows.now.ports) (get ident_eq s.places n) ≡ dhcp_port s.rows.now n };
+    ghost invariant = { λ s. (n : Ident)
+        → option_and_then (slice_get s.rows.now.ports) (get ident_eq s.places n)
+        ≡ dhcp_port s.rows.now n };
 }
 
 // Whether a port is a live DHCP port.
@@ -54,7 +56,10 @@ fn places_of(
     rows: &Rows,
     ports: &[Shared<PortRow>],
 ) -> Result<HashMap<Id, usize>, OutOfMemory>
-    ensures { IfOk result (λ m. (n : Ident) → option_and_then (slice_get ports.now) (get ident_eq m n) ≡ find (is_live_dhcp_of rows.now n) ports.now) }
+    ensures { IfOk result
+        (λ m. (n : Ident)
+        → option_and_then (slice_get ports.now) (get ident_eq m n)
+        ≡ find (is_live_dhcp_of rows.now n) ports.now) }
 {
     let mut places = HashMap::new(alloc);
     let mut left = ports.len();

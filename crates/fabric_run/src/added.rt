@@ -35,7 +35,8 @@ fn next_network(host: &HostAt<'_>, place: &Place<'_>) -> Option<Id>
 }
 
 fn inward_tag(host: &HostAt<'_>, found: Option<&InwardRow>) -> Option<u16>
-    ensures { map (λ (tag : ℕ). (host.now.name.now, tag)) (option_to_list result) ≡ inward_trail (host_seen host.now) (option_copied found.entry) }
+    ensures { map (λ (tag : ℕ). (host.now.name.now, tag)) (option_to_list result)
+        ≡ inward_trail (host_seen host.now) (option_copied found.entry) }
 {
     match found {
         Some(row) => Some(row.tag),
@@ -45,7 +46,8 @@ fn inward_tag(host: &HostAt<'_>, found: Option<&InwardRow>) -> Option<u16>
 
 // The tag under which a frame is at a bridge, or by which a tunnel or wire leads to one.
 fn tag_at(host: &HostAt<'_>, place: &Place<'_>) -> Option<u16>
-    ensures { map (λ (tag : ℕ). (host.now.name.now, tag)) (option_to_list result) ≡ place_trail (host_seen host.now) (place_seen place.now) }
+    ensures { map (λ (tag : ℕ). (host.now.name.now, tag)) (option_to_list result)
+        ≡ place_trail (host_seen host.now) (place_seen place.now) }
 {
     match place {
         Place::Bridge { tag, .. } => Some(*tag),
@@ -63,7 +65,8 @@ fn tag_at(host: &HostAt<'_>, place: &Place<'_>) -> Option<u16>
 
 // What a router adds by a step: itself and the network of the way out, where it sent the packet on.
 fn sent(host: &HostAt<'_>, router: Id, step: &Step<'_>) -> (Option<Id>, Option<Id>)
-    ensures { option_to_list result.0 ++ option_to_list result.1 ≡ sent_path (host_seen host.now) router (step_seen step.now) }
+    ensures { option_to_list result.0 ++ option_to_list result.1
+        ≡ sent_path (host_seen host.now) router (step_seen step.now) }
 {
     match step {
         Step::Next(next) => (Some(router), next_network(host, next)),
@@ -76,7 +79,8 @@ fn sent(host: &HostAt<'_>, router: Id, step: &Step<'_>) -> (Option<Id>, Option<I
 }
 
 fn passed(host: &HostAt<'_>, place: &Place<'_>, step: &Step<'_>) -> (Option<Id>, Option<Id>)
-    ensures { option_to_list result.0 ++ option_to_list result.1 ≡ step_path (host_seen host.now) (place_seen place.now) (step_seen step.now) }
+    ensures { option_to_list result.0 ++ option_to_list result.1
+        ≡ step_path (host_seen host.now) (place_seen place.now) (step_seen step.now) }
 {
     match place {
         Place::RouterIn { router, .. } => sent(host, *router, step),
@@ -91,8 +95,10 @@ fn passed(host: &HostAt<'_>, place: &Place<'_>, step: &Step<'_>) -> (Option<Id>,
 
 /// What a look-up at a place of a host adds.
 pub(crate) fn added_by(host: &HostAt<'_>, place: &Place<'_>, step: &Step<'_>) -> Added
-    ensures path { option_to_list result.router ++ option_to_list result.network ≡ step_path (host_seen host.now) (place_seen place.now) (step_seen step.now) }
-    ensures trail { map (λ (tag : ℕ). (host.now.name.now, tag)) (option_to_list result.tag) ≡ place_trail (host_seen host.now) (place_seen place.now) }
+    ensures path { option_to_list result.router ++ option_to_list result.network
+        ≡ step_path (host_seen host.now) (place_seen place.now) (step_seen step.now) }
+    ensures trail { map (λ (tag : ℕ). (host.now.name.now, tag)) (option_to_list result.tag)
+        ≡ place_trail (host_seen host.now) (place_seen place.now) }
 {
     let (router, network) = passed(host, place, step);
     Added {

@@ -37,7 +37,8 @@ fn steps_for(frame: &Frame) -> u16
 }
 
 fn network_of_tap(host: &HostAt<'_>, port: Id) -> Option<Id>
-    ensures { option_to_list result ≡ at_tap (host_seen host.now) (tap_by_port host.now.tables.now port) }
+    ensures { option_to_list result
+        ≡ at_tap (host_seen host.now) (tap_by_port host.now.tables.now port) }
 {
     match tap_at(host.tables, port) {
         Some(tap) => network_at(host, tap.tag),
@@ -46,7 +47,10 @@ fn network_of_tap(host: &HostAt<'_>, port: Id) -> Option<Id>
 }
 
 fn network_of_wire(host: &HostAt<'_>, physical: &Text, tag: Option<u16>) -> Option<Id>
-    ensures { option_to_list result ≡ at_inward (host_seen host.now) (inward_by host.now.tables.now (ByWire (record { physical = physical.now; tag = tag }))) }
+    ensures { option_to_list result
+        ≡ at_inward (host_seen host.now)
+        (inward_by host.now.tables.now
+        (ByWire (record { physical = physical.now; tag = tag }))) }
 {
     match inward_wire(host.tables, physical, tag) {
         Some(row) => network_at(host, row.tag),
@@ -69,7 +73,10 @@ fn dropped<'f>(cause: DropCause) -> Turn<'f>
 // An event from a port begins at the first host with a tap of it.
 fn from_port<'f, F: Fleet>(fleet: &'f F, port: Id, frame: &Frame) -> Turn<'f>
     ensures within { IsWithin (F.hosts fleet.now) result }
-    ensures begun { turned (F.hosts fleet.now) (walk (F.hosts fleet.now) (suc (steps_for_life (life_of frame.now)))) result (begun_with (start_path (F.hosts fleet.now) result)) ≡ fabric_fate (F.hosts fleet.now) (FromPort port frame.now) }
+    ensures begun { turned (F.hosts fleet.now)
+        (walk (F.hosts fleet.now) (suc (steps_for_life (life_of frame.now)))) result
+        (begun_with (start_path (F.hosts fleet.now) result))
+        ≡ fabric_fate (F.hosts fleet.now) (FromPort port frame.now) }
 {
     match first(fleet, &Sought::WithTap(port)) {
         Some(at) => Turn {
@@ -91,7 +98,10 @@ fn from_wire<'f, F: Fleet>(
     frame: &Frame,
 ) -> Turn<'f>
     ensures within { IsWithin (F.hosts fleet.now) result }
-    ensures begun { turned (F.hosts fleet.now) (walk (F.hosts fleet.now) (steps_for_life (life_of frame.now))) result (begun_with (start_path (F.hosts fleet.now) result)) ≡ fabric_fate (F.hosts fleet.now) (FromWire physical.now tag frame.now) }
+    ensures begun { turned (F.hosts fleet.now)
+        (walk (F.hosts fleet.now) (steps_for_life (life_of frame.now))) result
+        (begun_with (start_path (F.hosts fleet.now) result))
+        ≡ fabric_fate (F.hosts fleet.now) (FromWire physical.now tag frame.now) }
 {
     if is_unsupported(frame) {
         return dropped(DropCause::Unsupported);
@@ -165,7 +175,14 @@ fn end_of(alloc: Global, turn: &Turn<'_>) -> Result<Outcome, OutOfMemory>
 
 // The verdict at the end of a run.
 fn told(alloc: Global, turn: &Turn<'_>, run: Run) -> Result<Verdict, OutOfMemory>
-    ensures { IfOk result (λ v. v ≡ record { outcome = ended_by turn.now; path = run.path; fresh = run.made; trail = run.trail }) }
+    ensures { IfOk result
+        (λ v. v
+        ≡ record {
+          outcome = ended_by turn.now;
+          path = run.path;
+          fresh = run.made;
+          trail = run.trail;
+        }) }
 {
     let outcome = end_of(alloc, turn)?;
     let Run {
@@ -185,7 +202,9 @@ fn told(alloc: Global, turn: &Turn<'_>, run: Run) -> Result<Verdict, OutOfMemory
 // How an event begins, and how many look-ups it may have.
 fn begin<'f, F: Fleet>(fleet: &'f F, event: &'f Event) -> Turn<'f>
     ensures within { IsWithin (F.hosts fleet.now) result }
-    ensures begun { turned (F.hosts fleet.now) (walk (F.hosts fleet.now) (looks_of event.now)) result (begun_with (start_path (F.hosts fleet.now) result)) ≡ fabric_fate (F.hosts fleet.now) event.now }
+    ensures begun { turned (F.hosts fleet.now) (walk (F.hosts fleet.now) (looks_of event.now))
+        result (begun_with (start_path (F.hosts fleet.now) result))
+        ≡ fabric_fate (F.hosts fleet.now) event.now }
 {
     match event {
         Event::FromPort { port, frame } => from_port(fleet, *port, frame),

@@ -28,7 +28,8 @@ pub trait Fleet {
     /// The tracked entries of a host.
     fn entries(&self, at: usize) -> &Entries
         requires { at < length (hosts self.now) }
-        ensures { slice_get (map (λ (h : Host). h.entries) (hosts self.now)) at ≡ Some result.now.items };
+        ensures { slice_get (map (λ (h : Host). h.entries) (hosts self.now)) at
+            ≡ Some result.now.items };
 }
 
 /// A host of a fleet.

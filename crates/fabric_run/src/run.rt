@@ -31,7 +31,9 @@ pub(crate) struct Added {
 impl Run {
     /// Nothing so far, with room for 258 entries.
     pub(crate) fn begin(alloc: Global) -> Result<Run, OutOfMemory>
-        ensures { IfOk result (λ run. (run.path ≡ []) × (run.fresh.items ≡ []) × (run.made ≡ []) × (run.trail ≡ []) × (258 ≤ run.fresh.spare)) }
+        ensures { IfOk result
+            (λ run. (run.path ≡ []) × (run.fresh.items ≡ []) × (run.made ≡ []) × (run.trail ≡ [])
+            × (258 ≤ run.fresh.spare)) }
     {
         let mut fresh = Fresh::new(alloc);
         fresh.reserve(258)?;
@@ -62,7 +64,11 @@ impl Run {
         host: &HostAt<'_>,
         tag: Option<u16>,
     ) -> Result<(), OutOfMemory>
-        ensures trail { OnOk result (self.new.trail ≡ self.old.trail ++ map (λ (t : ℕ). record { host = host.now.name.now; tag = t }) (option_to_list tag)) }
+        ensures trail { OnOk result
+            (self.new.trail
+            ≡ self.old.trail
+            ++ map (λ (t : ℕ). record { host = host.now.name.now; tag = t })
+            (option_to_list tag)) }
         ensures fresh { self.new.fresh ≡ self.old.fresh }
         ensures path { self.new.path ≡ self.old.path }
         ensures made { self.new.made ≡ self.old.made }
@@ -76,7 +82,11 @@ impl Run {
 
     // The entry that the host at this place made, where it made one, is the last.
     fn add_made(&mut self, at: usize) -> Result<(), OutOfMemory>
-        ensures made { OnOk result (self.new.made ≡ self.old.made ++ map (λ (e : TheEntry). record { entry = e; host = Some at }) (option_to_list (slice_get self.old.fresh.items (length self.old.made)))) }
+        ensures made { OnOk result
+            (self.new.made
+            ≡ self.old.made
+            ++ map (λ (e : TheEntry). record { entry = e; host = Some at })
+            (option_to_list (slice_get self.old.fresh.items (length self.old.made)))) }
         ensures fresh { self.new.fresh ≡ self.old.fresh }
         ensures path { self.new.path ≡ self.old.path }
         ensures trail { self.new.trail ≡ self.old.trail }
@@ -100,9 +110,20 @@ impl Run {
         host: &HostAt<'_>,
         added: &Added,
     ) -> Result<(), OutOfMemory>
-        ensures path { OnOk result (self.new.path ≡ self.old.path ++ (option_to_list added.now.router ++ option_to_list added.now.network)) }
-        ensures made { OnOk result (self.new.made ≡ self.old.made ++ map (λ (e : TheEntry). record { entry = e; host = Some at }) (option_to_list (slice_get self.old.fresh.items (length self.old.made)))) }
-        ensures trail { OnOk result (self.new.trail ≡ self.old.trail ++ map (λ (t : ℕ). record { host = host.now.name.now; tag = t }) (option_to_list added.now.tag)) }
+        ensures path { OnOk result
+            (self.new.path
+            ≡ self.old.path
+            ++ (option_to_list added.now.router ++ option_to_list added.now.network)) }
+        ensures made { OnOk result
+            (self.new.made
+            ≡ self.old.made
+            ++ map (λ (e : TheEntry). record { entry = e; host = Some at })
+            (option_to_list (slice_get self.old.fresh.items (length self.old.made)))) }
+        ensures trail { OnOk result
+            (self.new.trail
+            ≡ self.old.trail
+            ++ map (λ (t : ℕ). record { host = host.now.name.now; tag = t })
+            (option_to_list added.now.tag)) }
         ensures fresh { self.new.fresh ≡ self.old.fresh }
     {
         self.pass(added.router)?;

@@ -41,7 +41,8 @@ fn is_here(found: Option<&BridgeRow>) -> bool
 // Whether a host takes a frame from a wire: a packet for a port here, an ask for a lease where the
 // DHCP port is here, and an ask for an address that it knows.
 fn takes(host: &HostAt<'_>, physical: &Text, tag: Option<u16>, frame: &Frame) -> bool
-    ensures { result ≡ taken_by (record { physical = physical.now; tag = tag }) frame.now (host_seen host.now) }
+    ensures { result
+        ≡ taken_by (record { physical = physical.now; tag = tag }) frame.now (host_seen host.now) }
 {
     let Some(row) = inward_wire(host.tables, physical, tag) else {
         return false;
@@ -100,7 +101,10 @@ pub(crate) fn taker<F: Fleet>(
     tag: Option<u16>,
     frame: &Frame,
 ) -> Option<usize>
-    ensures { IsFirst (λ (h : Host). is_other_than (option_copied but.entry) h && taken_by (record { physical = physical.now; tag = tag }) frame.now h) (F.hosts fleet.now) result }
+    ensures { IsFirst
+        (λ (h : Host). is_other_than (option_copied but.entry) h
+        && taken_by (record { physical = physical.now; tag = tag }) frame.now h)
+        (F.hosts fleet.now) result }
 {
     let sought = Sought::Taker {
         but,

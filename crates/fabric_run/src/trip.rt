@@ -21,8 +21,13 @@ pub(crate) fn travel<'f, F: Fleet>(
     requires names { (name : List ℕ) → count_by (is_named name) (F.hosts fleet.now) ≤ 1 }
     requires begun { (run.old.fresh.items ≡ []) × (run.old.made ≡ []) × (run.old.trail ≡ []) }
     requires room { 258 ≤ run.old.fresh.spare }
-    requires bounded { length (turned (F.hosts fleet.now) (walk (F.hosts fleet.now) many) turn.old (begun_with run.old.path)).run.fresh ≤ 256 }
-    ensures { OnOk result (IsFate (F.hosts fleet.now) turn.new run.new (turned (F.hosts fleet.now) (walk (F.hosts fleet.now) many) turn.old (begun_with run.old.path))) }
+    requires bounded { length
+        (turned (F.hosts fleet.now) (walk (F.hosts fleet.now) many) turn.old (begun_with run.old.path)).run.fresh
+        ≤ 256 }
+    ensures { OnOk result
+        (IsFate (F.hosts fleet.now) turn.new run.new
+        (turned (F.hosts fleet.now) (walk (F.hosts fleet.now) many) turn.old
+        (begun_with run.old.path))) }
 {
     for looks in 0..many {
         advance(alloc, fleet, run, turn)?;

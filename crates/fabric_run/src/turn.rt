@@ -119,7 +119,9 @@ fn tunnelled<'f, F: Fleet>(
 ) -> Turn<'f>
     requires { at < length (F.hosts fleet.now) }
     ensures within { result.at < length (F.hosts fleet.now) }
-    ensures led { (on : Going) (r : TheRun) → turned (F.hosts fleet.now) on result r ≡ tunnelled_by on number frame.now r (find (is_named name.now) (F.hosts fleet.now)) }
+    ensures led { (on : Going) (r : TheRun)
+        → turned (F.hosts fleet.now) on result r
+        ≡ tunnelled_by on number frame.now r (find (is_named name.now) (F.hosts fleet.now)) }
 {
     match first(fleet, &Sought::Named(name)) {
         Some(next) => Turn {
@@ -152,7 +154,14 @@ fn wired<'f, F: Fleet>(
 ) -> Turn<'f>
     requires { at < length (F.hosts fleet.now) }
     ensures within { result.at < length (F.hosts fleet.now) }
-    ensures led { (on : Going) (r : TheRun) → turned (F.hosts fleet.now) on result r ≡ wired_by on (record { physical = physical.now; tag = tag }) network toward frame.now r (find (λ (x : Host). not (bytes_eq x.name host.now.name.now) && takes (record { physical = physical.now; tag = tag }) frame.now x) (F.hosts fleet.now)) }
+    ensures led { (on : Going) (r : TheRun)
+        → turned (F.hosts fleet.now) on result r
+        ≡ wired_by on (record { physical = physical.now; tag = tag }) network toward frame.now
+        r
+        (find
+        (λ (x : Host). not (bytes_eq x.name host.now.name.now)
+        && takes (record { physical = physical.now; tag = tag }) frame.now x)
+        (F.hosts fleet.now)) }
 {
     match taker(fleet, Some(host.name), physical, tag, frame) {
         Some(next) => Turn {
@@ -182,7 +191,9 @@ fn moved<'f, F: Fleet>(fleet: &'f F, at: usize, host: &HostAt<'f>, step: &Step<'
     requires here { slice_get (F.hosts fleet.now) at ≡ Some (host_seen host.now) }
     requires within { at < length (F.hosts fleet.now) }
     ensures within { result.at < length (F.hosts fleet.now) }
-    ensures led { (on : Going) (r : TheRun) → turned (F.hosts fleet.now) on result r ≡ moved_by (F.hosts fleet.now) on (host_seen host.now) r (step_seen step.now) }
+    ensures led { (on : Going) (r : TheRun)
+        → turned (F.hosts fleet.now) on result r
+        ≡ moved_by (F.hosts fleet.now) on (host_seen host.now) r (step_seen step.now) }
 {
     match step {
         Step::Next(place) => Turn {
@@ -216,8 +227,13 @@ pub(crate) fn advance<'f, F: Fleet>(
     requires room { 2 ≤ run.old.fresh.spare }
     requires names { (name : List ℕ) → count_by (is_named name) (F.hosts fleet.now) ≤ 1 }
     ensures within { OnOk result (IsWithin (F.hosts fleet.now) turn.new) }
-    ensures room { run.old.fresh.spare + length run.old.fresh.items ≤ run.new.fresh.spare + length run.new.fresh.items }
-    ensures walked { OnOk result ((many : ℕ) (r : TheRun) → Tells (F.hosts fleet.now) run.old r → Walks (F.hosts fleet.now) run.new (turned (F.hosts fleet.now) (walk (F.hosts fleet.now) (suc many)) turn.old r) (turned (F.hosts fleet.now) (walk (F.hosts fleet.now) many) turn.new)) }
+    ensures room { run.old.fresh.spare + length run.old.fresh.items
+        ≤ run.new.fresh.spare + length run.new.fresh.items }
+    ensures walked { OnOk result
+        ((many : ℕ) (r : TheRun) → Tells (F.hosts fleet.now) run.old r
+        → Walks (F.hosts fleet.now) run.new
+        (turned (F.hosts fleet.now) (walk (F.hosts fleet.now) (suc many)) turn.old r)
+        (turned (F.hosts fleet.now) (walk (F.hosts fleet.now) many) turn.new)) }
 {
     let Step::Next(place) = &turn.step else {
         return Ok(());

@@ -22,7 +22,8 @@ fn wire_or<'t>(
     frame: Frame,
     cause: DropCause,
 ) -> Step<'t>
-    ensures { step_seen result ≡ wire_or_dropped inner row.now.network row.now.wire toward frame cause }
+    ensures { step_seen result
+        ≡ wire_or_dropped inner row.now.network row.now.wire toward frame cause }
 {
     if inner {
         return drops(DropCause::Unknown);
@@ -97,7 +98,9 @@ fn bridged<'t>(
     frame: Frame,
     cause: DropCause,
 ) -> Step<'t>
-    ensures { step_seen result ≡ bridged_by_row inner row.now toward frame cause (bridge_by_key tables.now row.now.tag key) }
+    ensures { step_seen result
+        ≡ bridged_by_row inner row.now toward frame cause
+        (bridge_by_key tables.now row.now.tag key) }
 {
     match bridge_at(tables, row.tag, key) {
         Some(entry) => led(inner, row.tag, frame, &entry.to),
@@ -107,7 +110,9 @@ fn bridged<'t>(
 
 // An ask for an address is answered by its neighbour, else goes to the wire.
 fn asked<'t>(tables: &HostTables, inner: bool, row: &'t TagRow, src: Mac, ends: &Ends) -> Step<'t>
-    ensures { step_seen result ≡ asked_at inner row.now (address_ask src ends.now) (neighbour_by_address tables.now row.now.tag (destination ends.now)) }
+    ensures { step_seen result
+        ≡ asked_at inner row.now (address_ask src ends.now)
+        (neighbour_by_address tables.now row.now.tag (destination ends.now)) }
 {
     match neighbour_at(tables, row.tag, &ends.destination()) {
         Some(held) => Step::End(Ending {

@@ -24,7 +24,8 @@ fn in_set(tables: &HostTables, group: Id, far: &Addr) -> bool
 
 // Whether the far address is in the row's prefix, or in the set of its group, or both are null.
 fn far_fits(tables: &HostTables, row: &FilterRow, far: &Addr) -> bool
-    ensures { result ≡ fits_far (is_in_set tables.now) row.now.remote_prefix row.now.remote_group far.now }
+    ensures { result
+        ≡ fits_far (is_in_set tables.now) row.now.remote_prefix row.now.remote_group far.now }
 {
     match (row.remote_prefix, row.remote_group) {
         (None, None) => true,
@@ -64,7 +65,9 @@ fn is_answer(
     direction: Direction,
     key: &Key,
 ) -> bool
-    ensures { result ≡ (flow_is_there (entries.now ++ fresh.now) port (other_way direction) (reversed key.now) && allowed_by_tables tables.now port (other_way direction) (reversed key.now)) }
+    ensures { result
+        ≡ (flow_is_there (entries.now ++ fresh.now) port (other_way direction) (reversed key.now)
+        && allowed_by_tables tables.now port (other_way direction) (reversed key.now)) }
 {
     let asked = key.reversed();
     let way = opposite(direction);
@@ -82,7 +85,9 @@ pub(crate) fn passage_at(
     direction: Direction,
     packet: &Packet,
 ) -> Passage
-    ensures { passage_of result ≡ passage_at_tap tables.now (entries.now ++ fresh.now) tap.now direction (packet_of packet.now) }
+    ensures { passage_of result
+        ≡ passage_at_tap tables.now (entries.now ++ fresh.now) tap.now direction
+        (packet_of packet.now) }
 {
     let key = packet.key();
     if !tap.secured {

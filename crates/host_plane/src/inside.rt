@@ -18,7 +18,9 @@ fn routed<'t>(
     port: Id,
     packet: &Packet,
 ) -> Stepped<'t>
-    ensures { stepped_seen result ≡ by_port tables.now (entries.now ++ fresh.now) router.now (packet_of packet.now) (leg_by_port router.now port) }
+    ensures { stepped_seen result
+        ≡ by_port tables.now (entries.now ++ fresh.now) router.now (packet_of packet.now)
+        (leg_by_port router.now port) }
 {
     match port_of(router, port) {
         Some(port) => route(tables, entries, fresh, router, port, packet),
@@ -35,7 +37,8 @@ pub(crate) fn router_in<'t>(
     router: Id,
     frame: Frame,
 ) -> Stepped<'t>
-    ensures { stepped_seen result ≡ routed_in tables.now (entries.now ++ fresh.now) port router frame }
+    ensures { stepped_seen result
+        ≡ routed_in tables.now (entries.now ++ fresh.now) port router frame }
 {
     let Some(packet) = Packet::of(&frame) else {
         return dropped(DropCause::Unknown);

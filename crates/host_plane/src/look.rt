@@ -43,7 +43,8 @@ fn is_tag(tag: Option<u16>, other: Option<u16>) -> bool
 }
 
 fn is_wire(physical: &Text, tag: Option<u16>, carrier: &Carrier) -> bool
-    ensures { result ≡ carrier_eq (ByWire (record { physical = physical.now; tag = tag })) carrier.now }
+    ensures { result
+        ≡ carrier_eq (ByWire (record { physical = physical.now; tag = tag })) carrier.now }
 {
     match carrier {
         Carrier::Tunnel(_) => false,
@@ -68,7 +69,8 @@ pub fn inward_wire<'t>(
     physical: &Text,
     tag: Option<u16>,
 ) -> Option<&'t InwardRow>
-    ensures { option_copied result ≡ inward_by tables.now (ByWire (record { physical = physical.now; tag = tag })) }
+    ensures { option_copied result
+        ≡ inward_by tables.now (ByWire (record { physical = physical.now; tag = tag })) }
 {
     tables
         .inward

@@ -98,7 +98,11 @@ fn is_at<R: Mapped>(row: &R, first: u32, second: u128) -> bool
 // The row with a key, of rows that ascend by key. Its cost grows with the logarithm of how many
 // they are.
 fn row_at<R: Mapped>(rows: &[R], first: u32, second: u128) -> Option<&R>
-    ensures { IsSortedBy (λ r s. pair_before (R.first_of r) (R.second_of r) (R.first_of s) (R.second_of s)) rows.now → option_copied result ≡ find (λ r. (R.first_of r == first) && (R.second_of r == second)) rows.now }
+    ensures { IsSortedBy
+        (λ r s. pair_before (R.first_of r) (R.second_of r) (R.first_of s) (R.second_of s))
+        rows.now
+        → option_copied result
+        ≡ find (λ r. (R.first_of r == first) && (R.second_of r == second)) rows.now }
 {
     let place = rows.partition_point(|row| is_before(row, first, second));
     if place == rows.len() {
@@ -128,7 +132,9 @@ fn neighbour_among<'t>(
     tag: u16,
     address: &Addr,
 ) -> Option<&'t NeighbourRow>
-    ensures { IsSortedBy neighbour_before rows.now → option_copied result ≡ find (λ r. (r.tag == tag) && addr_eq r.address address.now) rows.now }
+    ensures { IsSortedBy neighbour_before rows.now
+        → option_copied result
+        ≡ find (λ r. (r.tag == tag) && addr_eq r.address address.now) rows.now }
 {
     let first = tag_and_width(tag, address);
     let second = number_of(address);

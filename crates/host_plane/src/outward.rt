@@ -20,7 +20,8 @@ fn to_mac(packet: &Packet, dst: Mac) -> Frame
 
 // Nobody has the next hop: out by the physical network of the way out, where it has one.
 fn unheld<'t>(tables: &'t HostTables, tag: u16, hop: &Addr, packet: &Packet) -> Step<'t>
-    ensures { step_seen result ≡ unheld_by hop.now (packet_of packet.now) (row_of_tag tables.now tag) }
+    ensures { step_seen result
+        ≡ unheld_by hop.now (packet_of packet.now) (row_of_tag tables.now tag) }
 {
     let Some(row) = tag_row(tables, tag) else {
         return drops(DropCause::Unknown);
@@ -44,7 +45,9 @@ fn unheld<'t>(tables: &'t HostTables, tag: u16, hop: &Addr, packet: &Packet) -> 
 
 // The neighbour at the next hop gets it, by the bridge.
 fn sent_by<'t>(tables: &'t HostTables, tag: u16, hop: &Addr, packet: &Packet) -> Step<'t>
-    ensures { step_seen result ≡ sent_by_neighbour tables.now tag hop.now (packet_of packet.now) (neighbour_by_address tables.now tag hop.now) }
+    ensures { step_seen result
+        ≡ sent_by_neighbour tables.now tag hop.now (packet_of packet.now)
+        (neighbour_by_address tables.now tag hop.now) }
 {
     let Some(held) = neighbour_at(tables, tag, hop) else {
         return unheld(tables, tag, hop, packet);
@@ -63,7 +66,8 @@ pub(crate) fn sent_at<'t>(
     hop: &Addr,
     packet: &Packet,
 ) -> Step<'t>
-    ensures { step_seen result ≡ sent_at_port tables.now hop.now (packet_of packet.now) (leg_by_port router.now out) }
+    ensures { step_seen result
+        ≡ sent_at_port tables.now hop.now (packet_of packet.now) (leg_by_port router.now out) }
 {
     match port_of(router, out) {
         Some(port) => sent_by(tables, port.tag, hop, packet),

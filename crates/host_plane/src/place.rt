@@ -16,7 +16,8 @@ fn stepped<'t>(
     fresh: &[Entry],
     place: &Place<'t>,
 ) -> Stepped<'t>
-    ensures { stepped_seen result ≡ table_step tables.now (entries.now ++ fresh.now) (place_seen place.now) }
+    ensures { stepped_seen result
+        ≡ table_step tables.now (entries.now ++ fresh.now) (place_seen place.now) }
 {
     match place {
         Place::TapIn { port, frame } => tap_in(tables, entries, fresh, *port, *frame),
@@ -65,9 +66,13 @@ pub fn step<'t>(
     place: &Place<'t>,
 ) -> Step<'t>
     requires { 2 ≤ fresh.old.spare }
-    ensures step { step_seen result ≡ (table_step tables.now (entries.now.items ++ fresh.old.items) (place_seen place.now)).step }
-    ensures made { fresh.new.items ≡ fresh.old.items ++ (table_step tables.now (entries.now.items ++ fresh.old.items) (place_seen place.now)).made }
-    ensures room { fresh.old.spare + length fresh.old.items ≤ fresh.new.spare + length fresh.new.items }
+    ensures step { step_seen result
+        ≡ (table_step tables.now (entries.now.items ++ fresh.old.items) (place_seen place.now)).step }
+    ensures made { fresh.new.items
+        ≡ fresh.old.items
+        ++ (table_step tables.now (entries.now.items ++ fresh.old.items) (place_seen place.now)).made }
+    ensures room { fresh.old.spare + length fresh.old.items
+        ≤ fresh.new.spare + length fresh.new.items }
 {
     let Stepped { step, made } = stepped(tables, entries.as_slice(), fresh.as_slice(), place);
     if let Some(entry) = made {

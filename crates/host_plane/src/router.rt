@@ -31,7 +31,10 @@ fn find_destination(
     router: &RouterTable,
     packet: &Packet,
 ) -> Destined
-    ensures { destined_of result ≡ destined_by (table_view tables.now router.now) (uses_by router.now.snat router.now.gateway router.now.router (entries.now ++ fresh.now)) (packet_of packet.now) }
+    ensures { destined_of result
+        ≡ destined_by (table_view tables.now router.now)
+        (uses_by router.now.snat router.now.gateway router.now.router
+        (entries.now ++ fresh.now)) (packet_of packet.now) }
 {
     if let Some(to) = fixed_behind(tables, router.router, &packet.ends.destination()) {
         return Destined {
@@ -80,7 +83,9 @@ fn send_on<'t>(
     hop: &Addr,
     sourced: Option<Sourced>,
 ) -> Stepped<'t>
-    ensures { stepped_seen result ≡ led_by tables.now router.now (sent_by (leg_at out.now) hop.now (option_map sourced_of sourced)) }
+    ensures { stepped_seen result
+        ≡ led_by tables.now router.now
+        (sent_by (leg_at out.now) hop.now (option_map sourced_of sourced)) }
 {
     let Some(sourced) = sourced else {
         return dropped(DropCause::TranslationFull);
@@ -115,7 +120,12 @@ fn routed_by<'t>(
     destined: &Destined,
     row: &RouteRow,
 ) -> Stepped<'t>
-    ensures { stepped_seen result ≡ led_by tables.now router.now (way_by_view (table_view tables.now router.now) (uses_by router.now.snat router.now.gateway router.now.router (entries.now ++ fresh.now)) (leg_at port.now) (changed_of destined.now.by) (packet_of destined.now.packet) (Some (way_at row.now))) }
+    ensures { stepped_seen result
+        ≡ led_by tables.now router.now
+        (way_by_view (table_view tables.now router.now)
+        (uses_by router.now.snat router.now.gateway router.now.router
+        (entries.now ++ fresh.now)) (leg_at port.now) (changed_of destined.now.by)
+        (packet_of destined.now.packet) (Some (way_at row.now))) }
 {
     match port_of(router, row.port) {
         Some(out) => {
@@ -136,7 +146,14 @@ fn routed_on<'t>(
     port: &RouterPort,
     destined: &Destined,
 ) -> Stepped<'t>
-    ensures { stepped_seen result ≡ led_by tables.now router.now (way_by_view (table_view tables.now router.now) (uses_by router.now.snat router.now.gateway router.now.router (entries.now ++ fresh.now)) (leg_at port.now) (changed_of destined.now.by) (packet_of destined.now.packet) (best_of_ways (destined_for destined.now.packet.ends) (ways_at router.now.router tables.now.routes))) }
+    ensures { stepped_seen result
+        ≡ led_by tables.now router.now
+        (way_by_view (table_view tables.now router.now)
+        (uses_by router.now.snat router.now.gateway router.now.router
+        (entries.now ++ fresh.now)) (leg_at port.now) (changed_of destined.now.by)
+        (packet_of destined.now.packet)
+        (best_of_ways (destined_for destined.now.packet.ends)
+        (ways_at router.now.router tables.now.routes))) }
 {
     let to = destined.packet.ends.destination();
     match best_way(tables, router.router, &to) {
@@ -166,7 +183,11 @@ fn routed_to<'t>(
     port: &RouterPort,
     destined: &Destined,
 ) -> Stepped<'t>
-    ensures { stepped_seen result ≡ led_by tables.now router.now (to_by_view (table_view tables.now router.now) (uses_by router.now.snat router.now.gateway router.now.router (entries.now ++ fresh.now)) (leg_at port.now) (destined_of destined.now)) }
+    ensures { stepped_seen result
+        ≡ led_by tables.now router.now
+        (to_by_view (table_view tables.now router.now)
+        (uses_by router.now.snat router.now.gateway router.now.router
+        (entries.now ++ fresh.now)) (leg_at port.now) (destined_of destined.now)) }
 {
     if is_own(tables, router, &destined.packet.ends.destination()) {
         return absorbed(router.router);
@@ -189,7 +210,10 @@ pub(crate) fn route<'t>(
     port: &RouterPort,
     packet: &Packet,
 ) -> Stepped<'t>
-    ensures { stepped_seen result ≡ led_by tables.now router.now (routed_by_view (table_view tables.now router.now) (entries.now ++ fresh.now) (leg_at port.now) (packet_of packet.now)) }
+    ensures { stepped_seen result
+        ≡ led_by tables.now router.now
+        (routed_by_view (table_view tables.now router.now) (entries.now ++ fresh.now)
+        (leg_at port.now) (packet_of packet.now)) }
 {
     if !router.up {
         return dropped(DropCause::RouterDown);

@@ -21,7 +21,10 @@ use plane_types::{
 /// The fixed address for which a floating address of the router stands; for an address of version 6
 /// there is none. Its cost grows with the floating addresses.
 pub(crate) fn fixed_behind(tables: &HostTables, router: Id, floating: &Addr) -> Option<Addr4>
-    ensures { result ≡ option_map (λ (f : Float). f.fixed) (find (λ (f : Float). addr_eq (V4 f.floating) floating.now) (floats_at_router router tables.now.floats)) }
+    ensures { result
+        ≡ option_map (λ (f : Float). f.fixed)
+        (find (λ (f : Float). addr_eq (V4 f.floating) floating.now)
+        (floats_at_router router tables.now.floats)) }
 {
     for row in tables.floats.as_slice() {
         if router == row.router && Addr::V4(row.floating) == *floating {
@@ -33,7 +36,10 @@ pub(crate) fn fixed_behind(tables: &HostTables, router: Id, floating: &Addr) -> 
 
 // The floating address of the router that stands for a fixed address.
 fn floating_for(tables: &HostTables, router: Id, fixed: &Addr) -> Option<Addr4>
-    ensures { result ≡ option_map (λ (f : Float). f.floating) (find (λ (f : Float). addr_eq (V4 f.fixed) fixed.now) (floats_at_router router tables.now.floats)) }
+    ensures { result
+        ≡ option_map (λ (f : Float). f.floating)
+        (find (λ (f : Float). addr_eq (V4 f.fixed) fixed.now)
+        (floats_at_router router tables.now.floats)) }
 {
     for row in tables.floats.as_slice() {
         if router == row.router && Addr::V4(row.fixed) == *fixed {
@@ -51,7 +57,10 @@ fn sourced_new(
     outer: Addr4,
     packet: &Packet,
 ) -> Option<Sourced>
-    ensures { option_map sourced_of result ≡ sourced_anew router (packet_of packet.now) outer (new_port_of (uses_at router outer (entries.now ++ fresh.now)) (key_of (packet_of packet.now))) }
+    ensures { option_map sourced_of result
+        ≡ sourced_anew router (packet_of packet.now) outer
+        (new_port_of (uses_at router outer (entries.now ++ fresh.now))
+        (key_of (packet_of packet.now))) }
 {
     let key = packet.key();
     match new_port(entries, fresh, router, outer, &key) {
@@ -77,7 +86,10 @@ fn sourced_gateway(
     packet: &Packet,
 ) -> Option<Sourced>
     requires { router.now.snat ≡ true }
-    ensures { option_map sourced_of result ≡ sourced_by_gateway (table_view tables.now router.now) (uses_by router.now.snat router.now.gateway router.now.router (entries.now ++ fresh.now)) (packet_of packet.now) router.now.gateway }
+    ensures { option_map sourced_of result
+        ≡ sourced_by_gateway (table_view tables.now router.now)
+        (uses_by router.now.snat router.now.gateway router.now.router
+        (entries.now ++ fresh.now)) (packet_of packet.now) router.now.gateway }
 {
     let Some(outer) = router.gateway else {
         return kept_source(packet);
@@ -101,7 +113,9 @@ fn has_live_gateway(router: &RouterTable) -> bool
 // address changed its destination, and the router translates and its gateway port is live.
 #[tactic(auto, using(crate::proofs::LegLists::gateway_among))]
 fn is_translated(tables: &HostTables, router: &RouterTable, out: &RouterPort, by: Changed) -> bool
-    ensures { result ≡ ((not out.now.inside || changed_by_float (changed_of by)) && router.now.snat && is_gateway_live (table_view tables.now router.now)) }
+    ensures { result
+        ≡ ((not out.now.inside || changed_by_float (changed_of by)) && router.now.snat
+        && is_gateway_live (table_view tables.now router.now)) }
 {
     (!out.inside || by_float(by)) && router.snat && has_live_gateway(router)
 }
@@ -115,7 +129,13 @@ fn sourced_float(
     out: &RouterPort,
     destined: &Destined,
 ) -> Option<Sourced>
-    ensures { option_map sourced_of result ≡ sourced_by_float (table_view tables.now router.now) (uses_by router.now.snat router.now.gateway router.now.router (entries.now ++ fresh.now)) (leg_at out.now) (changed_of destined.now.by) (packet_of destined.now.packet) (find (λ (f : Float). addr_eq (V4 f.fixed) (source destined.now.packet.ends)) (floats_at_router router.now.router tables.now.floats)) }
+    ensures { option_map sourced_of result
+        ≡ sourced_by_float (table_view tables.now router.now)
+        (uses_by router.now.snat router.now.gateway router.now.router
+        (entries.now ++ fresh.now)) (leg_at out.now) (changed_of destined.now.by)
+        (packet_of destined.now.packet)
+        (find (λ (f : Float). addr_eq (V4 f.fixed) (source destined.now.packet.ends))
+        (floats_at_router router.now.router tables.now.floats)) }
 {
     let packet = &destined.packet;
     if let Some(from) = floating_for(tables, router.router, &packet.ends.source()) {
@@ -143,7 +163,11 @@ pub(crate) fn find_source(
     out: &RouterPort,
     destined: &Destined,
 ) -> Option<Sourced>
-    ensures { option_map sourced_of result ≡ sourced_by (table_view tables.now router.now) (uses_by router.now.snat router.now.gateway router.now.router (entries.now ++ fresh.now)) (leg_at port.now) (leg_at out.now) (changed_of destined.now.by) (packet_of destined.now.packet) }
+    ensures { option_map sourced_of result
+        ≡ sourced_by (table_view tables.now router.now)
+        (uses_by router.now.snat router.now.gateway router.now.router
+        (entries.now ++ fresh.now)) (leg_at port.now) (leg_at out.now)
+        (changed_of destined.now.by) (packet_of destined.now.packet) }
 {
     let leaves = !out.inside || by_any(destined.by);
     if destined.packet.ends.are_four() && port.inside && leaves {

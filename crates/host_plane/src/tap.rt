@@ -54,7 +54,10 @@ fn filtered<'t>(
     tap: &TapRow,
     packet: &Packet,
 ) -> Stepped<'t>
-    ensures { stepped_seen result ≡ filtered_by (ip_frame (packet_of packet.now)) tap.now (tap_passage tables.now (entries.now ++ fresh.now) tap.now Egress (packet_of packet.now)) }
+    ensures { stepped_seen result
+        ≡ filtered_by (ip_frame (packet_of packet.now)) tap.now
+        (tap_passage tables.now (entries.now ++ fresh.now) tap.now Egress
+        (packet_of packet.now)) }
 {
     let passage = passage_at(tables, entries, fresh, tap, Direction::Egress, packet);
     if passage.passes {
@@ -93,7 +96,8 @@ pub(crate) fn tap_in<'t>(
     port: Id,
     frame: Frame,
 ) -> Stepped<'t>
-    ensures { stepped_seen result ≡ taken_in tables.now (entries.now ++ fresh.now) frame (tap_by_port tables.now port) }
+    ensures { stepped_seen result
+        ≡ taken_in tables.now (entries.now ++ fresh.now) frame (tap_by_port tables.now port) }
 {
     let Some(tap) = tap_at(tables, port) else {
         return dropped(DropCause::Dead);
@@ -124,7 +128,10 @@ fn delivers<'t>(
     tap: &TapRow,
     packet: &Packet,
 ) -> Stepped<'t>
-    ensures { stepped_seen result ≡ delivered_to tap.now.port (ip_frame (packet_of packet.now)) (tap_passage tables.now (entries.now ++ fresh.now) tap.now Ingress (packet_of packet.now)) }
+    ensures { stepped_seen result
+        ≡ delivered_to tap.now.port (ip_frame (packet_of packet.now))
+        (tap_passage tables.now (entries.now ++ fresh.now) tap.now Ingress
+        (packet_of packet.now)) }
 {
     let passage = passage_at(tables, entries, fresh, tap, Direction::Ingress, packet);
     if passage.passes {
@@ -144,7 +151,8 @@ fn gets<'t>(
     tap: &TapRow,
     frame: Frame,
 ) -> Stepped<'t>
-    ensures { stepped_seen result ≡ taken_out_by tables.now (entries.now ++ fresh.now) frame tap.now }
+    ensures { stepped_seen result
+        ≡ taken_out_by tables.now (entries.now ++ fresh.now) frame tap.now }
 {
     match Packet::of(&frame) {
         Some(packet) => delivers(tables, entries, fresh, tap, &packet),
@@ -163,7 +171,8 @@ pub(crate) fn tap_out<'t>(
     port: Id,
     frame: Frame,
 ) -> Stepped<'t>
-    ensures { stepped_seen result ≡ taken_out tables.now (entries.now ++ fresh.now) frame (tap_by_port tables.now port) }
+    ensures { stepped_seen result
+        ≡ taken_out tables.now (entries.now ++ fresh.now) frame (tap_by_port tables.now port) }
 {
     match tap_at(tables, port) {
         Some(tap) => gets(tables, entries, fresh, tap, frame),

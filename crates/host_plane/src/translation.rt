@@ -12,7 +12,9 @@ use plane_types::{
 
 // The first of these entries, of the router and with the outer address, that answers to a packet.
 fn answer_among(entries: &[Entry], router: Id, outer: Addr4, packet: &Packet) -> Option<Use>
-    ensures { option_map use_of result ≡ find (answers_to (Some outer) (packet_of packet.now)) (filter_map (use_if router outer) entries.now) }
+    ensures { option_map use_of result
+        ≡ find (answers_to (Some outer) (packet_of packet.now))
+        (filter_map (use_if router outer) entries.now) }
 {
     for entry in entries {
         if let Some(valid) = use_of_entry(router, outer, entry) {
@@ -26,7 +28,9 @@ fn answer_among(entries: &[Entry], router: Id, outer: Addr4, packet: &Packet) ->
 
 // The first of these entries with the key.
 fn key_among(entries: &[Entry], router: Id, outer: Addr4, key: &Key) -> Option<Use>
-    ensures { option_map use_of result ≡ find (λ (u : TheUse). key_eq u.key key.now) (filter_map (use_if router outer) entries.now) }
+    ensures { option_map use_of result
+        ≡ find (λ (u : TheUse). key_eq u.key key.now)
+        (filter_map (use_if router outer) entries.now) }
 {
     for entry in entries {
         if let Some(valid) = use_of_entry(router, outer, entry) {
@@ -61,7 +65,10 @@ pub(crate) fn answer(
     router: &RouterTable,
     packet: &Packet,
 ) -> Option<Use>
-    ensures { option_map use_of result ≡ find (answers_to router.now.gateway (packet_of packet.now)) (uses_by router.now.snat router.now.gateway router.now.router (entries.now ++ fresh.now)) }
+    ensures { option_map use_of result
+        ≡ find (answers_to router.now.gateway (packet_of packet.now))
+        (uses_by router.now.snat router.now.gateway router.now.router
+        (entries.now ++ fresh.now)) }
 {
     if !router.snat {
         return None;
@@ -83,7 +90,9 @@ pub(crate) fn with_key(
     outer: Addr4,
     key: &Key,
 ) -> Option<Use>
-    ensures { option_map use_of result ≡ find (λ (u : TheUse). key_eq u.key key.now) (uses_at router outer (entries.now ++ fresh.now)) }
+    ensures { option_map use_of result
+        ≡ find (λ (u : TheUse). key_eq u.key key.now)
+        (uses_at router outer (entries.now ++ fresh.now)) }
 {
     match key_among(entries, router, outer, key) {
         Some(found) => Some(found),
@@ -108,7 +117,10 @@ fn is_taken(
 
 // Marks, in one pass, the ports of those entries that have the kind and far end of the key.
 fn mark(marks: &mut [bool; 65_536], entries: &[Entry], router: Id, outer: Addr4, key: &Key)
-    ensures { (port : ℕ) → port < 65536 → slice_index_or marks.new port false ≡ (slice_index_or marks.old port false || taken (filter_map (use_if router outer) entries.now) key.now port) }
+    ensures { (port : ℕ) → port < 65536
+        → slice_index_or marks.new port false
+        ≡ (slice_index_or marks.old port false
+        || taken (filter_map (use_if router outer) entries.now) key.now port) }
 {
     for entry in entries {
         if let Some(valid) = use_of_entry(router, outer, entry) {
@@ -128,7 +140,10 @@ fn mark_all(
     outer: Addr4,
     key: &Key,
 )
-    ensures { (port : ℕ) → port < 65536 → slice_index_or marks.new port false ≡ (slice_index_or marks.old port false || taken (uses_at router outer (entries.now ++ fresh.now)) key.now port) }
+    ensures { (port : ℕ) → port < 65536
+        → slice_index_or marks.new port false
+        ≡ (slice_index_or marks.old port false
+        || taken (uses_at router outer (entries.now ++ fresh.now)) key.now port) }
 {
     mark(marks, entries, router, outer, key);
     mark(marks, fresh, router, outer, key);
@@ -144,7 +159,8 @@ fn least_untaken(
     outer: Addr4,
     key: &Key,
 ) -> Option<u16>
-    ensures { result ≡ first_untaken (uses_at router outer (entries.now ++ fresh.now)) key.now 64512 1024 }
+    ensures { result
+        ≡ first_untaken (uses_at router outer (entries.now ++ fresh.now)) key.now 64512 1024 }
 {
     let mut marks = [false; 65_536];
     mark_all(&mut marks, entries, fresh, router, outer, key);

@@ -17,7 +17,8 @@ fn beats(a: &RouteRow, b: &RouteRow) -> bool
 }
 
 fn better<'t>(row: &'t RouteRow, other: Option<&'t RouteRow>) -> &'t RouteRow
-    ensures { way_at result.now ≡ better_of (way_at row.now) (option_map way_at (option_copied other.entry)) }
+    ensures { way_at result.now
+        ≡ better_of (way_at row.now) (option_map way_at (option_copied other.entry)) }
 {
     match other {
         Some(other) => { if beats(row, other) { row } else { other } }
@@ -33,7 +34,11 @@ fn better_for<'t>(
     row: &'t RouteRow,
     other: Option<&'t RouteRow>,
 ) -> Option<&'t RouteRow>
-    ensures { option_map way_at (option_copied result) ≡ (if ident_eq router row.now.router && contains row.now.prefix destination.now then Some (better_of (way_at row.now) (option_map way_at (option_copied other.entry))) else option_map way_at (option_copied other.entry)) }
+    ensures { option_map way_at (option_copied result)
+        ≡ (if ident_eq router row.now.router && contains row.now.prefix destination.now
+        then Some
+        (better_of (way_at row.now) (option_map way_at (option_copied other.entry)))
+        else option_map way_at (option_copied other.entry)) }
 {
     if router == row.router && row.prefix.contains(*destination) {
         Some(better(row, other))
@@ -50,7 +55,8 @@ pub(crate) fn best_way<'t>(
     router: Id,
     destination: &Addr,
 ) -> Option<&'t RouteRow>
-    ensures { option_map way_at (option_copied result) ≡ best_of_ways destination.now (ways_at router tables.now.routes) }
+    ensures { option_map way_at (option_copied result)
+        ≡ best_of_ways destination.now (ways_at router tables.now.routes) }
 {
     let rows = tables.routes.as_slice();
     let mut best = None;

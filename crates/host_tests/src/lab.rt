@@ -43,7 +43,12 @@ impl Drop for Lab {
 impl Fleet for Lab {
     ghost use Rattle.std.specs.Prelude.{[], ◌∷◌};
 
-    ghost hosts = { λ l. record { name = l.first.name; tables = l.first.tables; entries = l.first.entries.items } ∷ record { name = l.second.name; tables = l.second.tables; entries = l.second.entries.items } ∷ [] };
+    ghost hosts = { λ l.
+        record
+        { name = l.first.name; tables = l.first.tables; entries = l.first.entries.items }
+        ∷ record
+        { name = l.second.name; tables = l.second.tables; entries = l.second.entries.items }
+        ∷ [] };
 
     fn count(&self) -> usize {
         2

@@ -27,7 +27,10 @@ fn first_named(prefix: &[u8], fields: &[HeaderSpan], name: &[u8]) -> Option<Span
     requires { All (IsHeaderWithin (length prefix.now)) fields.now }
     ensures none { IfNone result (values name.now (map (header_bytes prefix.now) fields.now) ≡ []) }
     ensures within { IfSome result (λ span. IsWithin (length prefix.now) span) }
-    ensures some { IfSome result (λ span. (rest : List (List ℕ)) × (values name.now (map (header_bytes prefix.now) fields.now) ≡ span_bytes prefix.now span ∷ rest)) }
+    ensures some { IfSome result
+        (λ span. (rest : List (List ℕ))
+        × (values name.now (map (header_bytes prefix.now) fields.now)
+        ≡ span_bytes prefix.now span ∷ rest)) }
 {
     for field in fields {
         if is_same_word(field.name.of(prefix), name) {
@@ -40,8 +43,12 @@ fn first_named(prefix: &[u8], fields: &[HeaderSpan], name: &[u8]) -> Option<Span
 // The value of the one field that has that name.
 pub(crate) fn only_named(prefix: &[u8], fields: &[HeaderSpan], name: &[u8]) -> Option<Span>
     requires { All (IsHeaderWithin (length prefix.now)) fields.now }
-    ensures none { IfNone result (only (values name.now (map (header_bytes prefix.now) fields.now)) ≡ None) }
-    ensures some { IfSome result (λ span. IsWithin (length prefix.now) span × (only (values name.now (map (header_bytes prefix.now) fields.now)) ≡ Some (span_bytes prefix.now span))) }
+    ensures none { IfNone result
+        (only (values name.now (map (header_bytes prefix.now) fields.now)) ≡ None) }
+    ensures some { IfSome result
+        (λ span. IsWithin (length prefix.now) span
+        × (only (values name.now (map (header_bytes prefix.now) fields.now))
+        ≡ Some (span_bytes prefix.now span))) }
 {
     if count_named(prefix, fields, name) != 1 {
         return None;
@@ -58,7 +65,9 @@ pub(crate) fn any_lists(
     word: &[u8],
 ) -> bool
     requires { All (IsHeaderWithin (length prefix.now)) fields.now }
-    ensures { result ≡ list_any (has_word (blank_of blank) word.now) (values name.now (map (header_bytes prefix.now) fields.now)) }
+    ensures { result
+        ≡ list_any (has_word (blank_of blank) word.now)
+        (values name.now (map (header_bytes prefix.now) fields.now)) }
 {
     for field in fields {
         if is_same_word(field.name.of(prefix), name)

@@ -53,14 +53,15 @@ pub enum HeadRead {
 
 /// What the first prefix that says something says of the bytes that have come.
 ///
-/// A prefix is judged where it ends with a line feed or has 16,384 bytes; `ended` tells that no more
-/// bytes come. It takes no memory and copies nothing. Empty lines that come first are passed, and
-/// prefixes of them aren't judged, but for one of 16,384 bytes. Behind them at most 66 prefixes are
-/// judged, each read from its front: the cost is at most so many times that of the bytes.
+/// A prefix is judged where it ends with a line feed or has 16,384 bytes; `ended` tells that no
+/// more bytes come. It takes no memory and copies nothing. Empty lines that come first are passed,
+/// and prefixes of them aren't judged, but for one of 16,384 bytes. Behind them at most 66 prefixes
+/// are judged, each read from its front: the cost is at most so many times that of the bytes.
 pub fn read_head(buffer: &[u8], ended: bool) -> HeadRead
     requires { ended ≡ true → 0 < length buffer.now }
     ensures is { IsHeadRead buffer.now ended result }
-    ensures only { (judgement : Judgement) → Decides buffer.now judgement → IsReadAs buffer.now judgement result }
+    ensures only { (judgement : Judgement) → Decides buffer.now judgement
+        → IsReadAs buffer.now judgement result }
     ensures number { IsNumbered result }
 {
     let empty = skip_empty_lines(buffer, 0);
@@ -70,16 +71,17 @@ pub fn read_head(buffer: &[u8], ended: bool) -> HeadRead
 /// The same of bytes of which the first `from` decide nothing, as an earlier look at them told.
 ///
 /// Only prefixes that end behind those are judged. So a head that comes in pieces, each of which is
-/// looked at as it comes, has each of its prefixes judged once, as a head that comes whole. The first
-/// `empty` bytes are empty lines, as `skip_empty_lines` counts them, and `from` is no less: so no
-/// prefix of empty lines is judged but one of 16,384 bytes.
+/// looked at as it comes, has each of its prefixes judged once, as a head that comes whole. The
+/// first `empty` bytes are empty lines, as `skip_empty_lines` counts them, and `from` is no less:
+/// so no prefix of empty lines is judged but one of 16,384 bytes.
 pub fn resume_head(buffer: &[u8], empty: usize, from: usize, ended: bool) -> HeadRead
     requires empty { AreEmptyLines buffer.now empty }
     requires behind { empty ≤ from }
     requires some { ended ≡ true → 0 < length buffer.now }
     requires open { IsUndecided (take from buffer.now) }
     ensures is { IsHeadRead buffer.now ended result }
-    ensures only { (judgement : Judgement) → Decides buffer.now judgement → IsReadAs buffer.now judgement result }
+    ensures only { (judgement : Judgement) → Decides buffer.now judgement
+        → IsReadAs buffer.now judgement result }
     ensures number { IsNumbered result }
 {
     let mut fields = [EMPTY_HEADER_SPAN; 65];

@@ -18,15 +18,16 @@ pub(crate) enum Judged {
     Whole(RequestSpans),
 }
 
-// Judges one prefix, whose first bytes are empty lines, where none before it says anything. The room for fields is one more than the
-// fields that a head may have, so it never runs out.
+// Judges one prefix, whose first bytes are empty lines, where none before it says anything. The
+// room for fields is one more than the fields that a head may have, so it never runs out.
 fn judge(prefix: &[u8], empty: usize, fields: &mut [HeaderSpan]) -> Judged
     requires empty { AreEmptyLines prefix.now empty }
     requires room { length fields.old ≡ 65 }
     requires ends { (length prefix.now ≡ 16384) ⊎ EndsLine prefix.now }
     requires short { length prefix.now ≤ 16384 }
     requires few { line_feeds (behind_blank prefix.now) ≤ 66 }
-    requires first { (k : ℕ) → k < length prefix.now → IsJudged prefix.now k → IsOpen (take k prefix.now) }
+    requires first { (k : ℕ) → k < length prefix.now → IsJudged prefix.now k
+        → IsOpen (take k prefix.now) }
     ensures { IsJudgedAs prefix.now fields.new result }
 {
     match parse_request(prefix, fields) {

@@ -89,7 +89,8 @@ fn cut_target(prefix: &[u8], target: Span) -> (Part, Part)
 // Where the one field stands that names the project.
 fn project_part(buffer: &[u8], fields: &[HeaderSpan]) -> Option<Part>
     requires { All (IsHeaderWithin (length buffer.now)) fields.now }
-    ensures { IsPartOfOption buffer.now result (only (values (codes "x-project-id") (map (header_bytes buffer.now) fields.now))) }
+    ensures { IsPartOfOption buffer.now result
+        (only (values (codes "x-project-id") (map (header_bytes buffer.now) fields.now))) }
 {
     match only_named(buffer, fields, b"x-project-id") {
         Some(span) => Some(part_of(span)),
@@ -100,7 +101,8 @@ fn project_part(buffer: &[u8], fields: &[HeaderSpan]) -> Option<Part>
 // Where the parts of a head stand.
 fn parts_of(buffer: &[u8], fields: &[HeaderSpan], spans: &RequestSpans) -> HeadParts
     requires within { IsRequestWithin buffer.now fields.now spans.now }
-    ensures { (head : RequestHead) → IsRequestAt buffer.now fields.now spans.now head → ArePartsOf buffer.now head result }
+    ensures { (head : RequestHead) → IsRequestAt buffer.now fields.now spans.now head
+        → ArePartsOf buffer.now head result }
 {
     let fields = &fields[..spans.headers];
     let (path, query) = cut_target(buffer, spans.path);
@@ -116,7 +118,10 @@ fn parts_of(buffer: &[u8], fields: &[HeaderSpan], spans: &RequestSpans) -> HeadP
 // Whether the connection ends behind the reply.
 fn is_last(version: u8, buffer: &[u8], fields: &[HeaderSpan]) -> bool
     requires { All (IsHeaderWithin (length buffer.now)) fields.now }
-    ensures { result ≡ (version == 0 || list_any (has_word is_space_or_tab (codes "close")) (values (codes "connection") (map (header_bytes buffer.now) fields.now))) }
+    ensures { result
+        ≡ (version == 0
+        || list_any (has_word is_space_or_tab (codes "close"))
+        (values (codes "connection") (map (header_bytes buffer.now) fields.now))) }
 {
     version == 0
         || any_lists(
@@ -131,7 +136,8 @@ fn is_last(version: u8, buffer: &[u8], fields: &[HeaderSpan]) -> bool
 // What a whole head says of itself.
 pub(crate) fn read_whole(buffer: &[u8], fields: &[HeaderSpan], spans: RequestSpans) -> HeadRead
     requires within { IsRequestWithin buffer.now fields.now spans }
-    ensures { (head : RequestHead) → IsRequestAt buffer.now fields.now spans head → IsWholeRead buffer.now head (own_refusal head) result }
+    ensures { (head : RequestHead) → IsRequestAt buffer.now fields.now spans head
+        → IsWholeRead buffer.now head (own_refusal head) result }
 {
     let named = &fields[..spans.headers];
     let told = body_length(buffer, named);

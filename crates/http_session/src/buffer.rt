@@ -55,7 +55,8 @@ fn read_behind<I: Source>(
     ensures ok { IfOk result (λ n. (piece : List ℕ) × (take (len + n) bytes.new ≡ take len bytes.old ++ piece)
         × (length piece ≡ n) × (len + n ≤ length bytes.old) × (n ≤ at_most)
         × Consumes (I.left input.old) (I.left input.new) piece × (n ≡ 0 → IsAtEnd (I.left input.new))) }
-    ensures err { OnErr result ((take len bytes.new ≡ take len bytes.old) × Keeps (I.left input.old) (I.left input.new)) }
+    ensures err { OnErr result
+        ((take len bytes.new ≡ take len bytes.old) × Keeps (I.left input.old) (I.left input.new)) }
     ensures cause { HasCause (I.faults input.old) (I.faults input.new) result }
 {
     let end = end_of(len, bytes.len(), at_most);
@@ -103,7 +104,8 @@ impl Buffer {
         ensures ok { IfOk result (λ n. (piece : List ℕ) × (self.new ≡ self.old ++ piece)
             × (length piece ≡ n) × (n ≤ at_most)
             × Consumes (I.left input.old) (I.left input.new) piece × (n ≡ 0 → IsAtEnd (I.left input.new))) }
-        ensures err { OnErr result ((self.new ≡ self.old) × Keeps (I.left input.old) (I.left input.new)) }
+        ensures err { OnErr result
+            ((self.new ≡ self.old) × Keeps (I.left input.old) (I.left input.new)) }
         ensures cause { HasCause (I.faults input.old) (I.faults input.new) result }
     {
         close_up(self.bytes.as_mut_slice(), self.start, self.len);

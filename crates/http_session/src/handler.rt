@@ -16,7 +16,8 @@ use std::alloc::Global;
 pub enum Answer {
     /// The whole reply of a step.
     Reply(Bytes),
-    /// The whole reply of a request that changed nothing, since the store failed to keep its change.
+    /// The whole reply of a request that changed nothing, since the store failed to keep its
+    /// change.
     StoreFault(Bytes),
     /// Memory could not be had, and nothing changed.
     NoMemory,

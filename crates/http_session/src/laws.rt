@@ -7,9 +7,9 @@ ghost use Rattle.http_session.specs.Told.{Told};
 
 use crate::handler::Handler;
 
-/// Where the step is a function, two accounts of one input are one: if each answers every request by
-/// the step, and the bytes that are left wait for more, the replies, the world and the bytes left
-/// are the same.
+/// Where the step is a function, two accounts of one input are one: if each answers every request
+/// by the step, and the bytes that are left wait for more, the replies, the world and the bytes
+/// left are the same.
 pub fn session_laws<H: Handler>()
     ensures { IsFunctional H.steps
         → (w x y : _) (bytes left rest : List ℕ) (ts us : List Told) → AllAnswered ts → AllAnswered us

@@ -78,12 +78,14 @@ fn read_more<I: Source>(
 ) -> Result<(), Stop>
     requires waits { IsWaiting buffer.old }
     requires within { taken.old ≤ limit }
-    ensures reads { Reads buffer.old buffer.new (I.left input.old) (I.left input.new) taken.old taken.new }
+    ensures reads { Reads buffer.old buffer.new (I.left input.old) (I.left input.new) taken.old
+        taken.new }
     ensures within { taken.new ≤ limit }
     ensures some { OnOk result (taken.old < taken.new) }
     ensures stop { IfErr result (IsStop limit buffer.new (I.left input.new) taken.new) }
     ensures later { I.faults input.old ≤ I.faults input.new }
-    ensures fault { IfErr result (λ stop. stop ≡ Stop.NoRead → RoseBy 1 (I.faults input.old) (I.faults input.new)) }
+    ensures fault { IfErr result
+        (λ stop. stop ≡ Stop.NoRead → RoseBy 1 (I.faults input.old) (I.faults input.new)) }
 {
     if *taken == limit {
         return Err(Stop::Spent);
@@ -104,11 +106,13 @@ fn read_more<I: Source>(
 // Reads until the buffer begins with a head.
 fn await_head<I: Source>(input: &mut I, buffer: &mut Buffer, taken: &mut u64, limit: u64) -> Awaited
     requires { taken.old ≤ limit }
-    ensures reads { Reads buffer.old buffer.new (I.left input.old) (I.left input.new) taken.old taken.new }
+    ensures reads { Reads buffer.old buffer.new (I.left input.old) (I.left input.new) taken.old
+        taken.new }
     ensures within { taken.new ≤ limit }
     ensures is { IsHeadAwaited limit buffer.new (I.left input.new) taken.new result }
     ensures later { I.faults input.old ≤ I.faults input.new }
-    ensures fault { result ≡ Awaited.Stopped Stop.NoRead → RoseBy 1 (I.faults input.old) (I.faults input.new) }
+    ensures fault { result ≡ Awaited.Stopped Stop.NoRead
+        → RoseBy 1 (I.faults input.old) (I.faults input.new) }
 {
     let mut empty = 0;
     let mut seen = 0;
@@ -137,11 +141,13 @@ fn await_body<I: Source>(
 ) -> Awaited
     requires within { taken.old ≤ limit }
     requires head { (head : RequestHead) × HasHead buffer.old request head }
-    ensures reads { Reads buffer.old buffer.new (I.left input.old) (I.left input.new) taken.old taken.new }
+    ensures reads { Reads buffer.old buffer.new (I.left input.old) (I.left input.new) taken.old
+        taken.new }
     ensures within { taken.new ≤ limit }
     ensures is { IsAwaited limit buffer.new (I.left input.new) taken.new result }
     ensures later { I.faults input.old ≤ I.faults input.new }
-    ensures fault { result ≡ Awaited.Stopped Stop.NoRead → RoseBy 1 (I.faults input.old) (I.faults input.new) }
+    ensures fault { result ≡ Awaited.Stopped Stop.NoRead
+        → RoseBy 1 (I.faults input.old) (I.faults input.new) }
 {
     'bodies: while buffer.as_slice().len() < request.body.end {
         if let Err(stop) = read_more(input, buffer, taken, limit) {
@@ -152,9 +158,9 @@ fn await_body<I: Source>(
 }
 
 // Reads until the buffer begins with a request, or tells why there is none. What was searched for
-// empty lines or for the end of a prefix isn't searched again. So the cost grows with the bytes that
-// are read, and with those of at most 66 prefixes that are judged behind the empty lines, in whatever
-// pieces they come.
+// empty lines or for the end of a prefix isn't searched again. So the cost grows with the bytes
+// that are read, and with those of at most 66 prefixes that are judged behind the empty lines, in
+// whatever pieces they come.
 pub(crate) fn await_request<I: Source>(
     input: &mut I,
     buffer: &mut Buffer,
@@ -162,11 +168,13 @@ pub(crate) fn await_request<I: Source>(
     limit: u64,
 ) -> Awaited
     requires { taken.old ≤ limit }
-    ensures reads { Reads buffer.old buffer.new (I.left input.old) (I.left input.new) taken.old taken.new }
+    ensures reads { Reads buffer.old buffer.new (I.left input.old) (I.left input.new) taken.old
+        taken.new }
     ensures within { taken.new ≤ limit }
     ensures is { IsAwaited limit buffer.new (I.left input.new) taken.new result }
     ensures later { I.faults input.old ≤ I.faults input.new }
-    ensures fault { result ≡ Awaited.Stopped Stop.NoRead → RoseBy 1 (I.faults input.old) (I.faults input.new) }
+    ensures fault { result ≡ Awaited.Stopped Stop.NoRead
+        → RoseBy 1 (I.faults input.old) (I.faults input.new) }
 {
     match await_head(input, buffer, taken, limit) {
         Awaited::Found(request) => await_body(input, buffer, taken, limit, request),

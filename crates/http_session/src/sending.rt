@@ -8,9 +8,12 @@ use keeper_core::{Sink, SinkRefusal};
 // Writes all of a reply and flushes it.
 pub(crate) fn send<O: Sink>(output: &mut O, reply: &[u8]) -> Result<(), SinkRefusal>
     ensures ok { OnOk result (Appends (O.written output.old) (O.written output.new) reply.now) }
-    ensures flushed { OnOk result (O.flushed output.new ≡ option_map length (O.written output.new)) }
+    ensures flushed { OnOk result
+        (O.flushed output.new ≡ option_map length (O.written output.new)) }
     ensures flushed_stays { OnErr result (O.flushed output.new ≡ O.flushed output.old) }
-    ensures err { OnErr result ((n : ℕ) × (n ≤ length reply.now) × Appends (O.written output.old) (O.written output.new) (take n reply.now)) }
+    ensures err { OnErr result
+        ((n : ℕ) × (n ≤ length reply.now)
+        × Appends (O.written output.old) (O.written output.new) (take n reply.now)) }
     ensures cause { HasRefusalCause (O.faults output.old) (O.faults output.new) result }
 {
     let mut sent = 0;

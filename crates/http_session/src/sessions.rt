@@ -16,10 +16,10 @@ use std::alloc::Global;
 /// taken first, and no other memory is taken here. Each reply is flushed before more is read. Bytes
 /// that are refused have their reply, and a reply that closes the connection is the last one.
 ///
-/// A request's cost grows with its bytes and its reply, in whatever pieces either goes: each byte is
-/// read once and moved once at most, empty lines before a head are passed once, and each of at most
-/// 66 prefixes of the head that end behind them with a line feed or at the limit is judged once, at
-/// a cost of its bytes. Beside it stand the costs of the handler's answers.
+/// A request's cost grows with its bytes and its reply, in whatever pieces either goes: each byte
+/// is read once and moved once at most, empty lines before a head are passed once, and each of at
+/// most 66 prefixes of the head that end behind them with a line feed or at the limit is judged
+/// once, at a cost of its bytes. Beside it stand the costs of the handler's answers.
 pub fn session<H: Handler, K: Keeper, I: Source, O: Sink>(
     alloc: Global,
     world: &mut H::World,
@@ -35,8 +35,10 @@ pub fn session<H: Handler, K: Keeper, I: Source, O: Sink>(
     ensures kept { Tells (K.kept keeper.new) (H.rows world.new) }
     ensures read_later { I.faults input.old ≤ I.faults input.new }
     ensures write_later { O.faults output.old ≤ O.faults output.new }
-    ensures read_fault { result ≡ SessionEnd.ReadFault → RoseBy 1 (I.faults input.old) (I.faults input.new) }
-    ensures write_fault { result ≡ SessionEnd.WriteFault → RoseBy 1 (O.faults output.old) (O.faults output.new) }
+    ensures read_fault { result ≡ SessionEnd.ReadFault
+        → RoseBy 1 (I.faults input.old) (I.faults input.new) }
+    ensures write_fault { result ≡ SessionEnd.WriteFault
+        → RoseBy 1 (O.faults output.old) (O.faults output.new) }
 {
     let Ok(mut buffer) = Buffer::make(alloc) else {
         return SessionEnd::OutOfMemory;

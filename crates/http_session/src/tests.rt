@@ -78,9 +78,15 @@ impl Handler for Echo {
     ghost use Rattle.std.specs.Prelude.{codes, ◌≡◌, ◌<◌, ◌+◌, ◌%◌, ◌++◌, [], ◌∷◌, true};
     ghost use Rattle.api_types.specs.Rows.{no_rows};
 
-    ghost steps = { λ old asked reply new. (old < 10) × (reply ≡ (48 + old) ∷ (asked.body ++ 59 ∷ [])) × (new ≡ (old + 1) % 10) };
+    ghost steps = { λ old asked reply new. (old < 10)
+        × (reply ≡ (48 + old) ∷ (asked.body ++ 59 ∷ [])) × (new ≡ (old + 1) % 10) };
 
-    ghost fixed = { record { store_failed = λ close. codes "store failed;"; no_memory = λ close. codes "no memory;"; refusal = λ n. codes "refused " ++ (48 + n) ∷ 59 ∷ []; changes = λ old asked. true } };
+    ghost fixed = { record {
+      store_failed = λ close. codes "store failed;";
+      no_memory = λ close. codes "no memory;";
+      refusal = λ n. codes "refused " ++ (48 + n) ∷ 59 ∷ [];
+      changes = λ old asked. true;
+    } };
 
     ghost rows = { λ _. no_rows };
 

@@ -25,9 +25,11 @@ pub(crate) enum Turn {
 
 // Sends a reply, and says whether the session goes on.
 fn sent<O: Sink>(output: &mut O, reply: &[u8], close: bool) -> Turn
-    ensures is { IsSent (O.written output.old) (O.written output.new) (O.flushed output.old) (O.flushed output.new) reply.now close result }
+    ensures is { IsSent (O.written output.old) (O.written output.new) (O.flushed output.old)
+        (O.flushed output.new) reply.now close result }
     ensures later { O.faults output.old ≤ O.faults output.new }
-    ensures fault { result ≡ Turn.Ends SessionEnd.WriteFault → RoseBy 1 (O.faults output.old) (O.faults output.new) }
+    ensures fault { result ≡ Turn.Ends SessionEnd.WriteFault
+        → RoseBy 1 (O.faults output.old) (O.faults output.new) }
 {
     match send(output, reply) {
         Ok(()) => {
@@ -58,7 +60,8 @@ fn answered<H: Handler, K: Keeper, O: Sink>(
         (O.written output.old) (O.written output.new) (O.flushed output.old) (O.flushed output.new) request.close result }
     ensures kept { Tells (K.kept keeper.new) (H.rows world.new) }
     ensures later { O.faults output.old ≤ O.faults output.new }
-    ensures fault { result ≡ Turn.Ends SessionEnd.WriteFault → RoseBy 1 (O.faults output.old) (O.faults output.new) }
+    ensures fault { result ≡ Turn.Ends SessionEnd.WriteFault
+        → RoseBy 1 (O.faults output.old) (O.faults output.new) }
 {
     let close = request.close;
     match H::answer(world, alloc, keeper, bytes, request) {
@@ -72,9 +75,11 @@ fn answered<H: Handler, K: Keeper, O: Sink>(
 // Sends the reply of a refusal, which closes the session.
 fn refused<H: Handler, O: Sink>(alloc: Global, output: &mut O, number: u8) -> Turn
     requires { (1 ≤ number) × (number ≤ 4) }
-    ensures is { IsSent (O.written output.old) (O.written output.new) (O.flushed output.old) (O.flushed output.new) (H.fixed.refusal number) true result }
+    ensures is { IsSent (O.written output.old) (O.written output.new) (O.flushed output.old)
+        (O.flushed output.new) (H.fixed.refusal number) true result }
     ensures later { O.faults output.old ≤ O.faults output.new }
-    ensures fault { result ≡ Turn.Ends SessionEnd.WriteFault → RoseBy 1 (O.faults output.old) (O.faults output.new) }
+    ensures fault { result ≡ Turn.Ends SessionEnd.WriteFault
+        → RoseBy 1 (O.faults output.old) (O.faults output.new) }
 {
     let Ok(reply) = H::refusal(alloc, number) else {
         return Turn::Ends(SessionEnd::OutOfMemory);
@@ -102,8 +107,10 @@ pub(crate) fn take_turn<H: Handler, K: Keeper, I: Source, O: Sink>(
     ensures within { taken.new ≤ limit }
     ensures read_later { I.faults input.old ≤ I.faults input.new }
     ensures write_later { O.faults output.old ≤ O.faults output.new }
-    ensures read_fault { result ≡ Turn.Ends SessionEnd.ReadFault → RoseBy 1 (I.faults input.old) (I.faults input.new) }
-    ensures write_fault { result ≡ Turn.Ends SessionEnd.WriteFault → RoseBy 1 (O.faults output.old) (O.faults output.new) }
+    ensures read_fault { result ≡ Turn.Ends SessionEnd.ReadFault
+        → RoseBy 1 (I.faults input.old) (I.faults input.new) }
+    ensures write_fault { result ≡ Turn.Ends SessionEnd.WriteFault
+        → RoseBy 1 (O.faults output.old) (O.faults output.new) }
 {
     match await_request(input, buffer, taken, limit) {
         Awaited::Found(request) => {

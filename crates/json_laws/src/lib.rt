@@ -63,23 +63,36 @@ pub fn values_read_back()
     ensures groups { IsReadBack group_ids (list_of id_word) }
 {}
 
-/// What stands last under a name in a list of members is found under that name in the object that is
-/// printed of them.
+/// What stands last under a name in a list of members is found under that name in the object that
+/// is printed of them.
 pub fn members_are_found()
-    ensures { (name : List ℕ) (members : List NamedTree) → get name (tree_data (fields members)) ≡ option_map tree_data (last_named name members) }
+    ensures { (name : List ℕ) (members : List NamedTree)
+        → get name (tree_data (fields members)) ≡ option_map tree_data (last_named name members) }
 {}
 
-/// What the body of a creation gives of an attribute that is both read and printed, the row that has
-/// it prints, and it is read of what is printed as it was given. Left out are the fixed addresses and
-/// pairs of ports, whose parts the server may choose, and the gateways of routers, which print more
-/// than is read.
+/// What the body of a creation gives of an attribute that is both read and printed, the row that
+/// has it prints, and it is read of what is printed as it was given. Left out are the fixed
+/// addresses and pairs of ports, whose parts the server may choose, and the gateways of routers,
+/// which print more than is read.
 pub fn creations_read_back()
-    ensures networks { (d : Data) (rows : RowLists) (caller : Caller) (r : NetworkRow) → IsNetworkOf (network_form d) rows r → NetworkAgain (network_form d) (network_form (tree_data (fields (network_members rows caller r)))) }
-    ensures subnets { (d : Data) (r : SubnetRow) → IsSubnetOf (subnet_form d) r → SubnetAgain (subnet_form d) (subnet_form (tree_data (fields (subnet_members r)))) }
-    ensures ports { (d : Data) (rows : RowLists) (r : PortRow) → IsPortOf (port_form d) rows r → PortAgain (port_form d) (port_form (tree_data (fields (port_members rows r)))) }
-    ensures groups { (d : Data) (rows : RowLists) (r : GroupRow) → IsGroupOf (group_form d) rows r → GroupAgain (group_form d) (group_form (tree_data (fields (group_members rows r)))) }
-    ensures rules { (d : Data) (r : RuleRow) → IsRuleOf (rule_form d) r → RuleAgain (rule_form d) (rule_form (tree_data (fields (rule_members r)))) }
-    ensures routers { (d : Data) (rows : RowLists) (r : RouterRow) → IsRouterOf (router_form d) rows r → RouterAgain (router_form d) (router_form (tree_data (fields (router_members rows r)))) }
-    ensures floatings { (d : Data) (r : FloatingRow) → IsFloatingOf (floating_form d) r → FloatingAgain (floating_form d) (floating_form (tree_data (fields (floating_members r)))) }
-    ensures policies { (d : Data) (r : PolicyRow) → IsPolicyOf (policy_form d) r → PolicyAgain (policy_form d) (policy_form (tree_data (fields (policy_members r)))) }
+    ensures networks { (d : Data) (rows : RowLists) (caller : Caller) (r : NetworkRow)
+        → IsNetworkOf (network_form d) rows r
+        → NetworkAgain (network_form d)
+        (network_form (tree_data (fields (network_members rows caller r)))) }
+    ensures subnets { (d : Data) (r : SubnetRow) → IsSubnetOf (subnet_form d) r
+        → SubnetAgain (subnet_form d) (subnet_form (tree_data (fields (subnet_members r)))) }
+    ensures ports { (d : Data) (rows : RowLists) (r : PortRow) → IsPortOf (port_form d) rows r
+        → PortAgain (port_form d) (port_form (tree_data (fields (port_members rows r)))) }
+    ensures groups { (d : Data) (rows : RowLists) (r : GroupRow) → IsGroupOf (group_form d) rows r
+        → GroupAgain (group_form d) (group_form (tree_data (fields (group_members rows r)))) }
+    ensures rules { (d : Data) (r : RuleRow) → IsRuleOf (rule_form d) r
+        → RuleAgain (rule_form d) (rule_form (tree_data (fields (rule_members r)))) }
+    ensures routers { (d : Data) (rows : RowLists) (r : RouterRow)
+        → IsRouterOf (router_form d) rows r
+        → RouterAgain (router_form d) (router_form (tree_data (fields (router_members rows r)))) }
+    ensures floatings { (d : Data) (r : FloatingRow) → IsFloatingOf (floating_form d) r
+        → FloatingAgain (floating_form d)
+        (floating_form (tree_data (fields (floating_members r)))) }
+    ensures policies { (d : Data) (r : PolicyRow) → IsPolicyOf (policy_form d) r
+        → PolicyAgain (policy_form d) (policy_form (tree_data (fields (policy_members r)))) }
 {}

@@ -20,7 +20,9 @@ pub(crate) fn put<T: Prints>(
     name: &str,
     value: &T,
 ) -> Result<(), OutOfMemory>
-    ensures { OnOk result (members_view map.new.entries ≡ members_data ((name.now, T.tree value.now) ∷ []) (members_view map.old.entries)) }
+    ensures { OnOk result
+        (members_view map.new.entries
+        ≡ members_data ((name.now, T.tree value.now) ∷ []) (members_view map.old.entries)) }
 {
     let value = value.value(alloc)?;
     serde_json::put(map, alloc, name, value)?;
@@ -35,7 +37,11 @@ fn put_ports(
     sport: u16,
     dport: u16,
 ) -> Result<(), OutOfMemory>
-    ensures { OnOk result (members_view map.new.entries ≡ members_data ((codes "dport", number dport) ∷ (codes "proto", word protocol.now) ∷ (codes "sport", number sport) ∷ []) (members_view map.old.entries)) }
+    ensures { OnOk result
+        (members_view map.new.entries
+        ≡ members_data
+        ((codes "dport", number dport) ∷ (codes "proto", word protocol.now)
+        ∷ (codes "sport", number sport) ∷ []) (members_view map.old.entries)) }
 {
     put(map, alloc, "dport", &dport)?;
     put(map, alloc, "proto", &protocol)?;
@@ -44,7 +50,9 @@ fn put_ports(
 
 // Adds what a packet carries.
 fn put_part(map: &mut Map<String, Value>, alloc: Global, part: KeyPart) -> Result<(), OutOfMemory>
-    ensures { OnOk result (members_view map.new.entries ≡ members_data (part_members part) (members_view map.old.entries)) }
+    ensures { OnOk result
+        (members_view map.new.entries
+        ≡ members_data (part_members part) (members_view map.old.entries)) }
 {
     match part {
         KeyPart::Tcp { sport, dport } => put_ports(map, alloc, "tcp", sport, dport),
@@ -152,7 +160,9 @@ impl Prints for Frame {
 
 // Adds a packet's protocol.
 fn put_kind(map: &mut Map<String, Value>, alloc: Global, kind: KeyKind) -> Result<(), OutOfMemory>
-    ensures { OnOk result (members_view map.new.entries ≡ members_data (kind_members kind) (members_view map.old.entries)) }
+    ensures { OnOk result
+        (members_view map.new.entries
+        ≡ members_data (kind_members kind) (members_view map.old.entries)) }
 {
     match kind {
         KeyKind::Tcp => put(map, alloc, "proto", &"tcp"),

@@ -53,7 +53,8 @@ pub(crate) fn members_of(
     alloc: Global,
     members: &[(Text, Printed)],
 ) -> Result<Map<String, Value>, OutOfMemory>
-    ensures { IfOk result (λ m. members_view m.entries ≡ members_data (map member_of members.now) no_members) }
+    ensures { IfOk result
+        (λ m. members_view m.entries ≡ members_data (map member_of members.now) no_members) }
 {
     let mut map = Map::new(alloc);
     for (name, member) in members {

@@ -29,7 +29,8 @@ fn all_said<T: Item>(alloc: Global, values: &[Value]) -> Result<Option<Seq<T>>, 
 
 // The values of an array.
 fn values_of(value: &Value) -> Option<&[Value]>
-    ensures { option_map (λ s. map view s.now) result ≡ option_map values_of (as_array (view value.now)) }
+    ensures { option_map (λ s. map view s.now) result
+        ≡ option_map values_of (as_array (view value.now)) }
 {
     match value.as_array() {
         None => None,

@@ -91,7 +91,8 @@ impl<W: Write> Sink for WriterSink<W> {
     fn write(&mut self, piece: &[u8]) -> Result<usize, SinkRefusal>
         requires { 0 < length piece.now }
         ensures count { IfOk result (λ n. (0 < n) × (n ≤ length piece.now)) }
-        ensures passes { WriteAppends (W.contents self.old.inner) (W.contents self.new.inner) result piece.now }
+        ensures passes { WriteAppends (W.contents self.old.inner) (W.contents self.new.inner)
+            result piece.now }
         ensures cause { HasRefusalCause self.old.faults self.new.faults result }
     {
         match self.inner.write(piece) {

@@ -28,7 +28,14 @@ impl<I: Source, O: Sink> Model for Book<I, O> {
 
     ghost Value = { DeskTold (I × O) };
 
-    ghost view = { λ b. record { asks = b.asks.items; files = b.files; stores = b.shelf; to_come = b.connections.to_come; returned = b.connections.returned } };
+    ghost view = { λ b.
+        record {
+          asks = b.asks.items;
+          files = b.files;
+          stores = b.shelf;
+          to_come = b.connections.to_come;
+          returned = b.connections.returned;
+        } };
 }
 
 /// Notes an ask, for which there is room.
@@ -61,7 +68,14 @@ impl<I: Source, O: Sink> Book<I, O> {
         to_come: Seq<(I, O)>,
     ) -> Book<I, O>
         requires { IsTrue (are_fresh I.faults O.faults to_come) }
-        ensures { result ≡ record { asks = []; files = files; stores = record { named = stores; unnamed = None; opened = None }; to_come = to_come; returned = Some (record { ended = []; out = 0 }) } }
+        ensures { result
+            ≡ record {
+              asks = [];
+              files = files;
+              stores = record { named = stores; unnamed = None; opened = None };
+              to_come = to_come;
+              returned = Some (record { ended = []; out = 0 });
+            } }
     {
         Book {
             asks: Vec::new(alloc),
@@ -87,7 +101,9 @@ impl<I: Source, O: Sink> Book<I, O> {
 
     /// The connections that were handed back, where they are told.
     pub fn ended(&self) -> Option<&[(I, O)]>
-        ensures { option_map (λ ended. map (end_of I.left I.faults O.written O.flushed O.faults) ended.now) result ≡ option_map (λ returned. returned.ended) self.now.returned }
+        ensures { option_map
+            (λ ended. map (end_of I.left I.faults O.written O.flushed O.faults) ended.now)
+            result ≡ option_map (λ returned. returned.ended) self.now.returned }
     {
         self.connections.ended()
     }
@@ -117,8 +133,12 @@ impl<I: Source, O: Sink> Book<I, O> {
 
     /// Opens a store and answers its rows, or leaves all as it is.
     pub fn open(&mut self, alloc: Global, name: Option<&Text>) -> Result<Rows, OutOfMemory>
-        ensures rows { IfOk result (λ rows. rows ≡ opening_rows (option_copied name.entry) self.old.stores) }
-        ensures ok { OnOk result (self.new ≡ asked (DeskAsk.Store (option_copied name.entry)) (with_stores (opened_as (option_copied name.entry) self.old.stores) self.old)) }
+        ensures rows { IfOk result
+            (λ rows. rows ≡ opening_rows (option_copied name.entry) self.old.stores) }
+        ensures ok { OnOk result
+            (self.new
+            ≡ asked (DeskAsk.Store (option_copied name.entry))
+            (with_stores (opened_as (option_copied name.entry) self.old.stores) self.old)) }
         ensures err { OnErr result (self.new ≡ self.old) }
     {
         let ask = DeskAsk::Store(copied_name(alloc, name)?);
@@ -130,7 +150,8 @@ impl<I: Source, O: Sink> Book<I, O> {
 
     /// Closes the store that is open with these rows. It takes no memory.
     pub fn close(&mut self, rows: Rows)
-        ensures { self.new ≡ with_stores (closed_as self.old.stores.opened rows self.old.stores) self.old }
+        ensures { self.new
+            ≡ with_stores (closed_as self.old.stores.opened rows self.old.stores) self.old }
     {
         self.shelf.close(rows);
     }
@@ -146,7 +167,8 @@ impl<I: Source, O: Sink> Book<I, O> {
 
     /// The next connection, or all stays as it is.
     pub fn next(&mut self) -> Result<Option<(I, O)>, DeskRefusal>
-        ensures fresh { (input : I) (output : O) → result ≡ Ok (Some (input, output)) → (I.faults input ≡ 0) × (O.faults output ≡ 0) }
+        ensures fresh { (input : I) (output : O) → result ≡ Ok (Some (input, output))
+            → (I.faults input ≡ 0) × (O.faults output ≡ 0) }
         ensures to_come { HandsOut result (Some self.old.to_come) (Some self.new.to_come) }
         ensures returned { CountsOut result self.old.returned self.new.returned }
         ensures asks { AddsAsk result DeskAsk.Next (Some self.old.asks) (Some self.new.asks) }
@@ -165,7 +187,9 @@ impl<I: Source, O: Sink> Book<I, O> {
     where
         I: Drop,
         O: Drop,
-        ensures returned { TakesBack self.old.returned (end_of I.left I.faults O.written O.flushed O.faults (input, output)) self.new.returned }
+        ensures returned { TakesBack self.old.returned
+            (end_of I.left I.faults O.written O.flushed O.faults (input, output))
+            self.new.returned }
         ensures others { self.new ≡ with_returned self.new.returned self.old }
     {
         self.connections.take_back(input, output);

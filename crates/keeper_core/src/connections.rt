@@ -27,16 +27,28 @@ impl<I: Source, O: Sink> Model for Connections<I, O> {
 
     ghost Value = { Handed (I × O) };
 
-    ghost view = { λ c. record { to_come = c.to_come.items; returned = if c.told then Some (record { ended = map (end_of I.left I.faults O.written O.flushed O.faults) c.ended.items; out = c.out }) else None } };
+    ghost view = { λ c.
+        record {
+          to_come = c.to_come.items;
+          returned = if c.told
+              then Some
+              (record {
+                ended = map (end_of I.left I.faults O.written O.flushed O.faults)
+                    c.ended.items;
+                out = c.out;
+              }) else None;
+        } };
 
-    ghost invariant = { λ c. (vec_len c.ended + c.out ≤ vec_capacity c.ended) × IsTrue (are_fresh I.faults O.faults c.to_come.items) };
+    ghost invariant = { λ c. (vec_len c.ended + c.out ≤ vec_capacity c.ended)
+        × IsTrue (are_fresh I.faults O.faults c.to_come.items) };
 }
 
 impl<I: Source, O: Sink> Connections<I, O> {
     /// These connections are to come.
     pub fn make(alloc: Global, to_come: Seq<(I, O)>) -> Connections<I, O>
         requires { IsTrue (are_fresh I.faults O.faults to_come) }
-        ensures { result ≡ record { to_come = to_come; returned = Some (record { ended = []; out = 0 }) } }
+        ensures { result
+            ≡ record { to_come = to_come; returned = Some (record { ended = []; out = 0 }) } }
     {
         Connections {
             to_come: VecDeque::from(to_come.into_vec()),
@@ -48,7 +60,9 @@ impl<I: Source, O: Sink> Connections<I, O> {
 
     /// The connections that were handed back, where they are told.
     pub fn ended(&self) -> Option<&[(I, O)]>
-        ensures { option_map (λ ended. map (end_of I.left I.faults O.written O.flushed O.faults) ended.now) result ≡ option_map (λ returned. returned.ended) self.now.returned }
+        ensures { option_map
+            (λ ended. map (end_of I.left I.faults O.written O.flushed O.faults) ended.now)
+            result ≡ option_map (λ returned. returned.ended) self.now.returned }
     {
         if self.told {
             Some(self.ended.as_slice())
@@ -59,7 +73,8 @@ impl<I: Source, O: Sink> Connections<I, O> {
 
     /// The next connection, or all stays as it is.
     pub fn next(&mut self) -> Result<Option<(I, O)>, DeskRefusal>
-        ensures fresh { (input : I) (output : O) → result ≡ Ok (Some (input, output)) → (I.faults input ≡ 0) × (O.faults output ≡ 0) }
+        ensures fresh { (input : I) (output : O) → result ≡ Ok (Some (input, output))
+            → (I.faults input ≡ 0) × (O.faults output ≡ 0) }
         ensures to_come { HandsOut result (Some self.old.to_come) (Some self.new.to_come) }
         ensures returned { CountsOut result self.old.returned self.new.returned }
         ensures sure { IfErr result IsWant }
@@ -81,7 +96,9 @@ impl<I: Source, O: Sink> Connections<I, O> {
         I: Drop,
         O: Drop,
         ensures to_come { self.new.to_come ≡ self.old.to_come }
-        ensures returned { TakesBack self.old.returned (end_of I.left I.faults O.written O.flushed O.faults (input, output)) self.new.returned }
+        ensures returned { TakesBack self.old.returned
+            (end_of I.left I.faults O.written O.flushed O.faults (input, output))
+            self.new.returned }
     {
         if self.ended.len() < self.ended.capacity() {
             self.out = self.out.saturating_sub(1);

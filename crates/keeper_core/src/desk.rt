@@ -47,7 +47,8 @@ pub trait Desk {
     /// The bytes of the settings with this name. A desk that tells its settings gives no bytes for
     /// a name that it hasn't.
     fn settings(&mut self, alloc: Global, name: &Text) -> Result<Bytes, DeskRefusal>
-        ensures bytes { IfOk result (λ bytes. IfSome (files self.old) (λ told. bytes ≡ file_named name.now told)) }
+        ensures bytes { IfOk result
+            (λ bytes. IfSome (files self.old) (λ told. bytes ≡ file_named name.now told)) }
         ensures asks { AddsAsk result (DeskAsk.Settings name.now) (asks self.old) (asks self.new) }
         ensures files { files self.new ≡ files self.old }
         ensures stores { stores self.new ≡ stores self.old }
@@ -60,10 +61,16 @@ pub trait Desk {
     /// with a name that a telling desk hasn't.
     fn store(&mut self, alloc: Global, name: Option<&Text>) -> Result<Self::Store, DeskRefusal>
         ensures fresh { IfOk result (λ store. Self.Store.faults store ≡ 0) }
-        ensures rows { IfOk result (λ store. IfSome (stores self.old) (λ told. Self.Store.kept store ≡ Some (opening_rows (option_copied name.entry) told))) }
-        ensures opened { OnOk result (stores self.new ≡ option_map (opened_as (option_copied name.entry)) (stores self.old)) }
+        ensures rows { IfOk result
+            (λ store.
+            IfSome (stores self.old)
+            (λ told. Self.Store.kept store
+            ≡ Some (opening_rows (option_copied name.entry) told))) }
+        ensures opened { OnOk result
+            (stores self.new ≡ option_map (opened_as (option_copied name.entry)) (stores self.old)) }
         ensures refused { OnErr result (stores self.new ≡ stores self.old) }
-        ensures asks { AddsAsk result (DeskAsk.Store (option_copied name.entry)) (asks self.old) (asks self.new) }
+        ensures asks { AddsAsk result (DeskAsk.Store (option_copied name.entry)) (asks self.old)
+            (asks self.new) }
         ensures files { files self.new ≡ files self.old }
         ensures to_come { to_come self.new ≡ to_come self.old }
         ensures returned { returned self.new ≡ returned self.old }
@@ -74,7 +81,8 @@ pub trait Desk {
     /// name. It takes no memory.
     fn close(&mut self, store: Self::Store)
         ensures stores { Closes (stores self.old) (Self.Store.kept store) (stores self.new) }
-        ensures store_faults { store_faults self.new ≡ min (store_faults self.old + Self.Store.faults store) (2 ^ 64 - 1) }
+        ensures store_faults { store_faults self.new
+            ≡ min (store_faults self.old + Self.Store.faults store) (2 ^ 64 - 1) }
         ensures asks { asks self.new ≡ asks self.old }
         ensures files { files self.new ≡ files self.old }
         ensures to_come { to_come self.new ≡ to_come self.old }
@@ -94,7 +102,8 @@ pub trait Desk {
     /// The first connection to come, which is then no longer to come. None comes exactly where none
     /// is to come.
     fn next(&mut self, alloc: Global) -> Result<Option<(Self::In, Self::Out)>, DeskRefusal>
-        ensures fresh { (input : Self.In) (output : Self.Out) → result ≡ Ok (Some (input, output)) → (Self.In.faults input ≡ 0) × (Self.Out.faults output ≡ 0) }
+        ensures fresh { (input : Self.In) (output : Self.Out) → result ≡ Ok (Some (input, output))
+            → (Self.In.faults input ≡ 0) × (Self.Out.faults output ≡ 0) }
         ensures to_come { HandsOut result (to_come self.old) (to_come self.new) }
         ensures returned { CountsOut result (returned self.old) (returned self.new) }
         ensures asks { AddsAsk result DeskAsk.Next (asks self.old) (asks self.new) }
@@ -104,10 +113,17 @@ pub trait Desk {
         ensures cause { HasRefusalCause (faults self.old) (faults self.new) result };
 
     /// Takes back a connection, which comes last among those that were handed back. It refuses
-    /// nothing and takes no memory. A desk that tells them may stop only where none was out, since it
-    /// keeps room for each that is.
+    /// nothing and takes no memory. A desk that tells them may stop only where none was out, since
+    /// it keeps room for each that is.
     fn done(&mut self, input: Self::In, output: Self::Out)
-        ensures returned { TakesBack (returned self.old) (record { left = Self.In.left input; written = Self.Out.written output; flushed = Self.Out.flushed output; input_faults = Self.In.faults input; output_faults = Self.Out.faults output }) (returned self.new) }
+        ensures returned { TakesBack (returned self.old)
+            (record {
+              left = Self.In.left input;
+              written = Self.Out.written output;
+              flushed = Self.Out.flushed output;
+              input_faults = Self.In.faults input;
+              output_faults = Self.Out.faults output;
+            }) (returned self.new) }
         ensures asks { asks self.new ≡ asks self.old }
         ensures files { files self.new ≡ files self.old }
         ensures stores { stores self.new ≡ stores self.old }

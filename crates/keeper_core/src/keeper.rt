@@ -24,7 +24,8 @@ pub trait Keeper {
     /// Puts a change that fits the kept rows into them, or leaves them as they are.
     fn apply(&mut self, alloc: Global, change: &Change) -> Result<(), KeeperRefusal>
         requires { IfSome (kept self.old) (λ rows. Fits rows change.now) }
-        ensures applied { OnOk result (kept self.new ≡ option_map (λ rows. after rows change.now) (kept self.old)) }
+        ensures applied { OnOk result
+            (kept self.new ≡ option_map (λ rows. after rows change.now) (kept self.old)) }
         ensures unchanged { OnErr result (kept self.new ≡ kept self.old) }
         ensures cause { HasRefusalCause (faults self.old) (faults self.new) result };
 }

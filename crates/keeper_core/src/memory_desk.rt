@@ -37,7 +37,13 @@ impl Model for MemoryDesk {
 
     ghost Value = { FailingDesk (FailingUnread × FailingWritten) };
 
-    ghost view = { λ d. record { told = d.book; calls = d.calls; store_failing = d.store_failing; store_faults = d.store_faults } };
+    ghost view = { λ d.
+        record {
+          told = d.book;
+          calls = d.calls;
+          store_failing = d.store_failing;
+          store_faults = d.store_faults;
+        } };
 }
 
 impl MemoryDesk {
@@ -54,7 +60,15 @@ impl MemoryDesk {
         store_failing: Numbers,
     ) -> Result<MemoryDesk, OutOfMemory>
         requires { IsTrue (fresh_ends connections) }
-        ensures { IfOk result (λ desk. desk ≡ record { told = record { asks = []; files = files; stores = record { named = stores; unnamed = None; opened = None }; to_come = connections; returned = Some (record { ended = []; out = 0 }) }; calls = record { made = 0; failing = failing; faults = 0 }; store_failing = store_failing; store_faults = 0 }) }
+        ensures { IfOk result
+            (λ desk. desk
+            ≡ record {
+              told = record
+                  { asks = []; files = files; stores = record { named = stores; unnamed = None; opened = None }; to_come = connections; returned = Some (record { ended = []; out = 0 }) };
+              calls = record { made = 0; failing = failing; faults = 0 };
+              store_failing = store_failing;
+              store_faults = 0;
+            }) }
     {
         Ok(MemoryDesk {
             book: Book::make(alloc, files, stores, connections),
@@ -81,14 +95,24 @@ impl MemoryDesk {
     /// The connections that were handed back, in order, where they are told. They are until one is
     /// handed back that never was handed out, and for which there is no room.
     pub fn ended(&self) -> Option<&[(MemorySource, MemorySink)]>
-        ensures { option_map (λ ended. map memory_end ended.now) result ≡ option_map (λ returned. returned.ended) self.now.told.returned }
+        ensures { option_map (λ ended. map memory_end ended.now) result
+            ≡ option_map (λ returned. returned.ended) self.now.told.returned }
     {
         self.book.ended()
     }
 
     fn open(&mut self, alloc: Global, name: Option<&Text>) -> Result<MemoryKeeper, OutOfMemory>
-        ensures store { IfOk result (λ store. store ≡ record { rows = opening_rows (option_copied name.entry) self.old.told.stores; calls = record { made = 0; failing = self.old.store_failing; faults = 0 } }) }
-        ensures ok { OnOk result (self.new.told ≡ asked (DeskAsk.Store (option_copied name.entry)) (with_stores (opened_as (option_copied name.entry) self.old.told.stores) self.old.told)) }
+        ensures store { IfOk result
+            (λ store. store
+            ≡ record {
+              rows = opening_rows (option_copied name.entry) self.old.told.stores;
+              calls = record { made = 0; failing = self.old.store_failing; faults = 0 };
+            }) }
+        ensures ok { OnOk result
+            (self.new.told
+            ≡ asked (DeskAsk.Store (option_copied name.entry))
+            (with_stores (opened_as (option_copied name.entry) self.old.told.stores)
+            self.old.told)) }
         ensures err { OnErr result (self.new.told ≡ self.old.told) }
         ensures calls { self.new.calls ≡ self.old.calls }
         ensures store_failing { self.new.store_failing ≡ self.old.store_failing }
@@ -123,8 +147,11 @@ impl Desk for MemoryDesk {
 
     fn settings(&mut self, alloc: Global, name: &Text) -> Result<Bytes, DeskRefusal>
         ensures bytes { IfOk result (λ bytes. bytes ≡ file_named name.now self.old.told.files) }
-        ensures ok { IfOk result (λ _. self.new.told ≡ asked (DeskAsk.Settings name.now) self.old.told) }
-        ensures err { IfErr result (λ refusal. self.new.told ≡ asked_in_vain refusal (DeskAsk.Settings name.now) self.old.told) }
+        ensures ok { IfOk result
+            (λ _. self.new.told ≡ asked (DeskAsk.Settings name.now) self.old.told) }
+        ensures err { IfErr result
+            (λ refusal. self.new.told
+            ≡ asked_in_vain refusal (DeskAsk.Settings name.now) self.old.told) }
         ensures store_failing { self.new.store_failing ≡ self.old.store_failing }
         ensures store_faults { self.new.store_faults ≡ self.old.store_faults }
         ensures calls { self.new.calls ≡ counted self.old.calls }
@@ -139,9 +166,20 @@ impl Desk for MemoryDesk {
     }
 
     fn store(&mut self, alloc: Global, name: Option<&Text>) -> Result<MemoryKeeper, DeskRefusal>
-        ensures store { IfOk result (λ store. store ≡ record { rows = opening_rows (option_copied name.entry) self.old.told.stores; calls = record { made = 0; failing = self.old.store_failing; faults = 0 } }) }
-        ensures ok { IfOk result (λ _. self.new.told ≡ asked (DeskAsk.Store (option_copied name.entry)) (with_stores (opened_as (option_copied name.entry) self.old.told.stores) self.old.told)) }
-        ensures err { IfErr result (λ refusal. self.new.told ≡ asked_in_vain refusal (DeskAsk.Store (option_copied name.entry)) self.old.told) }
+        ensures store { IfOk result
+            (λ store. store
+            ≡ record {
+              rows = opening_rows (option_copied name.entry) self.old.told.stores;
+              calls = record { made = 0; failing = self.old.store_failing; faults = 0 };
+            }) }
+        ensures ok { IfOk result
+            (λ _. self.new.told
+            ≡ asked (DeskAsk.Store (option_copied name.entry))
+            (with_stores (opened_as (option_copied name.entry) self.old.told.stores)
+            self.old.told)) }
+        ensures err { IfErr result
+            (λ refusal. self.new.told
+            ≡ asked_in_vain refusal (DeskAsk.Store (option_copied name.entry)) self.old.told) }
         ensures store_failing { self.new.store_failing ≡ self.old.store_failing }
         ensures store_faults { self.new.store_faults ≡ self.old.store_faults }
         ensures calls { self.new.calls ≡ counted self.old.calls }
@@ -162,8 +200,11 @@ impl Desk for MemoryDesk {
     }
 
     fn listen(&mut self, alloc: Global, address: &Text) -> Result<(), DeskRefusal>
-        ensures ok { IfOk result (λ _. self.new.told ≡ asked (DeskAsk.Listen address.now) self.old.told) }
-        ensures err { IfErr result (λ refusal. self.new.told ≡ asked_in_vain refusal (DeskAsk.Listen address.now) self.old.told) }
+        ensures ok { IfOk result
+            (λ _. self.new.told ≡ asked (DeskAsk.Listen address.now) self.old.told) }
+        ensures err { IfErr result
+            (λ refusal. self.new.told
+            ≡ asked_in_vain refusal (DeskAsk.Listen address.now) self.old.told) }
         ensures store_failing { self.new.store_failing ≡ self.old.store_failing }
         ensures store_faults { self.new.store_faults ≡ self.old.store_faults }
         ensures calls { self.new.calls ≡ counted self.old.calls }
@@ -178,10 +219,14 @@ impl Desk for MemoryDesk {
     }
 
     fn next(&mut self, _alloc: Global) -> Result<Option<(MemorySource, MemorySink)>, DeskRefusal>
-        ensures fresh { (input : FailingUnread) (output : FailingWritten) → result ≡ Ok (Some (input, output)) → (input.calls.faults ≡ 0) × (output.calls.faults ≡ 0) }
-        ensures to_come { HandsOut result (Some self.old.told.to_come) (Some self.new.told.to_come) }
+        ensures fresh { (input : FailingUnread) (output : FailingWritten)
+            → result ≡ Ok (Some (input, output))
+            → (input.calls.faults ≡ 0) × (output.calls.faults ≡ 0) }
+        ensures to_come { HandsOut result (Some self.old.told.to_come)
+            (Some self.new.told.to_come) }
         ensures returned { CountsOut result self.old.told.returned self.new.told.returned }
-        ensures asks { AddsAsk result DeskAsk.Next (Some self.old.told.asks) (Some self.new.told.asks) }
+        ensures asks { AddsAsk result DeskAsk.Next (Some self.old.told.asks)
+            (Some self.new.told.asks) }
         ensures files { self.new.told.files ≡ self.old.told.files }
         ensures stores { self.new.told.stores ≡ self.old.told.stores }
         ensures store_failing { self.new.store_failing ≡ self.old.store_failing }

@@ -90,13 +90,17 @@ impl MemoryKeeper {
     /// A keeper of these rows that fails in the calls with the listed numbers, counted from 1 over
     /// `load` and `apply`.
     pub fn make(_alloc: Global, rows: Rows, failing: Numbers) -> Result<MemoryKeeper, OutOfMemory>
-        ensures { IfOk result (λ k. k ≡ record { rows = rows; calls = record { made = 0; failing = failing; faults = 0 } }) }
+        ensures { IfOk result
+            (λ k. k
+            ≡ record
+            { rows = rows; calls = record { made = 0; failing = failing; faults = 0 } }) }
     {
         Ok(MemoryKeeper::of(rows, failing))
     }
 
     pub(crate) fn of(rows: Rows, failing: Numbers) -> MemoryKeeper
-        ensures { result ≡ record { rows = rows; calls = record { made = 0; failing = failing; faults = 0 } } }
+        ensures { result
+            ≡ record { rows = rows; calls = record { made = 0; failing = failing; faults = 0 } } }
     {
         MemoryKeeper {
             inner: SureKeeper::make(rows),

@@ -37,7 +37,8 @@ impl Model for MemorySink {
 
     ghost Value = { FailingWritten };
 
-    ghost view = { λ s. record { written = s.inner.written; flushed = s.inner.flushed; calls = s.calls } };
+    ghost view = { λ s.
+        record { written = s.inner.written; flushed = s.inner.flushed; calls = s.calls } };
 }
 
 impl SureSink {
@@ -69,7 +70,8 @@ impl Sink for SureSink {
     fn write(&mut self, piece: &[u8]) -> Result<usize, SinkRefusal>
         requires { 0 < length piece.now }
         ensures count { IfOk result (λ n. n ≡ length piece.now) }
-        ensures bytes { WriteAppends (Some self.old.written) (Some self.new.written) result piece.now }
+        ensures bytes { WriteAppends (Some self.old.written) (Some self.new.written) result
+            piece.now }
         ensures flushed { self.new.flushed ≡ self.old.flushed }
         ensures sure { IfErr result IsWant }
     {
@@ -93,7 +95,12 @@ impl MemorySink {
     /// A sink without bytes that fails in the calls with the listed numbers, counted from 1 over
     /// writes and flushes.
     pub fn make(alloc: Global, failing: Numbers) -> MemorySink
-        ensures { result ≡ record { written = []; flushed = 0; calls = record { made = 0; failing = failing; faults = 0 } } }
+        ensures { result
+            ≡ record {
+              written = [];
+              flushed = 0;
+              calls = record { made = 0; failing = failing; faults = 0 };
+            } }
     {
         MemorySink {
             inner: SureSink::make(alloc),
@@ -119,7 +126,8 @@ impl Sink for MemorySink {
     fn write(&mut self, piece: &[u8]) -> Result<usize, SinkRefusal>
         requires { 0 < length piece.now }
         ensures count { IfOk result (λ n. n ≡ length piece.now) }
-        ensures bytes { WriteAppends (Some self.old.written) (Some self.new.written) result piece.now }
+        ensures bytes { WriteAppends (Some self.old.written) (Some self.new.written) result
+            piece.now }
         ensures flushed { self.new.flushed ≡ self.old.flushed }
         ensures cause { HasRefusalCause self.old.calls.faults self.new.calls.faults result }
         ensures calls { self.new.calls ≡ counted self.old.calls }

@@ -79,7 +79,8 @@ impl Source for SureSource {
         ensures bytes { ReadConsumes (Some self.old.left) (Some self.new.left) result buf.new }
         ensures cause { HasCause 0 0 result }
         ensures piece { self.new.piece ≡ self.old.piece }
-        ensures count { result ≡ Ok (min (min self.old.piece (length buf.old)) (length self.old.left)) }
+        ensures count { result
+            ≡ Ok (min (min self.old.piece (length buf.old)) (length self.old.left)) }
     {
         let limit = self.piece.min(buf.len());
         let (_, rest) = self.bytes.as_slice().split_at(self.at);
@@ -94,7 +95,12 @@ impl MemorySource {
     /// with the listed numbers, counted from 1.
     pub fn make(bytes: Bytes, piece: usize, failing: Numbers) -> MemorySource
         requires { 0 < piece }
-        ensures { result ≡ record { left = bytes; piece = piece; calls = record { made = 0; failing = failing; faults = 0 } } }
+        ensures { result
+            ≡ record {
+              left = bytes;
+              piece = piece;
+              calls = record { made = 0; failing = failing; faults = 0 };
+            } }
     {
         MemorySource {
             inner: SureSource::make(bytes, piece),
@@ -114,7 +120,8 @@ impl Source for MemorySource {
         ensures bytes { ReadConsumes (Some self.old.left) (Some self.new.left) result buf.new }
         ensures cause { HasCause self.old.calls.faults self.new.calls.faults result }
         ensures piece { self.new.piece ≡ self.old.piece }
-        ensures count { IfOk result (λ n. n ≡ min (min self.old.piece (length buf.old)) (length self.old.left)) }
+        ensures count { IfOk result
+            (λ n. n ≡ min (min self.old.piece (length buf.old)) (length self.old.left)) }
         ensures calls { self.new.calls ≡ counted self.old.calls }
         ensures fails { IsErr result ↔ IsTrue (fails_next self.old.calls) }
     {

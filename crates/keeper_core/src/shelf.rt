@@ -70,7 +70,8 @@ impl Shelf {
 
     /// Opens a store and answers its rows, or leaves all as it is.
     pub fn open(&mut self, alloc: Global, name: Option<&Text>) -> Result<Rows, OutOfMemory>
-        ensures rows { IfOk result (λ rows. rows ≡ opening_rows (option_copied name.entry) self.old) }
+        ensures rows { IfOk result
+            (λ rows. rows ≡ opening_rows (option_copied name.entry) self.old) }
         ensures ok { OnOk result (self.new ≡ opened_as (option_copied name.entry) self.old) }
         ensures err { OnErr result (self.new ≡ self.old) }
     {

@@ -42,7 +42,15 @@ impl SureDesk {
         stores: NamedRows,
         connections: SureEnds,
     ) -> Result<SureDesk, OutOfMemory>
-        ensures { IfOk result (λ desk. desk ≡ record { asks = []; files = files; stores = record { named = stores; unnamed = None; opened = None }; to_come = connections; returned = Some (record { ended = []; out = 0 }) }) }
+        ensures { IfOk result
+            (λ desk. desk
+            ≡ record {
+              asks = [];
+              files = files;
+              stores = record { named = stores; unnamed = None; opened = None };
+              to_come = connections;
+              returned = Some (record { ended = []; out = 0 });
+            }) }
     {
         Ok(SureDesk {
             book: Book::make(alloc, files, stores, connections),
@@ -66,7 +74,8 @@ impl SureDesk {
     /// The connections that were handed back, in order, where they are told. They are until one is
     /// handed back that never was handed out, and for which there is no room.
     pub fn ended(&self) -> Option<&[(SureSource, SureSink)]>
-        ensures { option_map (λ ended. map sure_end ended.now) result ≡ option_map (λ returned. returned.ended) self.now.returned }
+        ensures { option_map (λ ended. map sure_end ended.now) result
+            ≡ option_map (λ returned. returned.ended) self.now.returned }
     {
         self.book.ended()
     }
@@ -103,8 +112,12 @@ impl Desk for SureDesk {
     }
 
     fn store(&mut self, alloc: Global, name: Option<&Text>) -> Result<SureKeeper, DeskRefusal>
-        ensures rows { IfOk result (λ store. store ≡ opening_rows (option_copied name.entry) self.old.stores) }
-        ensures ok { OnOk result (self.new ≡ asked (DeskAsk.Store (option_copied name.entry)) (with_stores (opened_as (option_copied name.entry) self.old.stores) self.old)) }
+        ensures rows { IfOk result
+            (λ store. store ≡ opening_rows (option_copied name.entry) self.old.stores) }
+        ensures ok { OnOk result
+            (self.new
+            ≡ asked (DeskAsk.Store (option_copied name.entry))
+            (with_stores (opened_as (option_copied name.entry) self.old.stores) self.old)) }
         ensures err { OnErr result (self.new ≡ self.old) }
         ensures sure { IfErr result IsWant }
     {

@@ -84,7 +84,9 @@ fn add_macs(
     host: &Text,
     tags: &TagMap,
 ) -> Result<(), OutOfMemory>
-    ensures { OnOk result (bridge.new.items ≡ bridge.old.items ++ filter_map (mac_row rows.now host.now tags.now) rows.now.ports) }
+    ensures { OnOk result
+        (bridge.new.items
+        ≡ bridge.old.items ++ filter_map (mac_row rows.now host.now tags.now) rows.now.ports) }
 {
     for port in rows.ports().rows() {
         let key = BridgeKey::Mac(port.mac);
@@ -118,7 +120,10 @@ fn add_dhcp(
     host: &Text,
     tags: &TagMap,
 ) -> Result<(), OutOfMemory>
-    ensures { OnOk result (bridge.new.items ≡ bridge.old.items ++ filter_map (dhcp_row_of rows.now host.now tags.now) rows.now.ports) }
+    ensures { OnOk result
+        (bridge.new.items
+        ≡ bridge.old.items
+        ++ filter_map (dhcp_row_of rows.now host.now tags.now) rows.now.ports) }
 {
     for port in rows.ports().rows() {
         if let Some(row) = dhcp_row(alloc, rows, host, tags, port)? {

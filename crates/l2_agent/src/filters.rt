@@ -35,7 +35,8 @@ fn add_rules(
     port: &PortRow,
     rules: &[&RuleRow],
 ) -> Result<(), OutOfMemory>
-    ensures { OnOk result (filters.new ≡ filters.old ++ map (filter_of_rule port.now) (map (λ r. r.now) rules.now)) }
+    ensures { OnOk result
+        (filters.new ≡ filters.old ++ map (filter_of_rule port.now) (map (λ r. r.now) rules.now)) }
 {
     for rule in rules {
         let _prefix = rule.remote_prefix;
@@ -52,7 +53,8 @@ fn add_group(
     port: &PortRow,
     group: &GroupRow,
 ) -> Result<(), OutOfMemory>
-    ensures { OnOk result (filters.new ≡ filters.old ++ filter_map (filter_by port.now group.now) ruled.now.rules) }
+    ensures { OnOk result
+        (filters.new ≡ filters.old ++ filter_map (filter_by port.now group.now) ruled.now.rules) }
 {
     match ruled.rules_of(group.id) {
         Some(rules) => add_rules(filters, port, rules.as_slice()),
@@ -62,7 +64,8 @@ fn add_group(
 
 // Adds a place.
 fn mark(places: &mut BTreeSet<usize>, place: usize) -> Result<(), OutOfMemory>
-    ensures { OnOk result ((p : ℕ) → contains nat_cmp places.new p ≡ ((place == p) || contains nat_cmp places.old p)) }
+    ensures { OnOk result
+        ((p : ℕ) → contains nat_cmp places.new p ≡ ((place == p) || contains nat_cmp places.old p)) }
 {
     places.insert(place)?;
     Ok(())
@@ -74,7 +77,8 @@ fn take_least(places: &mut BTreeSet<usize>) -> Option<usize>
     ensures member { IfSome result (λ k. contains nat_cmp places.old k ≡ true) }
     ensures least { IfSome result (λ k. (p : ℕ) → p < k → contains nat_cmp places.old p ≡ false) }
     ensures gone { IfSome result (λ k. (p : ℕ) → p ≤ k → contains nat_cmp places.new p ≡ false) }
-    ensures rest { IfSome result (λ k. (p : ℕ) → k < p → contains nat_cmp places.new p ≡ contains nat_cmp places.old p) }
+    ensures rest { IfSome result
+        (λ k. (p : ℕ) → k < p → contains nat_cmp places.new p ≡ contains nat_cmp places.old p) }
     ensures fewer { IfSome result (λ k. length places.new.keys < length places.old.keys) }
 {
     places.pop_first()
@@ -82,7 +86,8 @@ fn take_least(places: &mut BTreeSet<usize>) -> Option<usize>
 
 // The places of the groups with these ids.
 fn places_named(alloc: Global, ruled: &Ruled, ids: &[Id]) -> Result<BTreeSet<usize>, OutOfMemory>
-    ensures { IfOk result (λ s. (p : ℕ) → contains nat_cmp s p ≡ is_named ruled.now.groups ids.now p) }
+    ensures { IfOk result
+        (λ s. (p : ℕ) → contains nat_cmp s p ≡ is_named ruled.now.groups ids.now p) }
 {
     let mut places = BTreeSet::new(alloc);
     let mut left = ids.len();
@@ -110,7 +115,9 @@ fn add_groups(
     places: BTreeSet<usize>,
 ) -> Result<(), OutOfMemory>
     requires { (p : ℕ) → contains nat_cmp places p ≡ is_named ruled.now.groups port.now.groups p }
-    ensures { OnOk result (filters.new ≡ filters.old ++ flat_map (filters_of_group ruled.now port.now) ruled.now.groups) }
+    ensures { OnOk result
+        (filters.new
+        ≡ filters.old ++ flat_map (filters_of_group ruled.now port.now) ruled.now.groups) }
 {
     let groups = ruled.rows().groups().rows();
     let mut places = places;
@@ -144,7 +151,8 @@ fn add_ports(
     ruled: &Ruled,
     host: &Text,
 ) -> Result<(), OutOfMemory>
-    ensures { OnOk result (filters.new ≡ filters.old ++ flat_map (filters_of ruled.now host.now) ruled.now.ports) }
+    ensures { OnOk result
+        (filters.new ≡ filters.old ++ flat_map (filters_of ruled.now host.now) ruled.now.ports) }
 {
     for port in ruled.rows().ports().rows() {
         add_port(alloc, filters, ruled, host, port)?;

@@ -17,7 +17,11 @@ fn add_addresses(
     mac: Mac,
     fixed: &[Fixed],
 ) -> Result<(), OutOfMemory>
-    ensures { OnOk result (neighbours.new.items ≡ neighbours.old.items ++ map (λ (f : TheFixed). record { tag = tag; address = f.address; mac = mac }) fixed.now) }
+    ensures { OnOk result
+        (neighbours.new.items
+        ≡ neighbours.old.items
+        ++ map (λ (f : TheFixed). record { tag = tag; address = f.address; mac = mac })
+        fixed.now) }
 {
     for held in fixed {
         neighbours.push(NeighbourRow {
@@ -37,7 +41,9 @@ fn add_port(
     tags: &TagMap,
     port: &PortRow,
 ) -> Result<(), OutOfMemory>
-    ensures { OnOk result (neighbours.new.items ≡ neighbours.old.items ++ neighbours_of rows.now host.now tags.now port.now) }
+    ensures { OnOk result
+        (neighbours.new.items
+        ≡ neighbours.old.items ++ neighbours_of rows.now host.now tags.now port.now) }
 {
     if !(is_live(rows, port) && is_joined(rows, port, host)) {
         return Ok(());
@@ -54,7 +60,10 @@ fn add_ports(
     host: &Text,
     tags: &TagMap,
 ) -> Result<(), OutOfMemory>
-    ensures { OnOk result (neighbours.new.items ≡ neighbours.old.items ++ flat_map (neighbours_of rows.now host.now tags.now) rows.now.ports) }
+    ensures { OnOk result
+        (neighbours.new.items
+        ≡ neighbours.old.items
+        ++ flat_map (neighbours_of rows.now host.now tags.now) rows.now.ports) }
 {
     for port in rows.ports().rows() {
         add_port(neighbours, rows, host, tags, port)?;
@@ -89,7 +98,10 @@ fn add_floatings(
     host: &Text,
     tags: &TagMap,
 ) -> Result<(), OutOfMemory>
-    ensures { OnOk result (neighbours.new.items ≡ neighbours.old.items ++ filter_map (floating_neighbour rows.now host.now tags.now) rows.now.floatings) }
+    ensures { OnOk result
+        (neighbours.new.items
+        ≡ neighbours.old.items
+        ++ filter_map (floating_neighbour rows.now host.now tags.now) rows.now.floatings) }
 {
     for floating in rows.floatings().rows() {
         let _address = Addr::V4(floating.address);

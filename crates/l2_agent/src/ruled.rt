@@ -36,7 +36,11 @@ impl<'r> Model for Ruled<'r> {
 
     ghost view = { λ r. r.rows.now };
 
-    ghost invariant = { λ r. ((n : Ident) → get ident_eq r.places n ≡ place_from 0 r.rows.now.groups n) × ((g : Ident) → elim (get ident_eq r.rules g) [ None ↦ [] | Some v ↦ map (λ x. x.now) v.items ] ≡ filter (is_of g) r.rows.now.rules) };
+    ghost invariant = { λ r.
+        ((n : Ident) → get ident_eq r.places n ≡ place_from 0 r.rows.now.groups n)
+        × ((g : Ident)
+        → elim (get ident_eq r.rules g) [ None ↦ [] | Some v ↦ map (λ x. x.now) v.items ]
+        ≡ filter (is_of g) r.rows.now.rules) };
 }
 
 // The place of each group, from the last to the first.
@@ -59,8 +63,11 @@ fn taken<'r>(
     by_group: &mut HashMap<Id, Vec<&'r RuleRow>>,
     group: Id,
 ) -> Vec<&'r RuleRow>
-    ensures listed { map (λ r. r.now) result.items ≡ elim (get ident_eq by_group.old group) [ None ↦ [] | Some v ↦ map (λ r. r.now) v.items ] }
-    ensures rest { (q : Ident) → get ident_eq by_group.new q ≡ if ident_eq group q then None else get ident_eq by_group.old q }
+    ensures listed { map (λ r. r.now) result.items
+        ≡ elim (get ident_eq by_group.old group) [ None ↦ [] | Some v ↦ map (λ r. r.now) v.items ] }
+    ensures rest { (q : Ident)
+        → get ident_eq by_group.new q ≡ if ident_eq group q then None
+        else get ident_eq by_group.old q }
 {
     match by_group.remove(&group) {
         Some(rules) => rules,
@@ -74,7 +81,12 @@ fn add_rule<'r>(
     by_group: &mut HashMap<Id, Vec<&'r RuleRow>>,
     rule: &'r RuleRow,
 ) -> Result<(), OutOfMemory>
-    ensures { OnOk result ((q : Ident) → elim (get ident_eq by_group.new q) [ None ↦ [] | Some v ↦ map (λ r. r.now) v.items ] ≡ elim (get ident_eq by_group.old q) [ None ↦ [] | Some v ↦ map (λ r. r.now) v.items ] ++ (if ident_eq rule.now.group q then rule.now ∷ [] else [])) }
+    ensures { OnOk result
+        ((q : Ident)
+        → elim (get ident_eq by_group.new q) [ None ↦ [] | Some v ↦ map (λ r. r.now) v.items ]
+        ≡ elim (get ident_eq by_group.old q)
+        [ None ↦ [] | Some v ↦ map (λ r. r.now) v.items ]
+        ++ (if ident_eq rule.now.group q then rule.now ∷ [] else [])) }
 {
     let mut rules = taken(alloc, by_group, rule.group);
     rules.push(rule)?;
@@ -87,7 +99,10 @@ fn rules_by_group<'r>(
     alloc: Global,
     rules: &'r [Shared<RuleRow>],
 ) -> Result<HashMap<Id, Vec<&'r RuleRow>>, OutOfMemory>
-    ensures { IfOk result (λ m. (q : Ident) → elim (get ident_eq m q) [ None ↦ [] | Some v ↦ map (λ r. r.now) v.items ] ≡ filter (is_of q) rules.now) }
+    ensures { IfOk result
+        (λ m. (q : Ident)
+        → elim (get ident_eq m q) [ None ↦ [] | Some v ↦ map (λ r. r.now) v.items ]
+        ≡ filter (is_of q) rules.now) }
 {
     let mut by_group = HashMap::new(alloc);
     for rule in rules {
@@ -124,7 +139,8 @@ impl<'r> Ruled<'r> {
 
     /// The rules of a group, in order of creation.
     pub(crate) fn rules_of(&self, group: Id) -> Option<&Vec<&'r RuleRow>>
-        ensures { elim (option_copied result) [ None ↦ [] | Some v ↦ map (λ r. r.now) v.items ] ≡ filter (is_of group) self.now.rules }
+        ensures { elim (option_copied result) [ None ↦ [] | Some v ↦ map (λ r. r.now) v.items ]
+            ≡ filter (is_of group) self.now.rules }
     {
         self.rules.get(&group)
     }

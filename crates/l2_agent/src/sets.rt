@@ -17,7 +17,10 @@ use std::collections::HashSet;
 
 // The groups that filters name as remote ones, from the last to the first.
 fn remote_groups(alloc: Global, filters: &[FilterRow]) -> Result<HashSet<Id>, OutOfMemory>
-    ensures { IfOk result (λ s. (g : Ident) → contains ident_eq s g ≡ list_any (λ (r : TheFilter). names_remote g r.remote_group) filters.now) }
+    ensures { IfOk result
+        (λ s. (g : Ident)
+        → contains ident_eq s g
+        ≡ list_any (λ (r : TheFilter). names_remote g r.remote_group) filters.now) }
 {
     let mut remote = HashSet::new(alloc);
     let mut left = filters.len();
@@ -32,7 +35,9 @@ fn remote_groups(alloc: Global, filters: &[FilterRow]) -> Result<HashSet<Id>, Ou
 }
 
 fn add_prefixes(sets: &mut Seq<SetRow>, group: Id, prefixes: &[Prefix]) -> Result<(), OutOfMemory>
-    ensures { OnOk result (sets.new ≡ sets.old ++ map (λ (p : Prefix). record { group = group; prefix = p }) prefixes.now) }
+    ensures { OnOk result
+        (sets.new
+        ≡ sets.old ++ map (λ (p : Prefix). record { group = group; prefix = p }) prefixes.now) }
 {
     for prefix in prefixes {
         sets.push(SetRow {
@@ -51,7 +56,9 @@ fn add_set(
     remote: &HashSet<Id>,
     group: &GroupRow,
 ) -> Result<(), OutOfMemory>
-    ensures { OnOk result (sets.new ≡ sets.old ++ set_if rows.now (contains ident_eq remote.now group.now.id) group.now) }
+    ensures { OnOk result
+        (sets.new
+        ≡ sets.old ++ set_if rows.now (contains ident_eq remote.now group.now.id) group.now) }
 {
     if !remote.contains(&group.id) {
         return Ok(());

@@ -29,7 +29,12 @@ fn add_network(
     host: &Text,
     port: &PortRow,
 ) -> Result<(), OutOfMemory>
-    ensures { OnOk result ((n : Ident) → contains ident_eq networks.new n ≡ (contains ident_eq networks.old n || (ident_eq n port.now.network && is_here_by_rows rows.now host.now port.now))) }
+    ensures { OnOk result
+        ((n : Ident)
+        → contains ident_eq networks.new n
+        ≡ (contains ident_eq networks.old n
+        || (ident_eq n port.now.network
+        && is_here_by_rows rows.now host.now port.now))) }
 {
     if is_here(rows, host, port) {
         networks.insert(port.network)?;
@@ -39,7 +44,12 @@ fn add_network(
 
 // The networks of the live ports of the host.
 fn networks_here(alloc: Global, rows: &Rows, host: &Text) -> Result<HashSet<Id>, OutOfMemory>
-    ensures { IfOk result (λ s. (n : Ident) → contains ident_eq s n ≡ list_any (λ (p : ThePort). ident_eq n p.network && is_here_by_rows rows.now host.now p) rows.now.ports) }
+    ensures { IfOk result
+        (λ s. (n : Ident)
+        → contains ident_eq s n
+        ≡ list_any
+        (λ (p : ThePort). ident_eq n p.network && is_here_by_rows rows.now host.now p)
+        rows.now.ports) }
 {
     let mut networks = HashSet::new(alloc);
     for port in rows.ports().rows() {
@@ -84,7 +94,9 @@ fn tagged(alloc: Global, rows: &Rows, host: &Text) -> Result<Vec<Id>, OutOfMemor
 // The tags that these networks had.
 #[tactic(auto, unfolding(plane_types::specs::Retagged::kept_tags))]
 fn kept_tags(alloc: Global, old: &TagMap, networks: &[Id]) -> Result<HashSet<u16>, OutOfMemory>
-    ensures { IfOk result (λ s. (t : ℕ) → contains nat_eq s t ≡ list_any (λ k. k == t) (kept_of old.now networks.now)) }
+    ensures { IfOk result
+        (λ s. (t : ℕ)
+        → contains nat_eq s t ≡ list_any (λ k. k == t) (kept_of old.now networks.now)) }
 {
     let mut kept = HashSet::new(alloc);
     let mut left = networks.len();
@@ -122,7 +134,8 @@ fn next_free(kept: &HashSet<u16>, from: u16) -> u16
 // which the free ones are then left.
 fn next_tag(old: &TagMap, kept: &HashSet<u16>, network: Id, free: u16) -> (Option<u16>, u16)
     requires { free ≤ 4095 }
-    ensures given { option_map (λ t. (t, free_from kept.now result.1)) result.0 ≡ next_of (tag_given old.now network) (free_from kept.now free) }
+    ensures given { option_map (λ t. (t, free_from kept.now result.1)) result.0
+        ≡ next_of (tag_given old.now network) (free_from kept.now free) }
     ensures none { IfNone result.0 (free_from kept.now result.1 ≡ free_from kept.now free) }
     ensures within { result.1 ≤ 4095 }
 {
@@ -146,7 +159,8 @@ fn in_turn(
     kept: &HashSet<u16>,
     networks: &[Id],
 ) -> Result<Tags, OutOfMemory>
-    ensures { IfOk result (λ t. t ≡ given_in_turn rows.now old.now (free_from kept.now 1) networks.now) }
+    ensures { IfOk result
+        (λ t. t ≡ given_in_turn rows.now old.now (free_from kept.now 1) networks.now) }
 {
     let mut tags = Seq::new(alloc);
     let mut free = 1;

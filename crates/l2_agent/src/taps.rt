@@ -19,7 +19,11 @@ pub(crate) fn is_tap(rows: &Rows, host: &Text, port: &PortRow) -> bool
 
 // Adds a pair of the MAC and each of these addresses.
 fn add_addresses(allowed: &mut Seq<Pair>, mac: Mac, fixed: &[Fixed]) -> Result<(), OutOfMemory>
-    ensures { OnOk result (allowed.new ≡ allowed.old ++ map (λ (f : TheFixed). record { mac = mac; prefix = whole_prefix f.address }) fixed.now) }
+    ensures { OnOk result
+        (allowed.new
+        ≡ allowed.old
+        ++ map (λ (f : TheFixed). record { mac = mac; prefix = whole_prefix f.address })
+        fixed.now) }
 {
     for held in fixed {
         allowed.push(Pair {

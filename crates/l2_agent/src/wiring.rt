@@ -28,14 +28,15 @@ pub struct L2Tables {
     pub neighbours: Ascending<NeighbourRow>,
 }
 
-/// The tables of a host whose tags were these: each is the list that the rows and the new tags give.
+/// The tables of a host whose tags were these: each is the list that the rows and the new tags
+/// give.
 ///
 /// A network keeps its tag while a live port of it is on the host, and the others take the least
 /// free ones, in order of creation. Where the old tags were different ones from 1 to 4,094 and the
 /// rows are consistent, each of these networks has a tag of its own. The cost grows with the
 /// networks, the ports, the groups, the rules, the floating addresses and the old tags; with the
-/// routers' ports here times the routers, and the groups that filters name times the ports; and with
-/// what is written and the logarithm of its length.
+/// routers' ports here times the routers, and the groups that filters name times the ports; and
+/// with what is written and the logarithm of its length.
 pub fn wire_ports(
     alloc: Global,
     rows: &Rows,
@@ -43,13 +44,15 @@ pub fn wire_ports(
     old: &Tags,
 ) -> Result<L2Tables, OutOfMemory>
     ensures tags { IfOk result (λ t. t.tags ≡ retagged_by_rows rows.now host.now old.now) }
-    ensures realised { AreTags old.now → IsConsistent rows.now → IfOk result (λ t. RealisesTags rows.now host.now t.tags) }
+    ensures realised { AreTags old.now → IsConsistent rows.now
+        → IfOk result (λ t. RealisesTags rows.now host.now t.tags) }
     ensures taps { IfOk result (λ t. t.taps ≡ tap_rows_of rows.now host.now t.tags) }
     ensures filters { IfOk result (λ t. t.filters ≡ filter_rows_of rows.now host.now) }
     ensures sets { IfOk result (λ t. t.sets ≡ set_rows_of rows.now t.filters) }
     ensures bridge { IfOk result (λ t. t.bridge ≡ bridge_rows_of rows.now host.now t.tags) }
     ensures inward { IfOk result (λ t. t.inward ≡ inward_rows_of rows.now t.tags) }
-    ensures neighbours { IfOk result (λ t. t.neighbours ≡ neighbour_rows_of rows.now host.now t.tags) }
+    ensures neighbours { IfOk result
+        (λ t. t.neighbours ≡ neighbour_rows_of rows.now host.now t.tags) }
 {
     let tags = retagged(alloc, rows, host, old.as_slice())?;
     let taps = tap_rows(alloc, rows, host, tags.as_slice())?;

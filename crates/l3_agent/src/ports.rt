@@ -76,7 +76,8 @@ pub(crate) fn router_ports(
     tags: &[TagRow],
     router: &RouterRow,
 ) -> Result<Seq<RouterPort>, OutOfMemory>
-    ensures { IfOk result (λ p. p ≡ filter_map (tagged_by rows.now tags.now) (legs_of rows.now router.now)) }
+    ensures { IfOk result
+        (λ p. p ≡ filter_map (tagged_by rows.now tags.now) (legs_of rows.now router.now)) }
 {
     let mut ports = Seq::new(alloc);
     for port in rows.ports().rows() {

@@ -16,7 +16,9 @@ fn add_router(
     rows: &Rows,
     router: &RouterRow,
 ) -> Result<(), OutOfMemory>
-    ensures { OnOk result (routes.new ≡ routes.old ++ map (route_row router.now.id) (ways_by_rows rows.now router.now)) }
+    ensures { OnOk result
+        (routes.new
+        ≡ routes.old ++ map (route_row router.now.id) (ways_by_rows rows.now router.now)) }
 {
     let ways = ways_of(alloc, rows, router)?;
     for way in ways.as_slice() {

@@ -21,14 +21,14 @@ pub struct L3Tables {
 /// rows and the tags give.
 ///
 /// A router has a row where it names the host, whatever its administrative state, with those of its
-/// live ports whose networks have a tag. Its routes lead to the subnets of its live ports, then come
-/// its extra ones, then while its gateway port is live the default ones, for the addresses of that
-/// port in ascending order; its floating addresses are
-/// the associated ones (`routers` and `floatingips` of the Networking API). Rows are in the order of
-/// creation of what they come from. The cost grows with the floating addresses and the routers; for
-/// each router of the host with the ports, and for each of its live ports with the tags and the
-/// port's addresses; and with what `plane_rows::ways_of` costs for it, which grows with its
-/// addresses and extra routes times the ports.
+/// live ports whose networks have a tag. Its routes lead to the subnets of its live ports, then
+/// come its extra ones, then while its gateway port is live the default ones, for the addresses of
+/// that port in ascending order; its floating addresses are the associated ones (`routers` and
+/// `floatingips` of the Networking API). Rows are in the order of creation of what they come from.
+/// The cost grows with the floating addresses and the routers; for each router of the host with the
+/// ports, and for each of its live ports with the tags and the port's addresses; and with what
+/// `plane_rows::ways_of` costs for it, which grows with its addresses and extra routes times the
+/// ports.
 pub fn wire_routers(
     alloc: Global,
     rows: &Rows,

@@ -49,8 +49,11 @@ pub(crate) fn keep_all(nodes: &mut [AgentNode], fresh: &[Made])
 // Adds what the host at this place made.
 fn add_made(node: &mut AgentNode, at: usize, fresh: &[Made])
     requires room { length fresh.now ≤ node.old.spare }
-    requires placed { IsPlaced (host_of (with_entries node.old (node.old.entries ++ filter_map (made_at at) fresh.now) 0)) }
-    ensures { node.new ≡ with_entries node.old (node.old.entries ++ filter_map (made_at at) fresh.now) node.new.spare }
+    requires placed { IsPlaced
+        (host_of (with_entries node.old (node.old.entries ++ filter_map (made_at at) fresh.now) 0)) }
+    ensures { node.new
+        ≡ with_entries node.old (node.old.entries ++ filter_map (made_at at) fresh.now)
+        node.new.spare }
 {
     for made in fresh {
         if made.host == Some(at) {

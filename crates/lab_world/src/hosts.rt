@@ -41,8 +41,8 @@ impl Hosts {
         }
     }
 
-    /// Adds a host at the end, which is given its first rows, or leaves all as it is. Its cost is that
-    /// of wiring and of a copy of the rows.
+    /// Adds a host at the end, which is given its first rows, or leaves all as it is. Its cost is
+    /// that of wiring and of a copy of the rows.
     pub fn add(
         &mut self,
         alloc: Global,
@@ -51,7 +51,8 @@ impl Hosts {
         version: u64,
     ) -> Result<(), OutOfMemory>
         requires { IsConsistent rows.now }
-        ensures ok { OnOk result ((spare : ℕ) × (self.new ≡ self.old ++ started host version rows.now spare ∷ [])) }
+        ensures ok { OnOk result
+            ((spare : ℕ) × (self.new ≡ self.old ++ started host version rows.now spare ∷ [])) }
         ensures err { OnErr result (self.new ≡ self.old) }
     {
         let node = AgentNode::make(alloc, host, rows, version)?;
@@ -59,8 +60,8 @@ impl Hosts {
         Ok(())
     }
 
-    /// What each host would be given with these rows. All stays as it is. Its cost is that of wiring
-    /// each host, and of a copy of the rows for each.
+    /// What each host would be given with these rows. All stays as it is. Its cost is that of
+    /// wiring each host, and of a copy of the rows for each.
     pub fn prepare(
         &self,
         alloc: Global,
@@ -94,8 +95,8 @@ impl Hosts {
         reserve_all(alloc, self.nodes.as_mut_slice())
     }
 
-    /// Adds the entries that an event made, each at the host that made it. It takes no memory. Its cost
-    /// grows with these entries times the hosts.
+    /// Adds the entries that an event made, each at the host that made it. It takes no memory. Its
+    /// cost grows with these entries times the hosts.
     pub fn keep(&mut self, fresh: &[Made])
         requires room { Each (λ (n : Node). length fresh.now ≤ n.spare) self.old }
         requires placed { Each IsPlaced (kept (map host_of self.old) fresh.now) }
@@ -106,7 +107,8 @@ impl Hosts {
 
     /// The entries of all hosts, in their order. Its cost grows with them.
     pub fn all_entries(&self, alloc: Global) -> Result<Entries, OutOfMemory>
-        ensures { IfOk result (λ entries. entries.items ≡ flat_map (λ (n : Node). n.entries) self.now) }
+        ensures { IfOk result
+            (λ entries. entries.items ≡ flat_map (λ (n : Node). n.entries) self.now) }
     {
         let mut entries = Entries::new(alloc);
         for node in &self.nodes {
@@ -117,7 +119,9 @@ impl Hosts {
 
     /// Each host, and the version that it holds.
     pub fn states(&self, alloc: Global) -> Result<Seq<HostState>, OutOfMemory>
-        ensures { IfOk result (λ states. states ≡ map (λ (n : Node). record { name = n.name; held = n.held }) self.now) }
+        ensures { IfOk result
+            (λ states. states
+            ≡ map (λ (n : Node). record { name = n.name; held = n.held }) self.now) }
     {
         let mut states = Seq::new(alloc);
         for node in &self.nodes {
@@ -131,7 +135,9 @@ impl Hosts {
 
     /// The tables of the host with this name, which are those that its rows give to it.
     pub fn tables_of(&self, name: &Text) -> Option<&HostTables>
-        ensures { option_copied result ≡ option_map (λ (n : Node). n.tables) (find (λ (n : Node). is_named name.now (host_of n)) self.now) }
+        ensures { option_copied result
+            ≡ option_map (λ (n : Node). n.tables)
+            (find (λ (n : Node). is_named name.now (host_of n)) self.now) }
     {
         for node in &self.nodes {
             if *name == *node.host() {

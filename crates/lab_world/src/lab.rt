@@ -19,7 +19,8 @@ use std::alloc::Global;
 /// Refuses a caller who is no administrator.
 pub(crate) fn bar_tenant(caller: &Caller) -> Result<(), Refusal>
     ensures ok { OnOk result (caller.now.admin ≡ true) }
-    ensures err { IfErr result (λ refusal. (caller.now.admin ≡ false) × (refusal ≡ ForbiddenBy ForAdmins)) }
+    ensures err { IfErr result
+        (λ refusal. (caller.now.admin ≡ false) × (refusal ≡ ForbiddenBy ForAdmins)) }
 {
     if caller.admin {
         Ok(())
@@ -39,8 +40,8 @@ fn no_port(alloc: Global, port: Id) -> Result<Refusal, OutOfMemory>
     })
 }
 
-/// Refuses an event whose port isn't there or isn't seen, whose caller is no administrator, or whose
-/// physical network carries none so.
+/// Refuses an event whose port isn't there or isn't seen, whose caller is no administrator, or
+/// whose physical network carries none so.
 pub(crate) fn bar_event(
     alloc: Global,
     rows: &Rows,
@@ -48,7 +49,9 @@ pub(crate) fn bar_event(
     event: &Event,
 ) -> Result<(), Refusal>
     ensures ok { OnOk result (event_refusal rows.now caller.now event.now ≡ None) }
-    ensures err { IfErr result (λ refusal. (refusal ≡ Refusal.OutOfMemory) ⊎ (event_refusal rows.now caller.now event.now ≡ Some refusal)) }
+    ensures err { IfErr result
+        (λ refusal. (refusal ≡ Refusal.OutOfMemory)
+        ⊎ (event_refusal rows.now caller.now event.now ≡ Some refusal)) }
 {
     match event {
         Event::FromPort { port, .. } => {
@@ -71,8 +74,15 @@ pub(crate) fn bar_event(
 
 /// The tables of the host with this name.
 pub(crate) fn tables_of(alloc: Global, hosts: &Hosts, name: &Text) -> Result<LabAnswer, Refusal>
-    ensures ok { IfOk result (λ answer. tables_told name.now (map host_of hosts.now) (find (is_named name.now) (map host_of hosts.now)) ≡ Answered answer (map host_of hosts.now)) }
-    ensures err { IfErr result (IsBarred (tables_told name.now (map host_of hosts.now) (find (is_named name.now) (map host_of hosts.now)))) }
+    ensures ok { IfOk result
+        (λ answer.
+        tables_told name.now (map host_of hosts.now)
+        (find (is_named name.now) (map host_of hosts.now))
+        ≡ Answered answer (map host_of hosts.now)) }
+    ensures err { IfErr result
+        (IsBarred
+        (tables_told name.now (map host_of hosts.now)
+        (find (is_named name.now) (map host_of hosts.now)))) }
 {
     match hosts.tables_of(name) {
         Some(tables) => Ok(LabAnswer::Tables(tables.copy(alloc)?)),

@@ -12,23 +12,31 @@ ghost use Rattle.api_steps.specs.Footing.{footing};
 ghost use Rattle.lab_world.specs.Lab.{WorldState};
 ghost use Rattle.lab_world.specs.World.{HoldsRows, IsAskInForm, ask_outcome, fresh_world, told_of, world_after};
 
-/// A tenant, whose project has a name, is told the same of each ask, of the Networking API and of the lab, at any two servers
-/// with consistent rows in which it has the same footing. Hosts, their tables and their entries have
-/// no part in it.
+/// A tenant, whose project has a name, is told the same of each ask, of the Networking API and of
+/// the lab, at any two servers with consistent rows in which it has the same footing. Hosts, their
+/// tables and their entries have no part in it.
 pub fn tenants_stay_apart()
-    ensures apart { (caller : Caller) (v w : WorldState) → caller.admin ≡ false → not (is_empty caller.project) ≡ true → IsConsistent v.state.rows → IsConsistent w.state.rows → footing default_parts v.state caller ≡ footing default_parts w.state caller → (ask : Ask) → told_of (ask_outcome v caller ask) ≡ told_of (ask_outcome w caller ask) }
+    ensures apart { (caller : Caller) (v w : WorldState) → caller.admin ≡ false
+        → not (is_empty caller.project) ≡ true → IsConsistent v.state.rows
+        → IsConsistent w.state.rows
+        → footing default_parts v.state caller ≡ footing default_parts w.state caller
+        → (ask : Ask) → told_of (ask_outcome v caller ask) ≡ told_of (ask_outcome w caller ask) }
 {}
 
 /// The first world holds its rows: they are consistent, and each host has the tables that they give
 /// to it. So does each world that an ask leaves, of one that does.
 pub fn worlds_hold_their_rows()
     ensures first { HoldsRows fresh_world }
-    ensures kept { (caller : Caller) (ask : Ask) (w : WorldState) → IsAskInForm caller ask → HoldsRows w → HoldsRows (world_after w (ask_outcome w caller ask)) }
+    ensures kept { (caller : Caller) (ask : Ask) (w : WorldState) → IsAskInForm caller ask
+        → HoldsRows w → HoldsRows (world_after w (ask_outcome w caller ask)) }
 {}
 
 /// Frames sent one after the other through the tables of hosts that hold the rows come to what the
 /// rows say, with the entries of those before them, and each path crosses at routers alone.
 pub fn frames_mean_what_rows_say()
-    ensures means { (w : WorldState) → HoldsRows w → (events : List Event) → map without_hosts (fabric_verdicts w.hosts events) ≡ rows_verdicts w.state.rows (all_entries w.hosts) events }
-    ensures crosses { (w : WorldState) → HoldsRows w → (events : List Event) → Each (CrossesAtRouters w.state.rows) (fabric_verdicts w.hosts events) }
+    ensures means { (w : WorldState) → HoldsRows w → (events : List Event)
+        → map without_hosts (fabric_verdicts w.hosts events)
+        ≡ rows_verdicts w.state.rows (all_entries w.hosts) events }
+    ensures crosses { (w : WorldState) → HoldsRows w → (events : List Event)
+        → Each (CrossesAtRouters w.state.rows) (fabric_verdicts w.hosts events) }
 {}

@@ -83,13 +83,14 @@ impl World {
         self.machine.version()
     }
 
-    /// Answers what a caller asks. An accepted change is in the rows and in the kept rows, each host
-    /// wires the rows after it, and the version has risen by one. Frames go by the tables that the
-    /// hosts hold, come to what the rows say, and cross between networks at routers alone; the entries
-    /// that they make are kept at the hosts that made them. After a refusal all is as it was: one for
-    /// want of memory, which is free, one because the store failed to keep an accepted change, where
-    /// the keeper counted a fault, or that of the ask. The cost grows with the rows, for an accepted
-    /// change with that of wiring each host too, and for a frame with the entries of the hosts.
+    /// Answers what a caller asks. An accepted change is in the rows and in the kept rows, each
+    /// host wires the rows after it, and the version has risen by one. Frames go by the tables that
+    /// the hosts hold, come to what the rows say, and cross between networks at routers alone; the
+    /// entries that they make are kept at the hosts that made them. After a refusal all is as it
+    /// was: one for want of memory, which is free, one because the store failed to keep an accepted
+    /// change, where the keeper counted a fault, or that of the ask. The cost grows with the rows,
+    /// for an accepted change with that of wiring each host too, and for a frame with the entries
+    /// of the hosts.
     pub fn handle<K: Keeper>(
         &mut self,
         alloc: Global,
@@ -99,10 +100,18 @@ impl World {
     ) -> Reply
         requires kept { Tells (K.kept keeper.old) self.old.state.rows }
         requires in_form { IsAskInForm caller.now ask.now }
-        ensures handled { Handles (ask_outcome self.old caller.now ask.now) self.old self.new result }
-        ensures frames { (event : TheEvent) (verdict : TheVerdict) → ask.now ≡ LabAsk (Frames event) → result ≡ Reply.LabDone (Seen verdict) → without_hosts verdict ≡ rows_verdict self.old.state.rows (all_entries self.old.hosts) event }
-        ensures crosses { (event : TheEvent) (verdict : TheVerdict) → ask.now ≡ LabAsk (Frames event) → result ≡ Reply.LabDone (Seen verdict) → CrossesAtRouters self.old.state.rows verdict }
-        ensures store_fault { result ≡ Reply.Refused Refusal.StoreFault → (is_change (ask_outcome self.old caller.now ask.now) ≡ true) × RoseBy 1 (K.faults keeper.old) (K.faults keeper.new) }
+        ensures handled { Handles (ask_outcome self.old caller.now ask.now) self.old self.new
+            result }
+        ensures frames { (event : TheEvent) (verdict : TheVerdict)
+            → ask.now ≡ LabAsk (Frames event) → result ≡ Reply.LabDone (Seen verdict)
+            → without_hosts verdict
+            ≡ rows_verdict self.old.state.rows (all_entries self.old.hosts) event }
+        ensures crosses { (event : TheEvent) (verdict : TheVerdict)
+            → ask.now ≡ LabAsk (Frames event) → result ≡ Reply.LabDone (Seen verdict)
+            → CrossesAtRouters self.old.state.rows verdict }
+        ensures store_fault { result ≡ Reply.Refused Refusal.StoreFault
+            → (is_change (ask_outcome self.old caller.now ask.now) ≡ true)
+            × RoseBy 1 (K.faults keeper.old) (K.faults keeper.new) }
         ensures later { K.faults keeper.old ≤ K.faults keeper.new }
         ensures kept { Tells (K.kept keeper.new) self.new.state.rows }
     {
@@ -126,8 +135,13 @@ impl World {
         caller: &Caller,
         call: &LabCall,
     ) -> Result<LabAnswer, Refusal>
-        ensures ok { IfOk result (λ answer. IsHandled (ByLab (lab_outcome self.old caller.now call.now)) self.old self.new (Reply.LabDone answer)) }
-        ensures err { IfErr result (λ refusal. (self.new ≡ self.old) × IsBarred (lab_outcome self.old caller.now call.now) refusal) }
+        ensures ok { IfOk result
+            (λ answer.
+            IsHandled (ByLab (lab_outcome self.old caller.now call.now)) self.old self.new
+            (Reply.LabDone answer)) }
+        ensures err { IfErr result
+            (λ refusal. (self.new ≡ self.old)
+            × IsBarred (lab_outcome self.old caller.now call.now) refusal) }
     {
         match call {
             LabCall::Frames(event) => self.carry(alloc, caller, event),
@@ -145,8 +159,13 @@ impl World {
     // Sends an event through the tables of the hosts, and keeps the entries that it makes at the
     // hosts that made them.
     fn carry(&mut self, alloc: Global, caller: &Caller, event: &Event) -> Result<LabAnswer, Refusal>
-        ensures ok { IfOk result (λ answer. IsHandled (ByLab (lab_outcome self.old caller.now (LabCall.Frames event.now))) self.old self.new (Reply.LabDone answer)) }
-        ensures err { IfErr result (λ refusal. (self.new ≡ self.old) × IsBarred (lab_outcome self.old caller.now (LabCall.Frames event.now)) refusal) }
+        ensures ok { IfOk result
+            (λ answer.
+            IsHandled (ByLab (lab_outcome self.old caller.now (LabCall.Frames event.now)))
+            self.old self.new (Reply.LabDone answer)) }
+        ensures err { IfErr result
+            (λ refusal. (self.new ≡ self.old)
+            × IsBarred (lab_outcome self.old caller.now (LabCall.Frames event.now)) refusal) }
     {
         bar_event(alloc, self.machine.rows(), caller, event)?;
         let _ = lifetime(event);
@@ -158,8 +177,11 @@ impl World {
 
     // What the rows make of an event.
     fn explained(&self, alloc: Global, caller: &Caller, event: &Event) -> Result<LabAnswer, Refusal>
-        ensures ok { IfOk result (λ answer. lab_outcome self.now caller.now (LabCall.Explain event.now) ≡ Answered answer self.now.hosts) }
-        ensures err { IfErr result (IsBarred (lab_outcome self.now caller.now (LabCall.Explain event.now))) }
+        ensures ok { IfOk result
+            (λ answer. lab_outcome self.now caller.now (LabCall.Explain event.now)
+            ≡ Answered answer self.now.hosts) }
+        ensures err { IfErr result
+            (IsBarred (lab_outcome self.now caller.now (LabCall.Explain event.now))) }
     {
         bar_event(alloc, self.machine.rows(), caller, event)?;
         let entries = self.hosts.all_entries(alloc)?;
@@ -169,7 +191,9 @@ impl World {
 
     // The hosts, and the version that they hold.
     fn hosts_told(&self, alloc: Global, caller: &Caller) -> Result<LabAnswer, Refusal>
-        ensures ok { IfOk result (λ answer. lab_outcome self.now caller.now LabCall.Hosts ≡ Answered answer self.now.hosts) }
+        ensures ok { IfOk result
+            (λ answer. lab_outcome self.now caller.now LabCall.Hosts
+            ≡ Answered answer self.now.hosts) }
         ensures err { IfErr result (IsBarred (lab_outcome self.now caller.now LabCall.Hosts)) }
     {
         bar_tenant(caller)?;
@@ -178,8 +202,11 @@ impl World {
 
     // The tables of a host.
     fn tables_told(&self, alloc: Global, caller: &Caller, name: &Text) -> Result<LabAnswer, Refusal>
-        ensures ok { IfOk result (λ answer. lab_outcome self.now caller.now (LabCall.Tables name.now) ≡ Answered answer self.now.hosts) }
-        ensures err { IfErr result (IsBarred (lab_outcome self.now caller.now (LabCall.Tables name.now))) }
+        ensures ok { IfOk result
+            (λ answer. lab_outcome self.now caller.now (LabCall.Tables name.now)
+            ≡ Answered answer self.now.hosts) }
+        ensures err { IfErr result
+            (IsBarred (lab_outcome self.now caller.now (LabCall.Tables name.now))) }
     {
         bar_tenant(caller)?;
         tables_of(alloc, &self.hosts, name)
@@ -195,9 +222,25 @@ impl World {
     ) -> Result<Answer, Refusal>
         requires kept { Tells (K.kept keeper.old) self.old.state.rows }
         requires in_form { IsInForm caller.now call.now }
-        ensures ok { IfOk result (λ answer. IsHandled (ByMachine (api_step default_parts self.old.state caller.now call.now)) self.old self.new (Reply.Done answer)) }
-        ensures err { IfErr result (λ refusal. (self.new ≡ self.old) × ((refusal ≡ Refusal.OutOfMemory) ⊎ (((refusal ≡ Refusal.StoreFault) × (is_change (ByMachine (api_step default_parts self.old.state caller.now call.now)) ≡ true)) ⊎ (api_step default_parts self.old.state caller.now call.now ≡ RefusedWith refusal)))) }
-        ensures store_fault { IfErr result (λ refusal. refusal ≡ Refusal.StoreFault → (is_change (ByMachine (api_step default_parts self.old.state caller.now call.now)) ≡ true) × RoseBy 1 (K.faults keeper.old) (K.faults keeper.new)) }
+        ensures ok { IfOk result
+            (λ answer.
+            IsHandled (ByMachine (api_step default_parts self.old.state caller.now call.now))
+            self.old self.new (Reply.Done answer)) }
+        ensures err { IfErr result
+            (λ refusal. (self.new ≡ self.old)
+            × ((refusal ≡ Refusal.OutOfMemory)
+            ⊎ (((refusal ≡ Refusal.StoreFault)
+            × (is_change
+            (ByMachine
+            (api_step default_parts self.old.state
+            caller.now call.now)) ≡ true))
+            ⊎ (api_step default_parts self.old.state caller.now call.now
+            ≡ RefusedWith refusal)))) }
+        ensures store_fault { IfErr result
+            (λ refusal. refusal ≡ Refusal.StoreFault
+            → (is_change (ByMachine
+            (api_step default_parts self.old.state caller.now call.now))
+            ≡ true) × RoseBy 1 (K.faults keeper.old) (K.faults keeper.new)) }
         ensures later { K.faults keeper.old ≤ K.faults keeper.new }
         ensures kept { Tells (K.kept keeper.new) self.new.state.rows }
     {
@@ -219,11 +262,16 @@ impl World {
         requires kept { Tells (K.kept keeper.old) self.old.state.rows }
         requires fits { Fits self.old.state.rows change.now }
         requires consistent { IsConsistent (after self.old.state.rows change.now) }
-        requires holdable { AreHoldable (carries default_hosts) (after self.old.state.rows change.now) }
+        requires holdable { AreHoldable (carries default_hosts)
+            (after self.old.state.rows change.now) }
         requires room { self.old.state.version < 2 ^ 64 - 1 }
-        ensures ok { OnOk result (self.new ≡ moved self.old (after self.old.state.rows change.now)) }
+        ensures ok { OnOk result
+            (self.new ≡ moved self.old (after self.old.state.rows change.now)) }
         ensures err { OnErr result (self.new ≡ self.old) }
-        ensures cause { IfErr result (λ refusal. (refusal ≡ Refusal.OutOfMemory) ⊎ ((refusal ≡ Refusal.StoreFault) × RoseBy 1 (K.faults keeper.old) (K.faults keeper.new))) }
+        ensures cause { IfErr result
+            (λ refusal. (refusal ≡ Refusal.OutOfMemory)
+            ⊎ ((refusal ≡ Refusal.StoreFault)
+            × RoseBy 1 (K.faults keeper.old) (K.faults keeper.new))) }
         ensures later { K.faults keeper.old ≤ K.faults keeper.new }
         ensures kept { Tells (K.kept keeper.new) self.new.state.rows }
     {
@@ -245,7 +293,9 @@ impl World {
 // The hosts of the default settings, which are given their first rows.
 fn first_hosts(alloc: Global, rows: &Rows) -> Result<Hosts, OutOfMemory>
     requires { IsConsistent rows.now }
-    ensures { IfOk result (λ h. map (λ (n : Node). record n { spare = 0 }) h ≡ map (λ d. started d.name 0 rows.now 0) default_hosts) }
+    ensures { IfOk result
+        (λ h. map (λ (n : Node). record n { spare = 0 }) h
+        ≡ map (λ d. started d.name 0 rows.now 0) default_hosts) }
 {
     let settings = default_settings(alloc)?;
     let mut hosts = Hosts::new(alloc);

@@ -79,7 +79,8 @@ impl Addr {
     fn span_of(&self, first: u128, last: u128) -> Span
         requires order { first ≤ last }
         requires bound { last < 2 ^ width self.now }
-        ensures { result ≡ record { first = renumbered self.now first; last = renumbered self.now last } }
+        ensures { result
+            ≡ record { first = renumbered self.now first; last = renumbered self.now last } }
     {
         Span {
             first: self.renumbered(first),
@@ -120,7 +121,8 @@ impl Addr {
 
     /// The next address of the version, or None at the greatest.
     pub fn next(&self) -> Option<Addr>
-        ensures { MatchOption result (number self.now + 1 ≡ 2 ^ width self.now) (λ x. x ≡ renumbered self.now (number self.now + 1)) }
+        ensures { MatchOption result (number self.now + 1 ≡ 2 ^ width self.now)
+            (λ x. x ≡ renumbered self.now (number self.now + 1)) }
     {
         if self.number() == ones(self.width()) {
             return None;
@@ -130,7 +132,8 @@ impl Addr {
 
     /// The address of the version before, or None at the least.
     pub fn previous(&self) -> Option<Addr>
-        ensures { MatchOption result (number self.now ≡ 0) (λ x. x ≡ renumbered self.now (number self.now - 1)) }
+        ensures { MatchOption result (number self.now ≡ 0)
+            (λ x. x ≡ renumbered self.now (number self.now - 1)) }
     {
         if self.number() == 0 {
             return None;
@@ -256,7 +259,8 @@ impl Prefix {
     #[tactic(auto, using(crate::proofs::PrefixLemmas::hosts_room, crate::proofs::PrefixLemmas::fits_128, crate::proofs::PrefixLemmas::no_hosts, crate::proofs::PrefixLemmas::hosts_within), unfolding(crate::specs::Prefixes::host_addresses))]
     pub fn hosts(self) -> Option<Span>
         ensures word { result ≡ host_addresses self }
-        ensures meaning { MatchOption result ((x : Address) → is_host_of self x ≡ false) (λ s. (x : Address) → is_host_of self x ≡ is_within s x) }
+        ensures meaning { MatchOption result ((x : Address) → is_host_of self x ≡ false)
+            (λ s. (x : Address) → is_host_of self x ≡ is_within s x) }
     {
         let kept_back = u8::from(self.base.is_v4());
         if self.len > self.base.width() - (1 + kept_back) {
@@ -282,7 +286,8 @@ impl Prefix {
     #[tactic(auto, unfolding(crate::specs::Prefixes::overlaps))]
     pub fn overlaps(self, other: Prefix) -> bool
         ensures word { result ≡ overlaps self other }
-        ensures meaning { IsTrue result ↔ ((x : Address) × IsAddr x × Contains self x × Contains other x) }
+        ensures meaning { IsTrue result ↔
+            ((x : Address) × IsAddr x × Contains self x × Contains other x) }
     {
         self.has_base(other) || other.has_base(self)
     }
@@ -327,7 +332,8 @@ impl Span {
     #[tactic(auto, unfolding(crate::specs::Spans::are_apart, crate::specs::Spans::is_within))]
     pub fn is_apart(self, other: Span) -> bool
         ensures word { result ≡ are_apart self other }
-        ensures meaning { IsTrue result ↔ ((x : Address) → is_within self x ≡ true → is_within other x ≡ true → ⊥) }
+        ensures meaning { IsTrue result ↔
+            ((x : Address) → is_within self x ≡ true → is_within other x ≡ true → ⊥) }
     {
         !self.first.is_same_version(&other.first)
             || self.last.number() < other.first.number()

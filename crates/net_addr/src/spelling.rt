@@ -187,7 +187,9 @@ fn begin<'a>(parts: &'a [Part], value: u128, c: u8) -> Option<Reading<'a>>
 fn grow(decimal: Decimal, digit: u8) -> Option<Decimal>
     requires digit { digit < 10 }
     requires bound { decimal.number ≤ decimal.top }
-    ensures { MatchOption result (0 < decimal.number → decimal.top < decimal.number * 10 + digit) (λ d. (0 < decimal.number) × (d.top ≡ decimal.top) × (d.number ≡ decimal.number * 10 + digit) × (d.number ≤ d.top)) }
+    ensures { MatchOption result (0 < decimal.number → decimal.top < decimal.number * 10 + digit)
+        (λ d. (0 < decimal.number) × (d.top ≡ decimal.top)
+        × (d.number ≡ decimal.number * 10 + digit) × (d.number ≤ d.top)) }
 {
     let number = u16::from(decimal.number) * 10 + u16::from(digit);
     if decimal.number == 0 || number > u16::from(decimal.top) {
@@ -240,7 +242,8 @@ fn go_on_group<'a>(parts: &'a [Part], value: u128, digits: Digits, c: u8) -> Opt
 // One more byte.
 fn step<'a>(reading: Reading<'a>, c: u8) -> Option<Reading<'a>>
     requires { IsReading reading.parts.now reading.value reading.state }
-    ensures { Takes (Remains reading.entry.parts.now reading.entry.value reading.entry.state) c result }
+    ensures { Takes (Remains reading.entry.parts.now reading.entry.value reading.entry.state) c
+        result }
 {
     match reading.state {
         State::Between => begin(reading.parts, reading.value, c),
@@ -263,7 +266,8 @@ fn end(parts: &[Part], value: u128) -> Option<u128>
 // The value of the whole, where the text may end here.
 fn finish(reading: Reading<'_>) -> Option<u128>
     requires { IsReading reading.parts.now reading.value reading.state }
-    ensures { Ends (Remains reading.entry.parts.now reading.entry.value reading.entry.state) result }
+    ensures { Ends (Remains reading.entry.parts.now reading.entry.value reading.entry.state)
+        result }
 {
     match reading.state {
         State::Between => end(reading.parts, reading.value),

@@ -67,7 +67,10 @@ fn sent_on(
     packet: &Packet,
     trace: Trace,
 ) -> Result<Fate, OutOfMemory>
-    ensures { IfOk result (λ f. fate_of f ≡ sent_on_by rows.now (got_by rows.now entries.now (suc packet.now.ttl)) sender.now.network sender.now.host (packet_of packet.now) (trace_of trace)) }
+    ensures { IfOk result
+        (λ f. fate_of f
+        ≡ sent_on_by rows.now (got_by rows.now entries.now (suc packet.now.ttl))
+        sender.now.network sender.now.host (packet_of packet.now) (trace_of trace)) }
 {
     let network = sender.network;
     let found = port_at(rows, network, packet.dst);
@@ -95,7 +98,12 @@ fn sent_out(
     packet: &Packet,
     mut trace: Trace,
 ) -> Result<Fate, OutOfMemory>
-    ensures { IfOk result (λ f. fate_of f ≡ sent_out_by rows.now (got_by rows.now entries.now (suc packet.now.ttl)) sender.now (packet_of packet.now) (trace_of trace) (rows_passage rows.now (entries.now ++ trace.fresh) sender.now Outward (packet_of packet.now))) }
+    ensures { IfOk result
+        (λ f. fate_of f
+        ≡ sent_out_by rows.now (got_by rows.now entries.now (suc packet.now.ttl)) sender.now
+        (packet_of packet.now) (trace_of trace)
+        (rows_passage rows.now (entries.now ++ trace.fresh) sender.now Outward
+        (packet_of packet.now))) }
 {
     let passage = passage_at(
         rows,
@@ -124,7 +132,10 @@ fn from_sender(
     sender: &PortRow,
     frame: Frame,
 ) -> Result<Fate, OutOfMemory>
-    ensures { IfOk result (λ f. fate_of f ≡ from_sender_by rows.now entries.now (life_of frame) sender.now (record { path = sender.now.network ∷ []; fresh = [] }) frame) }
+    ensures { IfOk result
+        (λ f. fate_of f
+        ≡ from_sender_by rows.now entries.now (life_of frame) sender.now
+        (record { path = sender.now.network ∷ []; fresh = [] }) frame) }
 {
     let trace = on_network(alloc, sender.network)?;
     if let Some(packet) = Packet::of(&frame) {
@@ -146,7 +157,10 @@ fn from_live(
     sender: &PortRow,
     frame: Frame,
 ) -> Result<Fate, OutOfMemory>
-    ensures { IfOk result (λ f. fate_of f ≡ from_live_by rows.now entries.now (life_of frame) sender.now (record { path = sender.now.network ∷ []; fresh = [] }) frame) }
+    ensures { IfOk result
+        (λ f. fate_of f
+        ≡ from_live_by rows.now entries.now (life_of frame) sender.now
+        (record { path = sender.now.network ∷ []; fresh = [] }) frame) }
 {
     let cause = if is_unsupported(&frame) {
         DropCause::Unsupported
@@ -169,7 +183,10 @@ fn from_port(
     port: Id,
     frame: Frame,
 ) -> Result<Fate, OutOfMemory>
-    ensures { IfOk result (λ f. fate_of f ≡ from_port_by rows.now entries.now (life_of frame) frame (row_of (λ (p : ThePort). p.id) port rows.now.ports)) }
+    ensures { IfOk result
+        (λ f. fate_of f
+        ≡ from_port_by rows.now entries.now (life_of frame) frame
+        (row_of (λ (p : ThePort). p.id) port rows.now.ports)) }
 {
     let ports = rows.ports();
     let _own_ids = ports.rows();
@@ -192,7 +209,10 @@ fn wire_packet(
     network: &NetworkRow,
     packet: &Packet,
 ) -> Result<Fate, OutOfMemory>
-    ensures { IfOk result (λ f. fate_of f ≡ wire_packet_by rows.now entries.now (suc packet.now.ttl) network.now (packet_of packet.now) (port_by_mac rows.now network.now.id packet.now.dst)) }
+    ensures { IfOk result
+        (λ f. fate_of f
+        ≡ wire_packet_by rows.now entries.now (suc packet.now.ttl) network.now
+        (packet_of packet.now) (port_by_mac rows.now network.now.id packet.now.dst)) }
 {
     match port_at(rows, network.id, packet.dst) {
         Some(port) => {
@@ -210,7 +230,8 @@ fn from_network(
     network: &NetworkRow,
     frame: Frame,
 ) -> Result<Fate, OutOfMemory>
-    ensures { IfOk result (λ f. fate_of f ≡ from_network_by rows.now entries.now (life_of frame) network.now frame) }
+    ensures { IfOk result
+        (λ f. fate_of f ≡ from_network_by rows.now entries.now (life_of frame) network.now frame) }
 {
     if let Some(packet) = Packet::of(&frame) {
         return wire_packet(alloc, rows, entries, network, &packet);
@@ -245,7 +266,11 @@ fn from_wire(
     tag: Option<u16>,
     frame: Frame,
 ) -> Result<Fate, OutOfMemory>
-    ensures { IfOk result (λ f. fate_of f ≡ (if unsupported frame then dropped_by nothing_so_far DropUnsupported else from_wire_by rows.now entries.now (life_of frame) frame (network_on_wire rows.now (record { physical = physical.now; tag = tag })))) }
+    ensures { IfOk result
+        (λ f. fate_of f
+        ≡ (if unsupported frame then dropped_by nothing_so_far DropUnsupported
+        else from_wire_by rows.now entries.now (life_of frame) frame
+        (network_on_wire rows.now (record { physical = physical.now; tag = tag })))) }
 {
     if is_unsupported(&frame) {
         return Ok(dropped(alloc, DropCause::Unsupported));

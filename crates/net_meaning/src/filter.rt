@@ -9,7 +9,8 @@ use plane_types::{Key, far_of, in_range, is_protocol};
 
 // Whether the far address is in the rule's prefix, or a member's of its group, or both are null.
 fn far_fits(rows: &Rows, rule: &RuleRow, far: &Addr) -> bool
-    ensures { result ≡ fits_far (is_member_of rows.now) rule.now.remote_prefix rule.now.remote_group far.now }
+    ensures { result
+        ≡ fits_far (is_member_of rows.now) rule.now.remote_prefix rule.now.remote_group far.now }
 {
     match (rule.remote_prefix, rule.remote_group) {
         (None, None) => true,

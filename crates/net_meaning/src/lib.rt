@@ -1,8 +1,8 @@
 //! What a frame does, by the rows of the Networking API alone.
 //!
 //! `explain` computes the verdict on an event directly from the rows and the tracked entries, by
-//! searches over all rows: no tables of hosts, no tags and no tunnels. It stands on the questions of
-//! `plane_rows` and `api_secgroup` and on the rules for single packets of `plane_types`, and its
+//! searches over all rows: no tables of hosts, no tags and no tunnels. It stands on the questions
+//! of `plane_rows` and `api_secgroup` and on the rules for single packets of `plane_types`, and its
 //! contract is the definition of `plane_types`. Want of memory is its only refusal.
 #![tactic(auto)]
 

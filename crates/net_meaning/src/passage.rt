@@ -18,7 +18,10 @@ fn is_answer(
     direction: Direction,
     key: &Key,
 ) -> bool
-    ensures { result ≡ (flow_is_there (entries.now ++ fresh.now) port.now.id (other_way direction) (reversed key.now) && allowed_by_rules rows.now port.now (other_way direction) (reversed key.now)) }
+    ensures { result
+        ≡ (flow_is_there (entries.now ++ fresh.now) port.now.id (other_way direction)
+        (reversed key.now)
+        && allowed_by_rules rows.now port.now (other_way direction) (reversed key.now)) }
 {
     let asked = key.reversed();
     let way = opposite(direction);
@@ -36,7 +39,9 @@ pub(crate) fn passage_at(
     direction: Direction,
     packet: &Packet,
 ) -> Passage
-    ensures { passage_of result ≡ rows_passage rows.now (entries.now ++ fresh.now) port.now direction (packet_of packet.now) }
+    ensures { passage_of result
+        ≡ rows_passage rows.now (entries.now ++ fresh.now) port.now direction
+        (packet_of packet.now) }
 {
     let key = packet.key();
     if !port.secured {

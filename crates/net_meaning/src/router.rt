@@ -41,7 +41,9 @@ pub(crate) enum Routed<'r> {
 // The valid entry that a packet answers.
 #[tactic(auto, using(plane_types::proofs::UseLemmas::none_answers))]
 fn answer(rows: &Rows, router: &RouterRow, uses: &[Use], packet: &Packet) -> Option<Use>
-    ensures { option_map use_of result ≡ find (answers_to (gateway_by_rows rows.now router.now) (packet_of packet.now)) (map use_of uses.now) }
+    ensures { option_map use_of result
+        ≡ find (answers_to (gateway_by_rows rows.now router.now) (packet_of packet.now))
+        (map use_of uses.now) }
 {
     match gateway_address(rows, router) {
         Some(outer) => answering(uses, outer, packet),
@@ -53,7 +55,9 @@ fn answer(rows: &Rows, router: &RouterRow, uses: &[Use], packet: &Packet) -> Opt
 // answers gives it back the source that it keeps.
 #[tactic(auto, unfolding(api_types::specs::RouterRows::router_view))]
 fn find_destination(rows: &Rows, router: &RouterRow, uses: &[Use], packet: &Packet) -> Destined
-    ensures { destined_of result ≡ destined_by (router_view rows.now router.now) (map use_of uses.now) (packet_of packet.now) }
+    ensures { destined_of result
+        ≡ destined_by (router_view rows.now router.now) (map use_of uses.now)
+        (packet_of packet.now) }
 {
     if let Some(fixed) = fixed_behind(rows, router, &packet.ends.destination()) {
         let ends = packet.ends.with_destination(fixed);
@@ -93,7 +97,10 @@ fn better(way: &Way, other: &Option<Way>) -> Way
 
 // The better of the way, where its prefix has the destination, and of the other.
 fn better_for(destination: &Addr, way: &Way, other: &Option<Way>) -> Option<Way>
-    ensures { option_map way_of result ≡ (if contains way.now.prefix destination.now then Some (better_of (way_of way.now) (option_map way_of other.now)) else option_map way_of other.now) }
+    ensures { option_map way_of result
+        ≡ (if contains way.now.prefix destination.now
+        then Some (better_of (way_of way.now) (option_map way_of other.now))
+        else option_map way_of other.now) }
 {
     if way.prefix.contains(*destination) {
         Some(better(way, other))
@@ -151,7 +158,9 @@ fn routed_by<'r>(
     destined: &Destined,
     way: &Way,
 ) -> Routed<'r>
-    ensures { routed_of result ≡ way_by_view (router_view rows.now router.now) (map use_of uses.now) (leg_of port.now) (changed_of destined.now.by) (packet_of destined.now.packet) (Some (way_of way.now)) }
+    ensures { routed_of result
+        ≡ way_by_view (router_view rows.now router.now) (map use_of uses.now) (leg_of port.now)
+        (changed_of destined.now.by) (packet_of destined.now.packet) (Some (way_of way.now)) }
 {
     match leg(rows, router, way.port) {
         Some(out) => {
@@ -173,7 +182,12 @@ fn routed_on<'r>(
     port: &PortRow,
     destined: &Destined,
 ) -> Result<Routed<'r>, OutOfMemory>
-    ensures { IfOk result (λ r. routed_of r ≡ way_by_view (router_view rows.now router.now) (map use_of uses.now) (leg_of port.now) (changed_of destined.now.by) (packet_of destined.now.packet) (best_of_ways (destined_to destined.now.packet.ends) (ways_by_rows rows.now router.now))) }
+    ensures { IfOk result
+        (λ r. routed_of r
+        ≡ way_by_view (router_view rows.now router.now) (map use_of uses.now)
+        (leg_of port.now) (changed_of destined.now.by) (packet_of destined.now.packet)
+        (best_of_ways (destined_to destined.now.packet.ends)
+        (ways_by_rows rows.now router.now))) }
 {
     let ways = ways_of(alloc, rows, router)?;
     match best_way(&destined.packet.ends.destination(), ways) {
@@ -184,7 +198,9 @@ fn routed_on<'r>(
 
 // Whether a live port of the router has the packet's destination.
 fn is_own(rows: &Rows, router: &RouterRow, packet: &Packet) -> bool
-    ensures { result ≡ list_any (λ (p : ThePort). holds_address p (destined_to packet.now.ends)) (legs_of rows.now router.now) }
+    ensures { result
+        ≡ list_any (λ (p : ThePort). holds_address p (destined_to packet.now.ends))
+        (legs_of rows.now router.now) }
 {
     is_own_address(rows, router, &packet.ends.destination())
 }
@@ -198,7 +214,10 @@ fn routed_to<'r>(
     port: &PortRow,
     destined: &Destined,
 ) -> Result<Routed<'r>, OutOfMemory>
-    ensures { IfOk result (λ r. routed_of r ≡ to_by_view (router_view rows.now router.now) (map use_of uses.now) (leg_of port.now) (destined_of destined.now)) }
+    ensures { IfOk result
+        (λ r. routed_of r
+        ≡ to_by_view (router_view rows.now router.now) (map use_of uses.now) (leg_of port.now)
+        (destined_of destined.now)) }
 {
     if is_own(rows, router, &destined.packet) {
         return Ok(Routed::Ends(Outcome::Absorbed { router: router.id }));
@@ -222,7 +241,10 @@ pub(crate) fn route<'r>(
     port: &PortRow,
     packet: &Packet,
 ) -> Result<Routed<'r>, OutOfMemory>
-    ensures { IfOk result (λ r. routed_of r ≡ routed_by_view (router_view rows.now router.now) (entries.now ++ fresh.now) (leg_of port.now) (packet_of packet.now)) }
+    ensures { IfOk result
+        (λ r. routed_of r
+        ≡ routed_by_view (router_view rows.now router.now) (entries.now ++ fresh.now)
+        (leg_of port.now) (packet_of packet.now)) }
 {
     if !router.up {
         return Ok(Routed::Ends(Outcome::Dropped(DropCause::RouterDown)));

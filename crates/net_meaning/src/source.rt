@@ -19,7 +19,9 @@ use plane_types::{
 
 // With a new entry, where a port is left.
 fn sourced_new(router: Id, uses: &[Use], packet: &Packet, outer: Addr4) -> Option<Sourced>
-    ensures { option_map sourced_of result ≡ sourced_anew router (packet_of packet.now) outer (new_port_of (map use_of uses.now) (key_of (packet_of packet.now))) }
+    ensures { option_map sourced_of result
+        ≡ sourced_anew router (packet_of packet.now) outer
+        (new_port_of (map use_of uses.now) (key_of (packet_of packet.now))) }
 {
     let key = packet.key();
     match new_port(uses, &key) {
@@ -44,7 +46,9 @@ fn sourced_gateway(
     uses: &[Use],
     packet: &Packet,
 ) -> Option<Sourced>
-    ensures { option_map sourced_of result ≡ sourced_by_gateway (router_view rows.now router.now) (map use_of uses.now) (packet_of packet.now) (gateway_by_rows rows.now router.now) }
+    ensures { option_map sourced_of result
+        ≡ sourced_by_gateway (router_view rows.now router.now) (map use_of uses.now)
+        (packet_of packet.now) (gateway_by_rows rows.now router.now) }
 {
     let Some(outer) = gateway_address(rows, router) else {
         return kept_source(packet);
@@ -62,7 +66,10 @@ fn sourced_gateway(
 // address changed its destination, and the router translates and its gateway port is live.
 #[tactic(auto, using(crate::proofs::LegLemmas::gateway_among), unfolding(api_types::specs::RouterRows::router_view))]
 fn is_translated(rows: &Rows, router: &RouterRow, out: &PortRow, by: Changed) -> bool
-    ensures { result ≡ ((not (leg_of out.now).inside || changed_by_float (changed_of by)) && (router_view rows.now router.now).snat && is_gateway_live (router_view rows.now router.now)) }
+    ensures { result
+        ≡ ((not (leg_of out.now).inside || changed_by_float (changed_of by))
+        && (router_view rows.now router.now).snat
+        && is_gateway_live (router_view rows.now router.now)) }
 {
     (!is_interface(&out.owner) || by_float(by))
         && translates(router)
@@ -78,7 +85,11 @@ fn sourced_float(
     out: &PortRow,
     destined: &Destined,
 ) -> Option<Sourced>
-    ensures { option_map sourced_of result ≡ sourced_by_float (router_view rows.now router.now) (map use_of uses.now) (leg_of out.now) (changed_of destined.now.by) (packet_of destined.now.packet) (find (λ (f : Float). addr_eq (V4 f.fixed) (sent_from destined.now.packet.ends)) (floats_of rows.now router.now)) }
+    ensures { option_map sourced_of result
+        ≡ sourced_by_float (router_view rows.now router.now) (map use_of uses.now)
+        (leg_of out.now) (changed_of destined.now.by) (packet_of destined.now.packet)
+        (find (λ (f : Float). addr_eq (V4 f.fixed) (sent_from destined.now.packet.ends))
+        (floats_of rows.now router.now)) }
 {
     let packet = &destined.packet;
     if let Some(floating) = floating_for(rows, router, &packet.ends.source()) {
@@ -107,7 +118,9 @@ pub(crate) fn find_source(
     out: &PortRow,
     destined: &Destined,
 ) -> Option<Sourced>
-    ensures { option_map sourced_of result ≡ sourced_by (router_view rows.now router.now) (map use_of uses.now) (leg_of port.now) (leg_of out.now) (changed_of destined.now.by) (packet_of destined.now.packet) }
+    ensures { option_map sourced_of result
+        ≡ sourced_by (router_view rows.now router.now) (map use_of uses.now) (leg_of port.now)
+        (leg_of out.now) (changed_of destined.now.by) (packet_of destined.now.packet) }
 {
     let leaves = !is_interface(&out.owner) || by_any(destined.by);
     if destined.packet.ends.are_four() && is_interface(&port.owner) && leaves {

@@ -54,7 +54,8 @@ fn received<'r>(
     port: &PortRow,
     packet: &Packet,
 ) -> Turn<'r>
-    ensures { (on : Onward) (t : TheTrace) → t.fresh ≡ fresh.now → turn_by on t result ≡ received_by rows.now entries.now port.now (packet_of packet.now) t }
+    ensures { (on : Onward) (t : TheTrace) → t.fresh ≡ fresh.now
+        → turn_by on t result ≡ received_by rows.now entries.now port.now (packet_of packet.now) t }
 {
     let passage = passage_at(rows, entries, fresh, port, Direction::Ingress, packet);
     let outcome = if passage.passes {
@@ -74,7 +75,10 @@ fn received<'r>(
 
 // The joined holder of the next hop gets what a router sends on by a port.
 fn handed_out<'r>(rows: &'r Rows, router: &RouterRow, out: &PortRow, sent: &Sent<'r>) -> Turn<'r>
-    ensures { (on : Onward) (t : TheTrace) → turn_by on t result ≡ handed_out_by rows.now on router.now sent.now.hop (packet_of sent.now.packet) (with_fresh t (option_to_list sent.now.made)) (Some out.now) }
+    ensures { (on : Onward) (t : TheTrace)
+        → turn_by on t result
+        ≡ handed_out_by rows.now on router.now sent.now.hop (packet_of sent.now.packet)
+        (with_fresh t (option_to_list sent.now.made)) (Some out.now) }
 {
     let network = out.network;
     let held = holder(rows, network, &sent.hop);
@@ -107,7 +111,11 @@ fn handed_out<'r>(rows: &'r Rows, router: &RouterRow, out: &PortRow, sent: &Sent
 
 // The port by which it leaves is one of the router's.
 fn handed<'r>(rows: &'r Rows, router: &RouterRow, sent: &Sent<'r>) -> Turn<'r>
-    ensures { (on : Onward) (t : TheTrace) → turn_by on t result ≡ handed_by rows.now on router.now t (RouteSends (option_to_list sent.now.made) (leg_of sent.now.out.now) sent.now.hop (packet_of sent.now.packet)) }
+    ensures { (on : Onward) (t : TheTrace)
+        → turn_by on t result
+        ≡ handed_by rows.now on router.now t
+        (RouteSends (option_to_list sent.now.made) (leg_of sent.now.out.now) sent.now.hop
+        (packet_of sent.now.packet)) }
 {
     match leg(rows, router, sent.out.id) {
         Some(out) => handed_out(rows, router, out, sent),
@@ -138,7 +146,11 @@ fn at_router<'r>(
     port: &PortRow,
     packet: &Packet,
 ) -> Result<Turn<'r>, OutOfMemory>
-    ensures { IfOk result (λ turn. (on : Onward) (t : TheTrace) → t.fresh ≡ fresh.now → turn_by on t turn ≡ at_router_by rows.now entries.now on port.now (packet_of packet.now) t (router_by_rows rows.now port.now)) }
+    ensures { IfOk result
+        (λ turn. (on : Onward) (t : TheTrace) → t.fresh ≡ fresh.now
+        → turn_by on t turn
+        ≡ at_router_by rows.now entries.now on port.now (packet_of packet.now) t
+        (router_by_rows rows.now port.now)) }
 {
     let Some(router) = router_of(rows, port) else {
         return Ok(ended(Outcome::Dropped(DropCause::Unknown)));
@@ -158,7 +170,10 @@ fn arrived<'r>(
     port: &PortRow,
     packet: &Packet,
 ) -> Result<Turn<'r>, OutOfMemory>
-    ensures { IfOk result (λ turn. (on : Onward) (t : TheTrace) → t.fresh ≡ fresh.now → turn_by on t turn ≡ arrived_at rows.now entries.now on port.now (packet_of packet.now) t) }
+    ensures { IfOk result
+        (λ turn. (on : Onward) (t : TheTrace) → t.fresh ≡ fresh.now
+        → turn_by on t turn
+        ≡ arrived_at rows.now entries.now on port.now (packet_of packet.now) t) }
 {
     if is_router_port(&port.owner) {
         at_router(alloc, rows, entries, fresh, port, packet)
@@ -169,7 +184,10 @@ fn arrived<'r>(
 
 // Adds what a turn made and passed.
 fn note(trace: &mut Trace, made: Option<Entry>, passed: Option<(Id, Id)>) -> Result<(), OutOfMemory>
-    ensures { OnOk result (trace_of trace.new ≡ with_path (with_fresh (trace_of trace.old) (option_to_list made)) (passed_list passed)) }
+    ensures { OnOk result
+        (trace_of trace.new
+        ≡ with_path (with_fresh (trace_of trace.old) (option_to_list made))
+        (passed_list passed)) }
 {
     if let Some(entry) = made {
         trace.fresh.push(entry)?;
@@ -192,7 +210,9 @@ pub(crate) fn got<'r>(
     packet: Packet,
     mut trace: Trace,
 ) -> Result<Fate, OutOfMemory>
-    ensures { IfOk result (λ f. fate_of f ≡ got_by rows.now entries.now many port.now (packet_of packet) (trace_of trace)) }
+    ensures { IfOk result
+        (λ f. fate_of f
+        ≡ got_by rows.now entries.now many port.now (packet_of packet) (trace_of trace)) }
 {
     let mut at = port;
     let mut packet = packet;

@@ -28,7 +28,9 @@ fn add_uses(
     outer: Addr4,
     entries: &[Entry],
 ) -> Result<(), OutOfMemory>
-    ensures { OnOk result (map use_of uses.new.items ≡ map use_of uses.old.items ++ filter_map (use_if router outer) entries.now) }
+    ensures { OnOk result
+        (map use_of uses.new.items
+        ≡ map use_of uses.old.items ++ filter_map (use_if router outer) entries.now) }
 {
     for entry in entries {
         if let Some(valid) = use_of_entry(router, outer, entry) {
@@ -48,7 +50,10 @@ pub(crate) fn valid_uses(
     entries: &[Entry],
     fresh: &[Entry],
 ) -> Result<Vec<Use>, OutOfMemory>
-    ensures { IfOk result (λ v. map use_of v.items ≡ uses_by (has_snat router.now.gateway) (gateway_by_rows rows.now router.now) router.now.id (entries.now ++ fresh.now)) }
+    ensures { IfOk result
+        (λ v. map use_of v.items
+        ≡ uses_by (has_snat router.now.gateway) (gateway_by_rows rows.now router.now)
+        router.now.id (entries.now ++ fresh.now)) }
 {
     let mut uses = Vec::new(alloc);
     if !translates(router) {
@@ -63,7 +68,8 @@ pub(crate) fn valid_uses(
 
 /// The first entry, with this outer address, that answers to a packet.
 pub(crate) fn answering(uses: &[Use], outer: Addr4, packet: &Packet) -> Option<Use>
-    ensures { option_map use_of result ≡ find (answers_to (Some outer) (packet_of packet.now)) (map use_of uses.now) }
+    ensures { option_map use_of result
+        ≡ find (answers_to (Some outer) (packet_of packet.now)) (map use_of uses.now) }
 {
     for entry in uses {
         if answers(outer, packet, entry) {
@@ -75,7 +81,8 @@ pub(crate) fn answering(uses: &[Use], outer: Addr4, packet: &Packet) -> Option<U
 
 /// The first entry with this key.
 pub(crate) fn with_key(uses: &[Use], key: &Key) -> Option<Use>
-    ensures { option_map use_of result ≡ find (λ (u : TheUse). key_eq u.key key.now) (map use_of uses.now) }
+    ensures { option_map use_of result
+        ≡ find (λ (u : TheUse). key_eq u.key key.now) (map use_of uses.now) }
 {
     for entry in uses {
         if is_key(&entry.key, key) {
@@ -99,7 +106,9 @@ fn is_taken(uses: &[Use], key: &Key, port: u16) -> bool
 
 // Marks, in one pass, the ports of those entries that have the kind and far end of the key.
 fn mark(marks: &mut [bool; 65_536], uses: &[Use], key: &Key)
-    ensures { (port : ℕ) → port < 65536 → slice_index_or marks.new port false ≡ (slice_index_or marks.old port false || taken (map use_of uses.now) key.now port) }
+    ensures { (port : ℕ) → port < 65536
+        → slice_index_or marks.new port false
+        ≡ (slice_index_or marks.old port false || taken (map use_of uses.now) key.now port) }
 {
     for entry in uses {
         if takes(entry, key, entry.port) {

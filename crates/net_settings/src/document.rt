@@ -61,8 +61,8 @@ fn read_members(alloc: Global, table: &Table) -> Result<Settings, SettingsRefusa
 /// default. The refusal names the first key that breaks its rule, in the order `drivers`,
 /// `vxlan_first`, `vxlan_last`, `quotas`, `hosts`, `hosts.name`, `hosts.physical`, `hosts.vxlan`,
 /// `hosts.l3`, `hosts.dhcp`, and then the first unknown key in byte order. It names the empty key
-/// where the bytes are no TOML in UTF-8. Beyond reading the TOML, the cost grows as n log n with the
-/// number of names.
+/// where the bytes are no TOML in UTF-8. Beyond reading the TOML, the cost grows as n log n with
+/// the number of names.
 pub fn read_settings(alloc: Global, text: &[u8]) -> Result<Settings, SettingsRefusal>
     ensures ok { IfOk result (λ s. settings_of text.now ≡ Ok s) }
     ensures bad { IfErr result (Refuses (settings_of text.now)) }

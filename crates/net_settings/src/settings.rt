@@ -66,9 +66,24 @@ impl Model for Settings {
 
     ghost Value = { SettingsParts };
 
-    ghost view = { λ s. record { drivers = s.drivers; vxlan_first = s.vxlan_first; vxlan_last = s.vxlan_last; quotas = s.quotas; hosts = s.hosts } };
+    ghost view = { λ s.
+        record {
+          drivers = s.drivers;
+          vxlan_first = s.vxlan_first;
+          vxlan_last = s.vxlan_last;
+          quotas = s.quotas;
+          hosts = s.hosts;
+        } };
 
-    ghost invariant = { λ s. MeetsRules (record { drivers = s.drivers; vxlan_first = s.vxlan_first; vxlan_last = s.vxlan_last; quotas = s.quotas; hosts = s.hosts }) };
+    ghost invariant = { λ s.
+        MeetsRules
+        (record {
+          drivers = s.drivers;
+          vxlan_first = s.vxlan_first;
+          vxlan_last = s.vxlan_last;
+          quotas = s.quotas;
+          hosts = s.hosts;
+        }) };
 }
 
 // By hand, so that a function that owns settings drops them by one call.
@@ -95,8 +110,22 @@ impl Settings {
         quotas: Quotas,
         hosts: Seq<Host>,
     ) -> Settings
-        requires { MeetsRules (record { drivers = drivers; vxlan_first = vxlan_first; vxlan_last = vxlan_last; quotas = quotas; hosts = hosts }) }
-        ensures { result ≡ record { drivers = drivers; vxlan_first = vxlan_first; vxlan_last = vxlan_last; quotas = quotas; hosts = hosts } }
+        requires { MeetsRules
+            (record {
+              drivers = drivers;
+              vxlan_first = vxlan_first;
+              vxlan_last = vxlan_last;
+              quotas = quotas;
+              hosts = hosts;
+            }) }
+        ensures { result
+            ≡ record {
+              drivers = drivers;
+              vxlan_first = vxlan_first;
+              vxlan_last = vxlan_last;
+              quotas = quotas;
+              hosts = hosts;
+            } }
     {
         Settings {
             drivers,

@@ -212,7 +212,9 @@ fn user(alloc: Global, by: Option<(Kind, Id)>) -> Result<Text, OutOfMemory>
 
 // The message of a row in use.
 fn in_use(alloc: Global, kind: Kind, id: Id, by: Option<(Kind, Id)>) -> Result<Text, OutOfMemory>
-    ensures { IfOk result (λ t. t ≡ title_of kind ++ codes " " ++ ident_text id ++ codes " is in use" ++ user_text by) }
+    ensures { IfOk result
+        (λ t. t
+        ≡ title_of kind ++ codes " " ++ ident_text id ++ codes " is in use" ++ user_text by) }
 {
     let title = kind.title();
     let id = id.print(alloc)?;
@@ -240,7 +242,10 @@ fn value_words(alloc: Global, value: Value) -> Result<Text, OutOfMemory>
 
 // The message of a value that is held.
 fn taken(alloc: Global, value: Value, network: Id) -> Result<Text, OutOfMemory>
-    ensures { IfOk result (λ t. t ≡ value_text value ++ codes " is in use in network " ++ ident_text network ++ codes ".") }
+    ensures { IfOk result
+        (λ t. t
+        ≡ value_text value ++ codes " is in use in network " ++ ident_text network
+        ++ codes ".") }
 {
     let value = value_words(alloc, value)?;
     let value = value.as_str();
@@ -251,7 +256,10 @@ fn taken(alloc: Global, value: Value, network: Id) -> Result<Text, OutOfMemory>
 
 // The message of a subnet that no router joins to an external network.
 fn no_gateway(alloc: Global, network: Id, subnet: Id) -> Result<Text, OutOfMemory>
-    ensures { IfOk result (λ t. t ≡ codes "External network " ++ ident_text network ++ codes " is not reachable from subnet " ++ ident_text subnet ++ codes ".") }
+    ensures { IfOk result
+        (λ t. t
+        ≡ codes "External network " ++ ident_text network
+        ++ codes " is not reachable from subnet " ++ ident_text subnet ++ codes ".") }
 {
     let network = network.print(alloc)?;
     let network = network.as_str();
@@ -264,7 +272,10 @@ fn no_gateway(alloc: Global, network: Id, subnet: Id) -> Result<Text, OutOfMemor
 
 // The message of a quota that is exceeded.
 fn over_quota(alloc: Global, resource: Kind, limit: u64, used: u64) -> Result<Text, OutOfMemory>
-    ensures { IfOk result (λ t. t ≡ codes "Quota exceeded for " ++ resource_of resource ++ codes ": limit " ++ decimal limit ++ codes ", used " ++ decimal used ++ codes ".") }
+    ensures { IfOk result
+        (λ t. t
+        ≡ codes "Quota exceeded for " ++ resource_of resource ++ codes ": limit "
+        ++ decimal limit ++ codes ", used " ++ decimal used ++ codes ".") }
 {
     let word = resource_word(resource);
     Ok(Text::from_string(format!(in alloc;
@@ -274,7 +285,10 @@ fn over_quota(alloc: Global, resource: Kind, limit: u64, used: u64) -> Result<Te
 
 // The message of a message that isn't kept.
 fn no_message(alloc: Global, asked: u64, first: u64, last: u64) -> Result<Text, OutOfMemory>
-    ensures { IfOk result (λ t. t ≡ codes "Message " ++ decimal asked ++ codes " is not kept: first " ++ decimal first ++ codes ", last " ++ decimal last ++ codes ".") }
+    ensures { IfOk result
+        (λ t. t
+        ≡ codes "Message " ++ decimal asked ++ codes " is not kept: first " ++ decimal first
+        ++ codes ", last " ++ decimal last ++ codes ".") }
 {
     Ok(Text::from_string(format!(in alloc;
         "Message {asked} is not kept: first {first}, last {last}."
@@ -283,7 +297,8 @@ fn no_message(alloc: Global, asked: u64, first: u64, last: u64) -> Result<Text, 
 
 // The message of a row that isn't found.
 fn not_found(alloc: Global, kind: &Text, text: &Text) -> Result<Text, OutOfMemory>
-    ensures { IfOk result (λ t. t ≡ kind.now ++ codes " " ++ text.now ++ codes " could not be found.") }
+    ensures { IfOk result
+        (λ t. t ≡ kind.now ++ codes " " ++ text.now ++ codes " could not be found.") }
 {
     let kind = kind.as_str();
     let text = text.as_str();

@@ -225,7 +225,8 @@ fn marker(alloc: Global, text: &Text) -> Result<IdText, OutOfMemory>
 
 // The marker of a list.
 fn marker_of(alloc: Global, pairs: &[Filter]) -> Result<Option<IdText>, OutOfMemory>
-    ensures { IfOk result (λ m. IsMarkerOf (first_of (with_name (codes "marker") (map held pairs.now))) m) }
+    ensures { IfOk result
+        (λ m. IsMarkerOf (first_of (with_name (codes "marker") (map held pairs.now))) m) }
 {
     match first_named(pairs, "marker") {
         Some(text) => Ok(Some(marker(alloc, text)?)),
@@ -260,7 +261,8 @@ fn list_query(alloc: Global, kind: Kind, pairs: &[Filter]) -> Result<Query, OutO
 
 // The query of a list.
 fn read_list(alloc: Global, kind: Kind, text: &[u8]) -> Result<Query, BodyRefusal>
-    ensures { IsReadQuery (list_read kind (pairs_of text.now) (first_bad kind [] (pairs_of text.now))) result }
+    ensures { IsReadQuery
+        (list_read kind (pairs_of text.now) (first_bad kind [] (pairs_of text.now))) result }
 {
     let pairs = pairs(alloc, text)?;
     if let Some(name) = find_bad(kind, pairs.as_slice()) {
@@ -272,7 +274,8 @@ fn read_list(alloc: Global, kind: Kind, text: &[u8]) -> Result<Query, BodyRefusa
 
 // A query that keeps these members alone.
 fn with_fields(alloc: Global, fields: Names) -> Query
-    ensures { IsQueryOf (record { filters = []; limit = None; marker = None; fields = fields }) result }
+    ensures { IsQueryOf (record { filters = []; limit = None; marker = None; fields = fields })
+        result }
 {
     Query {
         filters: Seq::new(alloc),

@@ -254,7 +254,8 @@ fn is_name(part: &str) -> bool
 
 // The parts that stand where the names in braces stand.
 fn named_parts(alloc: Global, names: &[&str], parts: &[&str]) -> Result<Names, OutOfMemory>
-    ensures { IfOk result (λ v. v ≡ parameters_in (map (λ s. s.now) names.now) (map (λ s. s.now) parts.now)) }
+    ensures { IfOk result
+        (λ v. v ≡ parameters_in (map (λ s. s.now) names.now) (map (λ s. s.now) parts.now)) }
 {
     let mut found = Seq::new(alloc);
     for at in 0..names.len().min(parts.len()) {
@@ -276,8 +277,8 @@ fn parameters(alloc: Global, template: &str, path: &str) -> Result<Names, OutOfM
 
 /// The route of a path with a method, both compared byte for byte.
 ///
-/// A path that isn't UTF-8 has none. The router is built in each call: the cost is that of adding 27
-/// routes and of one search, which grows with the path.
+/// A path that isn't UTF-8 has none. The router is built in each call: the cost is that of adding
+/// 27 routes and of one search, which grows with the path.
 pub fn find_route(alloc: Global, method: &[u8], path: &[u8]) -> Result<Route, RouteRefusal>
     ensures route { Answers result (route_of method.now path.now) }
     ensures allowed { AllowsValue result }

@@ -74,7 +74,8 @@ fn takes(alloc: Global, attribute: &Attribute, value: &Value) -> Result<bool, Ou
 
 // The attribute of a name.
 fn attribute_named<'a>(attributes: &'a [Attribute], name: &str) -> Option<&'a Attribute>
-    ensures { option_map (λ a. attribute_of a.now) result ≡ attribute_named name.now (map attribute_of attributes.now) }
+    ensures { option_map (λ a. attribute_of a.now) result
+        ≡ attribute_named name.now (map attribute_of attributes.now) }
 {
     for attribute in attributes {
         if attribute.0 == name {
@@ -92,7 +93,8 @@ fn is_good(
     name: &str,
     value: &Value,
 ) -> Result<bool, OutOfMemory>
-    ensures { IfOk result (λ b. b ≡ is_good edit (map attribute_of attributes.now) name.now (view value.now)) }
+    ensures { IfOk result
+        (λ b. b ≡ is_good edit (map attribute_of attributes.now) name.now (view value.now)) }
 {
     match attribute_named(attributes, name) {
         Some(attribute) if is_read(edit, attribute.2) => takes(alloc, attribute, value),
@@ -107,7 +109,9 @@ fn first_bad(
     attributes: &[Attribute],
     object: &Map<String, Value>,
 ) -> Result<Option<Text>, OutOfMemory>
-    ensures { IfOk result (λ o. o ≡ first_bad edit (map attribute_of attributes.now) (members_view object.now.entries)) }
+    ensures { IfOk result
+        (λ o. o
+        ≡ first_bad edit (map attribute_of attributes.now) (members_view object.now.entries)) }
 {
     for (name, value) in object {
         if !is_good(alloc, edit, attributes, name.as_str(), value)? {
@@ -119,7 +123,8 @@ fn first_bad(
 
 // The name of the first attribute that has to be there and is missing.
 fn first_missing(attributes: &[Attribute], object: &Value) -> Option<&'static str>
-    ensures { option_map (λ s. s.now) result ≡ first_missing (map attribute_of attributes.now) (view object.now) }
+    ensures { option_map (λ s. s.now) result
+        ≡ first_missing (map attribute_of attributes.now) (view object.now) }
 {
     for attribute in attributes {
         if is_required(attribute.3) && object.get(attribute.0).is_none() {
@@ -136,7 +141,8 @@ fn missing_in(
     attributes: &[Attribute],
     object: &Value,
 ) -> Result<Option<Text>, OutOfMemory>
-    ensures { IfOk result (λ o. o ≡ missing_in edit (map attribute_of attributes.now) (view object.now)) }
+    ensures { IfOk result
+        (λ o. o ≡ missing_in edit (map attribute_of attributes.now) (view object.now)) }
 {
     if edit == Edit::Update {
         return Ok(None);
@@ -154,7 +160,8 @@ fn bad_among(
     attributes: &[Attribute],
     object: &Value,
 ) -> Result<Option<Text>, OutOfMemory>
-    ensures { IfOk result (λ o. o ≡ bad_among edit (map attribute_of attributes.now) (as_object (view object.now))) }
+    ensures { IfOk result
+        (λ o. o ≡ bad_among edit (map attribute_of attributes.now) (as_object (view object.now))) }
 {
     match object.as_object() {
         None => Ok(None),
@@ -170,7 +177,8 @@ pub(crate) fn first_wrong(
     attributes: &[Attribute],
     object: &Value,
 ) -> Result<Option<Text>, OutOfMemory>
-    ensures { IfOk result (λ o. o ≡ first_wrong edit (map attribute_of attributes.now) (view object.now)) }
+    ensures { IfOk result
+        (λ o. o ≡ first_wrong edit (map attribute_of attributes.now) (view object.now)) }
 {
     match bad_among(alloc, edit, attributes, object)? {
         Some(name) => Ok(Some(name)),

@@ -59,7 +59,9 @@ fn checked<B: Body>(
     name: &str,
     object: &Value,
 ) -> Result<Ask, BodyRefusal>
-    ensures { Answers result (checked (Some name.now) (B.says body.now (view object.now)) (first_wrong edit (B.attributes body.now (view object.now)) (view object.now))) }
+    ensures { Answers result
+        (checked (Some name.now) (B.says body.now (view object.now))
+        (first_wrong edit (B.attributes body.now (view object.now)) (view object.now))) }
 {
     if let Some(name) = first_wrong(alloc, edit, body.attributes(object), object)? {
         return Err(BodyRefusal::BadAttribute { name });
@@ -79,7 +81,8 @@ pub(crate) fn read_member<B: Body>(
     name: &str,
     text: &[u8],
 ) -> Result<Ask, BodyRefusal>
-    ensures { Answers result (member_read edit name.now (B.attributes body.now) (B.says body.now) text.now) }
+    ensures { Answers result
+        (member_read edit name.now (B.attributes body.now) (B.says body.now) text.now) }
 {
     let Some(json) = json_of(alloc, text)? else {
         return Err(no_frame(alloc, name)?);
@@ -105,7 +108,9 @@ fn one_of(alloc: Global, subnet: Option<Id>, port: Option<Id>) -> Result<Interfa
 
 // The interface that an object names.
 fn interface_by(alloc: Global, object: &Value) -> Result<InterfaceBy, BodyRefusal>
-    ensures { Answers result (interface_by (view object.now) (first_wrong Create interface_attributes (view object.now))) }
+    ensures { Answers result
+        (interface_by (view object.now)
+        (first_wrong Create interface_attributes (view object.now))) }
 {
     let attributes = interface_attributes();
     if let Some(name) = first_wrong(alloc, Edit::Create, attributes, object)? {

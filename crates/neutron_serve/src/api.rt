@@ -30,9 +30,13 @@ fn reply_to<K: Keeper>(
 ) -> Reply
     requires kept { Tells (K.kept keeper.old) world.old.state.rows }
     requires begins { BeginsWith bytes.now request.now }
-    ensures handled { (asked : Asked) → IsRequest bytes.now request.now asked → Handles (request_outcome world.old (request_of asked)) world.old world.new result }
-    ensures store_change { (asked : Asked) → IsRequest bytes.now request.now asked → result ≡ Reply.Refused Refusal.StoreFault → is_change (request_outcome world.old (request_of asked)) ≡ true }
-    ensures store_fault { result ≡ Reply.Refused Refusal.StoreFault → RoseBy 1 (K.faults keeper.old) (K.faults keeper.new) }
+    ensures handled { (asked : Asked) → IsRequest bytes.now request.now asked
+        → Handles (request_outcome world.old (request_of asked)) world.old world.new result }
+    ensures store_change { (asked : Asked) → IsRequest bytes.now request.now asked
+        → result ≡ Reply.Refused Refusal.StoreFault
+        → is_change (request_outcome world.old (request_of asked)) ≡ true }
+    ensures store_fault { result ≡ Reply.Refused Refusal.StoreFault
+        → RoseBy 1 (K.faults keeper.old) (K.faults keeper.new) }
     ensures later { K.faults keeper.old ≤ K.faults keeper.new }
     ensures kept { Tells (K.kept keeper.new) world.new.state.rows }
 {

@@ -14,8 +14,10 @@ use std::alloc::Global;
 
 // The route of a method and a path.
 fn routed(alloc: Global, method: &[u8], path: &[u8]) -> Result<Route, Refusal>
-    ensures ok { IfOk result (λ route. route_of method.now path.now ≡ To route.path route.method route.parameters) }
-    ensures err { (query body : List ℕ) → IfErr result (IsUnread (by_route query body (route_of method.now path.now))) }
+    ensures ok { IfOk result
+        (λ route. route_of method.now path.now ≡ To route.path route.method route.parameters) }
+    ensures err { (query body : List ℕ)
+        → IfErr result (IsUnread (by_route query body (route_of method.now path.now))) }
 {
     match find_route(alloc, method, path) {
         Ok(route) => Ok(route),
@@ -38,8 +40,15 @@ fn refused(refusal: BodyRefusal) -> Refusal
 
 // What the query of a route asks.
 fn queried(alloc: Global, route: &Route, query: &[u8]) -> Result<Query, Refusal>
-    ensures ok { (body : List ℕ) → IfOk result (λ asked. by_query route.now body (query_read route.now.path route.now.method query.now) ≡ by_body (ask_of route.now asked body)) }
-    ensures err { (body : List ℕ) → IfErr result (IsUnread (by_query route.now body (query_read route.now.path route.now.method query.now))) }
+    ensures ok { (body : List ℕ)
+        → IfOk result
+        (λ asked.
+        by_query route.now body (query_read route.now.path route.now.method query.now)
+        ≡ by_body (ask_of route.now asked body)) }
+    ensures err { (body : List ℕ)
+        → IfErr result
+        (IsUnread
+        (by_query route.now body (query_read route.now.path route.now.method query.now))) }
 {
     match read_query(alloc, route, query) {
         Ok(asked) => Ok(asked),

@@ -33,7 +33,8 @@ fn is_project_name(text: &[u8]) -> bool
 #[tactic(auto, using(crate::proofs::Naming::name_utf8, crate::proofs::Naming::name_there))]
 fn project_name(text: &[u8]) -> Option<&str>
     ensures named { IfSome result (λ t. not (is_empty t.now) ≡ true) }
-    ensures text { option_map (λ t. t.now) result ≡ (if is_project_name text.now then Some text.now else None) }
+    ensures text { option_map (λ t. t.now) result
+        ≡ (if is_project_name text.now then Some text.now else None) }
 {
     if !is_project_name(text) {
         return None;
@@ -51,8 +52,11 @@ pub(crate) fn read_caller(
     admin: bool,
 ) -> Result<Caller, Refusal>
     ensures named { IfOk result (λ caller. not (is_empty caller.project) ≡ true) }
-    ensures ok { IfOk result (λ caller. caller_of (option_copied project.entry) admin ≡ Some caller) }
-    ensures err { IfErr result (λ e. (e ≡ Refusal.OutOfMemory) ⊎ ((e ≡ Refusal.NoCaller) × (caller_of (option_copied project.entry) admin ≡ None))) }
+    ensures ok { IfOk result
+        (λ caller. caller_of (option_copied project.entry) admin ≡ Some caller) }
+    ensures err { IfErr result
+        (λ e. (e ≡ Refusal.OutOfMemory)
+        ⊎ ((e ≡ Refusal.NoCaller) × (caller_of (option_copied project.entry) admin ≡ None))) }
 {
     let Some(project) = project else {
         return Err(Refusal::NoCaller);

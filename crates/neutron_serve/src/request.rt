@@ -29,8 +29,11 @@ fn text(bytes: &[u8], part: Part) -> &[u8]
 fn caller(alloc: Global, bytes: &[u8], request: &Request) -> Result<Caller, Refusal>
     requires { BeginsWith bytes.now request.now }
     ensures named { IfOk result (λ caller. not (is_empty caller.project) ≡ true) }
-    ensures ok { (asked : Asked) → IsRequest bytes.now request.now asked → IfOk result (λ caller. caller_of (project_of asked.head) (is_admin asked.head) ≡ Some caller) }
-    ensures err { (asked : Asked) → IsRequest bytes.now request.now asked → IfErr result (IsUnread (request_of asked)) }
+    ensures ok { (asked : Asked) → IsRequest bytes.now request.now asked
+        → IfOk result
+        (λ caller. caller_of (project_of asked.head) (is_admin asked.head) ≡ Some caller) }
+    ensures err { (asked : Asked) → IsRequest bytes.now request.now asked
+        → IfErr result (IsUnread (request_of asked)) }
 {
     match request.parts.project {
         Some(part) => read_caller(alloc, Some(text(bytes, part)), request.parts.admin),
@@ -45,9 +48,11 @@ pub(crate) fn read_request(
     request: &Request,
 ) -> Result<(Caller, Ask), Refusal>
     requires { BeginsWith bytes.now request.now }
-    ensures ok { (asked : Asked) → IsRequest bytes.now request.now asked → IfOk result (λ r. request_of asked ≡ Ok (r.0, r.1)) }
+    ensures ok { (asked : Asked) → IsRequest bytes.now request.now asked
+        → IfOk result (λ r. request_of asked ≡ Ok (r.0, r.1)) }
     ensures in_form { IfOk result (λ r. IsAskInForm r.0 r.1) }
-    ensures err { (asked : Asked) → IsRequest bytes.now request.now asked → IfErr result (IsUnread (request_of asked)) }
+    ensures err { (asked : Asked) → IsRequest bytes.now request.now asked
+        → IfErr result (IsUnread (request_of asked)) }
 {
     let caller = caller(alloc, bytes, request)?;
     let parts = &request.parts;

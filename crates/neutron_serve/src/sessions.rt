@@ -20,8 +20,8 @@ use std::alloc::Global;
 /// nothing changed. Bytes that are refused have their reply, and a reply that closes the connection
 /// is the last one.
 ///
-/// A request's cost grows with its bytes, in whatever pieces they come, with its reply, and with the
-/// rows.
+/// A request's cost grows with its bytes, in whatever pieces they come, with its reply, and with
+/// the rows.
 pub fn session<K: Keeper, I: Source, O: Sink>(
     alloc: Global,
     world: &mut World,
@@ -35,8 +35,10 @@ pub fn session<K: Keeper, I: Source, O: Sink>(
         (moment world.old [] (I.left input.old) (O.written output.old) (O.flushed output.old) (K.faults keeper.old) 0)
         (moment world.new buffer (I.left input.new) (O.written output.new) (O.flushed output.new) (K.faults keeper.new) taken) result }
     ensures kept { Tells (K.kept keeper.new) world.new.state.rows }
-    ensures read_fault { result ≡ SessionEnd.ReadFault → RoseBy 1 (I.faults input.old) (I.faults input.new) }
-    ensures write_fault { result ≡ SessionEnd.WriteFault → RoseBy 1 (O.faults output.old) (O.faults output.new) }
+    ensures read_fault { result ≡ SessionEnd.ReadFault
+        → RoseBy 1 (I.faults input.old) (I.faults input.new) }
+    ensures write_fault { result ≡ SessionEnd.WriteFault
+        → RoseBy 1 (O.faults output.old) (O.faults output.new) }
 {
     let _held = world.rows(); // for the proof: the hosts hold the rows
     http_session::session::<Api, K, I, O>(alloc, world, keeper, input, output, limit)

@@ -40,8 +40,10 @@ fn status(end: SessionEnd) -> u8
 fn run_session<I: Source, O: Sink>(alloc: Global, input: &mut I, output: &mut O) -> SessionEnd
     ensures runs { RunsSession (record { left = I.left input.old; written = O.written output.old; flushed = O.flushed output.old })
         (record { left = I.left input.new; written = O.written output.new; flushed = O.flushed output.new }) result }
-    ensures read_fault { result ≡ SessionEnd.ReadFault → RoseBy 1 (I.faults input.old) (I.faults input.new) }
-    ensures write_fault { result ≡ SessionEnd.WriteFault → RoseBy 1 (O.faults output.old) (O.faults output.new) }
+    ensures read_fault { result ≡ SessionEnd.ReadFault
+        → RoseBy 1 (I.faults input.old) (I.faults input.new) }
+    ensures write_fault { result ≡ SessionEnd.WriteFault
+        → RoseBy 1 (O.faults output.old) (O.faults output.new) }
 {
     let Ok(mut world) = World::fresh(alloc) else {
         return SessionEnd::OutOfMemory;
@@ -67,12 +69,14 @@ pub fn run<D: Desk>(
     input: &mut D::In,
     output: &mut D::Out,
 ) -> u8
-    ensures wrong_words { is_session words.now ≡ false → (result ≡ 1) × (input.new ≡ input.old) × (output.new ≡ output.old) }
+    ensures wrong_words { is_session words.now ≡ false
+        → (result ≡ 1) × (input.new ≡ input.old) × (output.new ≡ output.old) }
     ensures runs { is_session words.now ≡ true → (end : End) × (result ≡ status_of end)
         × RunsSession (record { left = D.In.left input.old; written = D.Out.written output.old; flushed = D.Out.flushed output.old })
         (record { left = D.In.left input.new; written = D.Out.written output.new; flushed = D.Out.flushed output.new }) end }
     ensures read_fault { result ≡ 2 → RoseBy 1 (D.In.faults input.old) (D.In.faults input.new) }
-    ensures write_fault { result ≡ 3 → RoseBy 1 (D.Out.faults output.old) (D.Out.faults output.new) }
+    ensures write_fault { result ≡ 3
+        → RoseBy 1 (D.Out.faults output.old) (D.Out.faults output.new) }
     ensures desk { desk.new ≡ desk.old }
 {
     if !is_session(words) {

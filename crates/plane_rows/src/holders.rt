@@ -30,7 +30,8 @@ fn holds_live(rows: &Rows, network: Id, address: &Addr, port: &PortRow) -> bool
 }
 
 fn fixed_holder<'r>(rows: &'r Rows, network: Id, address: &Addr) -> Option<&'r PortRow>
-    ensures { option_copied result ≡ find (holds_live_by_rows rows.now network address.now) rows.now.ports }
+    ensures { option_copied result
+        ≡ find (holds_live_by_rows rows.now network address.now) rows.now.ports }
 {
     for port in rows.ports().rows() {
         if holds_live(rows, network, address, port) {

@@ -33,7 +33,8 @@ fn lease_in(alloc: Global, rows: &Rows, fixed: Fixed) -> Result<Option<Lease>, O
 
 // The first address of a port in a subnet in which the DHCP port holds one.
 fn fixed_leased(dhcp: &PortRow, port: &PortRow) -> Option<Fixed>
-    ensures { result ≡ find (λ (f : TheFixed). is_v4 f.address && held_in f.subnet dhcp.now) port.now.fixed }
+    ensures { result
+        ≡ find (λ (f : TheFixed). is_v4 f.address && held_in f.subnet dhcp.now) port.now.fixed }
 {
     for fixed in port.fixed.as_slice() {
         if fixed.address.is_v4() && holds_in(fixed.subnet, dhcp) {

@@ -1,8 +1,9 @@
 //! What frames and the tables of hosts ask of the rows of the Networking API.
 //!
-//! Which ports are live and which hear each other, who has a MAC or an address, what a port is leased,
-//! which router a port is of, and which routes and floating addresses a router has. It stands on
-//! `api_types`, by whose definitions each call answers. Only what makes lists takes memory.
+//! Which ports are live and which hear each other, who has a MAC or an address, what a port is
+//! leased, which router a port is of, and which routes and floating addresses a router has. It
+//! stands on `api_types`, by whose definitions each call answers. Only what makes lists takes
+//! memory.
 #![tactic(auto)]
 
 mod holders;

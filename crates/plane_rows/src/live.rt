@@ -24,7 +24,8 @@ pub fn is_live(rows: &Rows, port: &PortRow) -> bool
 
 /// The segment of the network with this id.
 pub fn segment_of(rows: &Rows, network: Id) -> Option<&Segment>
-    ensures { option_copied result ≡ option_map (λ (n : TheNetwork). n.segment) (network_of rows.now network) }
+    ensures { option_copied result
+        ≡ option_map (λ (n : TheNetwork). n.segment) (network_of rows.now network) }
 {
     let networks = rows.networks();
     let _own_ids = networks.rows();
@@ -57,7 +58,8 @@ pub fn has_wire(rows: &Rows, network: Id) -> bool
 }
 
 fn is_on(physical: &Text, tag: Option<u16>, segment: &Segment) -> bool
-    ensures { result ≡ is_wire (record { physical = physical.now; tag = tag }) (wire_by_segment segment.now) }
+    ensures { result
+        ≡ is_wire (record { physical = physical.now; tag = tag }) (wire_by_segment segment.now) }
 {
     match segment {
         Segment::Flat { physical: on } => *physical == *on && tag.is_none(),
@@ -72,7 +74,8 @@ fn is_on(physical: &Text, tag: Option<u16>, segment: &Segment) -> bool
 /// The network that a physical network carries untagged, or with this tag. Its cost grows with the
 /// networks.
 pub fn network_on<'r>(rows: &'r Rows, physical: &Text, tag: Option<u16>) -> Option<&'r NetworkRow>
-    ensures { option_copied result ≡ network_on_wire rows.now (record { physical = physical.now; tag = tag }) }
+    ensures { option_copied result
+        ≡ network_on_wire rows.now (record { physical = physical.now; tag = tag }) }
 {
     for network in rows.networks().rows() {
         if is_on(physical, tag, &network.segment) {

@@ -25,7 +25,8 @@ pub fn is_leg(rows: &Rows, router: &RouterRow, port: &PortRow) -> bool
 /// The live port of the router with this id. Its cost grows with the ports.
 #[tactic(auto, unfolding(api_types::specs::RouterRows::legs_of))]
 pub fn leg<'r>(rows: &'r Rows, router: &RouterRow, id: Id) -> Option<&'r PortRow>
-    ensures { option_copied result ≡ find (λ (p : ThePort). ident_eq id p.id) (legs_of rows.now router.now) }
+    ensures { option_copied result
+        ≡ find (λ (p : ThePort). ident_eq id p.id) (legs_of rows.now router.now) }
 {
     for port in rows.ports().rows() {
         if is_leg(rows, router, port) && id == port.id {
@@ -39,7 +40,8 @@ pub fn leg<'r>(rows: &'r Rows, router: &RouterRow, id: Id) -> Option<&'r PortRow
 /// addresses.
 #[tactic(auto, unfolding(api_types::specs::RouterRows::legs_of))]
 pub fn is_own_address(rows: &Rows, router: &RouterRow, address: &Addr) -> bool
-    ensures { result ≡ list_any (λ (p : ThePort). holds_address p address.now) (legs_of rows.now router.now) }
+    ensures { result
+        ≡ list_any (λ (p : ThePort). holds_address p address.now) (legs_of rows.now router.now) }
 {
     for port in rows.ports().rows() {
         if is_leg(rows, router, port) && holds(port, address) {
@@ -53,7 +55,8 @@ pub fn is_own_address(rows: &Rows, router: &RouterRow, address: &Addr) -> bool
 /// ports.
 #[tactic(auto, unfolding(api_types::specs::RouterRows::legs_of))]
 pub fn has_live_gateway(rows: &Rows, router: &RouterRow) -> bool
-    ensures { result ≡ list_any (λ (p : ThePort). not (interface_of p.owner)) (legs_of rows.now router.now) }
+    ensures { result
+        ≡ list_any (λ (p : ThePort). not (interface_of p.owner)) (legs_of rows.now router.now) }
 {
     for port in rows.ports().rows() {
         if is_leg(rows, router, port) && !is_interface(&port.owner) {
@@ -97,7 +100,8 @@ pub fn gateway_address(rows: &Rows, router: &RouterRow) -> Option<Addr4>
 
 // The fixed address that a floating address of this router stands for.
 fn fixed_by(floating: &FloatingRow, router: Id) -> Option<Addr4>
-    ensures { result ≡ option_map (λ (f : Float). f.fixed) (float_by router floating.now floating.now.target) }
+    ensures { result
+        ≡ option_map (λ (f : Float). f.fixed) (float_by router floating.now floating.now.target) }
 {
     match floating.target {
         Some(target) if router == target.router => Some(target.fixed),
@@ -109,7 +113,10 @@ fn fixed_by(floating: &FloatingRow, router: Id) -> Option<Addr4>
 /// cost grows with the floating addresses.
 #[tactic(auto, unfolding(api_types::specs::RouterRows::floats_of))]
 pub fn fixed_behind(rows: &Rows, router: &RouterRow, floating: &Addr) -> Option<Addr4>
-    ensures { result ≡ option_map (λ (f : Float). f.fixed) (find (λ (f : Float). addr_eq (V4 f.floating) floating.now) (floats_of rows.now router.now)) }
+    ensures { result
+        ≡ option_map (λ (f : Float). f.fixed)
+        (find (λ (f : Float). addr_eq (V4 f.floating) floating.now)
+        (floats_of rows.now router.now)) }
 {
     for row in rows.floatings().rows() {
         if let Some(fixed) = fixed_by(row, router.id) {
@@ -125,7 +132,9 @@ pub fn fixed_behind(rows: &Rows, router: &RouterRow, floating: &Addr) -> Option<
 /// with the floating addresses.
 #[tactic(auto, unfolding(api_types::specs::RouterRows::floats_of))]
 pub fn floating_for(rows: &Rows, router: &RouterRow, fixed: &Addr) -> Option<Addr4>
-    ensures { result ≡ option_map (λ (f : Float). f.floating) (find (λ (f : Float). addr_eq (V4 f.fixed) fixed.now) (floats_of rows.now router.now)) }
+    ensures { result
+        ≡ option_map (λ (f : Float). f.floating)
+        (find (λ (f : Float). addr_eq (V4 f.fixed) fixed.now) (floats_of rows.now router.now)) }
 {
     for row in rows.floatings().rows() {
         if let Some(inner) = fixed_by(row, router.id) {

@@ -49,7 +49,8 @@ fn way_by(
     rank: RouteRank,
     next: Option<Addr>,
 ) -> Option<Way>
-    ensures { option_map way_of result ≡ way_by_port (map (λ p. p.now) legs.now) subnet prefix rank next }
+    ensures { option_map way_of result
+        ≡ way_by_port (map (λ p. p.now) legs.now) subnet prefix rank next }
 {
     match leg_in(legs, subnet) {
         Some(port) => Some(Way {
@@ -72,7 +73,8 @@ pub fn named_subnet(rows: &Rows, id: Id) -> Option<&SubnetRow>
 }
 
 fn connected_way(rows: &Rows, legs: &[&PortRow], fixed: Fixed) -> Option<Way>
-    ensures { option_map way_of result ≡ connected_by (map (λ p. p.now) legs.now) (subnet_named rows.now fixed.subnet) }
+    ensures { option_map way_of result
+        ≡ connected_by (map (λ p. p.now) legs.now) (subnet_named rows.now fixed.subnet) }
 {
     let subnet = named_subnet(rows, fixed.subnet)?;
     way_by(legs, subnet.id, subnet.prefix, RouteRank::Connected, None)
@@ -94,7 +96,13 @@ fn add_connected_of(
     port: &PortRow,
     ways: &mut Vec<Way>,
 ) -> Result<(), OutOfMemory>
-    ensures { OnOk result (map way_of ways.new.items ≡ map way_of ways.old.items ++ filter_map (λ (f : TheFixed). connected_by (map (λ p. p.now) legs.now) (subnet_named rows.now f.subnet)) (in_order by_address port.now.fixed)) }
+    ensures { OnOk result
+        (map way_of ways.new.items
+        ≡ map way_of ways.old.items
+        ++ filter_map
+        (λ (f : TheFixed).
+        connected_by (map (λ p. p.now) legs.now) (subnet_named rows.now f.subnet))
+        (in_order by_address port.now.fixed)) }
 {
     let held = held_by_address(alloc, port)?;
     for fixed in held.as_slice() {
@@ -113,7 +121,9 @@ fn add_connected(
     legs: &[&PortRow],
     ways: &mut Vec<Way>,
 ) -> Result<(), OutOfMemory>
-    ensures { OnOk result (map way_of ways.new.items ≡ map way_of ways.old.items ++ connected_by_rows rows.now (map (λ p. p.now) legs.now)) }
+    ensures { OnOk result
+        (map way_of ways.new.items
+        ≡ map way_of ways.old.items ++ connected_by_rows rows.now (map (λ p. p.now) legs.now)) }
 {
     for port in legs {
         add_connected_of(alloc, rows, legs, port, ways)?;
@@ -142,7 +152,9 @@ fn fixed_of_port(rows: &Rows, port: &PortRow, address: &Addr) -> Option<Fixed>
 
 // The first address of these ports in whose subnet the address lies.
 fn fixed_toward(rows: &Rows, legs: &[&PortRow], address: &Addr) -> Option<Fixed>
-    ensures { result ≡ find (holds_next_hop rows.now address.now) (flat_map (λ (p : ThePort). p.fixed) (map (λ p. p.now) legs.now)) }
+    ensures { result
+        ≡ find (holds_next_hop rows.now address.now)
+        (flat_map (λ (p : ThePort). p.fixed) (map (λ p. p.now) legs.now)) }
 {
     for port in legs {
         if let Some(fixed) = fixed_of_port(rows, port, address) {
@@ -173,7 +185,10 @@ fn add_extra(
     routes: &[Hop],
     ways: &mut Vec<Way>,
 ) -> Result<(), OutOfMemory>
-    ensures { OnOk result (map way_of ways.new.items ≡ map way_of ways.old.items ++ extras_by_rows rows.now (map (λ p. p.now) legs.now) routes.now) }
+    ensures { OnOk result
+        (map way_of ways.new.items
+        ≡ map way_of ways.old.items
+        ++ extras_by_rows rows.now (map (λ p. p.now) legs.now) routes.now) }
 {
     for hop in routes {
         if let Some(way) = extra_way(rows, legs, *hop) {
@@ -200,7 +215,8 @@ fn everything(gateway: &Addr) -> Prefix
 }
 
 fn default_in(legs: &[&PortRow], subnet: &SubnetRow) -> Option<Way>
-    ensures { option_to_list (option_map way_of result) ≡ default_by (map (λ p. p.now) legs.now) (Some subnet.now) }
+    ensures { option_to_list (option_map way_of result)
+        ≡ default_by (map (λ p. p.now) legs.now) (Some subnet.now) }
 {
     let gateway = subnet.gateway?;
     way_by(
@@ -213,14 +229,17 @@ fn default_in(legs: &[&PortRow], subnet: &SubnetRow) -> Option<Way>
 }
 
 fn default_way(rows: &Rows, legs: &[&PortRow], fixed: Fixed) -> Option<Way>
-    ensures { option_to_list (option_map way_of result) ≡ default_by (map (λ p. p.now) legs.now) (subnet_named rows.now fixed.subnet) }
+    ensures { option_to_list (option_map way_of result)
+        ≡ default_by (map (λ p. p.now) legs.now) (subnet_named rows.now fixed.subnet) }
 {
     let subnet = named_subnet(rows, fixed.subnet)?;
     default_in(legs, subnet)
 }
 
 fn live_gateway_port<'r>(rows: &'r Rows, router: &RouterRow) -> Option<&'r PortRow>
-    ensures { (legs : List ThePort) → defaults_of_port rows.now legs (option_copied result) ≡ default_by_rows rows.now legs (gateway_by_rows rows.now router.now) }
+    ensures { (legs : List ThePort)
+        → defaults_of_port rows.now legs (option_copied result)
+        ≡ default_by_rows rows.now legs (gateway_by_rows rows.now router.now) }
 {
     let port = gateway_port(rows, router)?;
     if is_live(rows, port) {
@@ -238,7 +257,10 @@ fn add_defaults_of(
     port: &PortRow,
     ways: &mut Vec<Way>,
 ) -> Result<(), OutOfMemory>
-    ensures { OnOk result (map way_of ways.new.items ≡ map way_of ways.old.items ++ defaults_of_port rows.now (map (λ p. p.now) legs.now) (Some port.now)) }
+    ensures { OnOk result
+        (map way_of ways.new.items
+        ≡ map way_of ways.old.items
+        ++ defaults_of_port rows.now (map (λ p. p.now) legs.now) (Some port.now)) }
 {
     let held = held_by_address(alloc, port)?;
     for fixed in held.as_slice() {
@@ -257,7 +279,11 @@ fn add_defaults(
     router: &RouterRow,
     ways: &mut Vec<Way>,
 ) -> Result<(), OutOfMemory>
-    ensures { OnOk result (map way_of ways.new.items ≡ map way_of ways.old.items ++ default_by_rows rows.now (map (λ p. p.now) legs.now) (gateway_by_rows rows.now router.now)) }
+    ensures { OnOk result
+        (map way_of ways.new.items
+        ≡ map way_of ways.old.items
+        ++ default_by_rows rows.now (map (λ p. p.now) legs.now)
+        (gateway_by_rows rows.now router.now)) }
 {
     match live_gateway_port(rows, router) {
         Some(port) => add_defaults_of(alloc, rows, legs, port, ways),

@@ -26,7 +26,8 @@ impl Model for Entries {
 
     ghost Value = { WithSpare TheEntry };
 
-    ghost view = { λ a. record { items = a.items.items; spare = vec_capacity a.items - vec_len a.items } };
+    ghost view = { λ a.
+        record { items = a.items.items; spare = vec_capacity a.items - vec_len a.items } };
 }
 
 /// The entries that one event has made so far.
@@ -78,8 +79,8 @@ impl Entries {
         self.items.as_slice()
     }
 
-    /// Drops the entries of ports without a tap by these tables, and of routers that they haven't. It
-    /// takes no memory. Its cost grows with the entries times taps and routers.
+    /// Drops the entries of ports without a tap by these tables, and of routers that they haven't.
+    /// It takes no memory. Its cost grows with the entries times taps and routers.
     pub fn keep_placed(&mut self, tables: &HostTables)
         ensures items { self.new.items ≡ filter (is_placed_at tables.now) self.old.items }
         ensures spare { self.old.spare ≤ self.new.spare }

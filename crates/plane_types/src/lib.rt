@@ -5,8 +5,8 @@
 //! the rows of `api_types`. Definitions are over the declared types, so contracts above cite both.
 //! A key is a packet's ends and ports as its protocol has them; both ends are of one version of IP,
 //! by their type. Beside the types stands what rows and tables ask alike of single packets: keys,
-//! flows, the parts of a filter, allowed pairs and translations. Only tables take memory, where they
-//! are copied or put into order.
+//! flows, the parts of a filter, allowed pairs and translations. Only tables take memory, where
+//! they are copied or put into order.
 #![tactic(auto)]
 
 mod ascending;

@@ -23,7 +23,10 @@ impl Ordered for BridgeRow {
 
     ghost before = { bridge_before };
 
-    ghost order = { record { one_way = λ x y h. Prim.grind (arith, nat_tests); chain = λ x y z h k. Prim.grind (arith, nat_tests) } };
+    ghost order = { record {
+      one_way = λ x y h. Prim.grind (arith, nat_tests);
+      chain = λ x y z h k. Prim.grind (arith, nat_tests);
+    } };
 
     fn is_before(&self, other: &BridgeRow) -> bool {
         self.tag < other.tag
@@ -38,7 +41,10 @@ impl Ordered for NeighbourRow {
 
     ghost before = { neighbour_before };
 
-    ghost order = { record { one_way = λ x y h. Prim.grind (arith, nat_tests); chain = λ x y z h k. Prim.grind (arith, nat_tests) } };
+    ghost order = { record {
+      one_way = λ x y h. Prim.grind (arith, nat_tests);
+      chain = λ x y z h k. Prim.grind (arith, nat_tests);
+    } };
 
     fn is_before(&self, other: &NeighbourRow) -> bool {
         self.tag < other.tag || (self.tag == other.tag && self.address < other.address)

@@ -16,7 +16,8 @@ pub fn has_pair_mac(pairs: &[Pair], mac: Mac) -> bool
 
 /// Whether a pair has the MAC, and a prefix with the address. Its cost grows with the pairs.
 pub fn is_allowed(pairs: &[Pair], mac: Mac, from: Addr) -> bool
-    ensures { result ≡ list_any (λ (x : ThePair). (x.mac == mac) && contains x.prefix from) pairs.now }
+    ensures { result
+        ≡ list_any (λ (x : ThePair). (x.mac == mac) && contains x.prefix from) pairs.now }
 {
     pairs
         .iter()

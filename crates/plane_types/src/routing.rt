@@ -67,7 +67,11 @@ pub fn with_ends(packet: &Packet, ends: Ends, part: KeyPart) -> Packet
 
 /// The packet with the source that the entry keeps as its destination.
 pub fn answered_to(packet: &Packet, entry: &Use) -> Packet
-    ensures { packet_of result ≡ record (packet_of packet.now) { ends = other_way_round entry.now.key.ends; part = with_destination_port packet.now.part entry.now.key.sport } }
+    ensures { packet_of result
+        ≡ record (packet_of packet.now) {
+          ends = other_way_round entry.now.key.ends;
+          part = with_destination_port packet.now.part entry.now.key.sport;
+        } }
 {
     with_ends(
         packet,
@@ -79,7 +83,12 @@ pub fn answered_to(packet: &Packet, entry: &Use) -> Packet
 /// The packet with one step less to live.
 pub fn lower(destined: &Destined) -> Destined
     requires { 1 < destined.now.packet.ttl }
-    ensures { destined_of result ≡ record { packet = record (packet_of destined.now.packet) { ttl = destined.now.packet.ttl - 1 }; by = changed_of destined.now.by } }
+    ensures { destined_of result
+        ≡ record {
+          packet = record (packet_of destined.now.packet)
+              { ttl = destined.now.packet.ttl - 1 };
+          by = changed_of destined.now.by;
+        } }
 {
     Destined {
         packet: Packet {

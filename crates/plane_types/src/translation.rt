@@ -54,7 +54,10 @@ pub fn answers(outer: Addr4, packet: &Packet, entry: &Use) -> bool
 
 /// Whether an entry with the kind and far end of a key has the port.
 pub fn takes(entry: &Use, key: &Key, port: u16) -> bool
-    ensures { result ≡ ((entry.now.port == port) && kind_eq entry.now.key.kind key.now.kind && addr_eq (destined_to entry.now.key.ends) (destined_to key.now.ends) && (entry.now.key.dport == key.now.dport)) }
+    ensures { result
+        ≡ ((entry.now.port == port) && kind_eq entry.now.key.kind key.now.kind
+        && addr_eq (destined_to entry.now.key.ends) (destined_to key.now.ends)
+        && (entry.now.key.dport == key.now.dport)) }
 {
     entry.port == port
         && is_kind(entry.key.kind, key.kind)

@@ -8,7 +8,8 @@ use std::alloc::Global;
 
 // The place behind a table's rows, or none where a row with this id stands there.
 fn end_for<R: Keyed>(table: &Table<R>, row: &R) -> Option<usize>
-    ensures { IfSome result (λ n. (n ≡ length table.now) × (row_of R.id_of (R.id_of row.now) table.now ≡ None)) }
+    ensures { IfSome result
+        (λ n. (n ≡ length table.now) × (row_of R.id_of (R.id_of row.now) table.now ≡ None)) }
 {
     match table.get(row.id()) {
         Some(_) => None,

@@ -22,8 +22,8 @@ fn add_rule(
     add(alloc, rows, Row::Rule(row))
 }
 
-// The group 40 with the rules of a default group, and the group 50, whose rule lets TCP over IPv6 in
-// and comes between these.
+// The group 40 with the rules of a default group, and the group 50, whose rule lets TCP over IPv6
+// in and comes between these.
 fn add_groups(alloc: Global, rows: &mut Rows) -> Result<(), OutOfMemory> {
     add(alloc, rows, Row::Group(group(alloc, 40, "default")?))?;
     add(alloc, rows, Row::Group(group(alloc, 50, "web")?))?;
@@ -37,8 +37,8 @@ fn add_groups(alloc: Global, rows: &mut Rows) -> Result<(), OutOfMemory> {
     add_rule(alloc, rows, 44, Direction::Ingress, Ethertype::Ipv6)
 }
 
-// 10.0.0.5 and 2001:db8::5 with a pair of each version on c1, in both groups, and 10.0.0.6, 10.0.0.5
-// and 2001:db8::5 on another network on c2, in the first group.
+// 10.0.0.5 and 2001:db8::5 with a pair of each version on c1, in both groups, and 10.0.0.6,
+// 10.0.0.5 and 2001:db8::5 on another network on c2, in the first group.
 fn add_members(alloc: Global, rows: &mut Rows) -> Result<(), OutOfMemory> {
     add_vxlan(alloc, rows, 10, 1)?;
     add_vxlan(alloc, rows, 11, 2)?;

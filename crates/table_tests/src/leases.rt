@@ -7,8 +7,8 @@ use std::alloc::Global;
 use std::test::Fail;
 use test_rows::{add, bound_port, four, held, held_six, prefix, prefix_six, service_port, subnet};
 
-// Network 10 with a subnet of version 6 and two of version 4, of which the first gives a gateway and
-// a name server, and network 11 with one.
+// Network 10 with a subnet of version 6 and two of version 4, of which the first gives a gateway
+// and a name server, and network 11 with one.
 fn add_networks(alloc: Global, rows: &mut Rows) -> Result<(), OutOfMemory> {
     add_vxlan(alloc, rows, 10, 1)?;
     let six = subnet(alloc, 93, 10, prefix_six(SIX, 64))?;
@@ -41,8 +41,8 @@ fn add_clients(alloc: Global, rows: &mut Rows) -> Result<(), OutOfMemory> {
     add(alloc, rows, Row::Port(other))
 }
 
-// The DHCP port of network 10 on c1, in its subnet of version 6 and the first of version 4, and that
-// of network 11 on c2.
+// The DHCP port of network 10 on c1, in its subnet of version 6 and the first of version 4, and
+// that of network 11 on c2.
 fn add_servers(alloc: Global, rows: &mut Rows) -> Result<(), OutOfMemory> {
     let mut here = service_port(alloc, 2, 10, held_six(93, SIX + 2), "network:dhcp", "")?;
     here.fixed.push(held(90, INNER + 2))?;

@@ -1,7 +1,7 @@
 //! Tests of `l2_agent`, `l3_agent` and `dhcp_agent`: the tables of hosts for rows made by hand.
 //!
-//! The rows of the tables were worked out by hand. A crate with tests is proved twice, so they stand
-//! here, above the three crates, and not in them. It promises nothing by itself.
+//! The rows of the tables were worked out by hand. A crate with tests is proved twice, so they
+//! stand here, above the three crates, and not in them. It promises nothing by itself.
 #![tactic(auto)]
 
 #[cfg(test)]

@@ -6,8 +6,8 @@ use plane_types::{
 };
 use std::alloc::Global;
 
-/// A row of a table in a line: ids by their counts, MACs and addresses by their last byte, which has
-/// two colons in front in version 6.
+/// A row of a table in a line: ids by their counts, MACs and addresses by their last byte, which
+/// has two colons in front in version 6.
 pub(crate) trait Line {
     fn line(&self, alloc: Global) -> Result<String, OutOfMemory>;
 }

@@ -12,7 +12,8 @@ fn are_neighbours(alloc: Global, rows: &Rows, wanted: &str) -> Result<bool, OutO
     are_lines(alloc, tables.neighbours.as_slice(), wanted)
 }
 
-// A router's gateway port on network 10, and a floating address of that network that it answers for.
+// A router's gateway port on network 10, and a floating address of that network that it answers
+// for.
 fn add_floating(alloc: Global, rows: &mut Rows) -> Result<(), OutOfMemory> {
     let owner = "network:router_gateway";
     let device = "00000001-0000-8000-8000-00000000001e";
