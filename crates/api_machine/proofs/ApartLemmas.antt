@@ -10,7 +10,7 @@ use Rattle.api_types.specs.declared.call.Caller.{Caller}
 use Rattle.api_types.specs.declared.change.Item.{Item}
 use Rattle.api_types.specs.declared.refusal.Refusal.{Refusal}
 use Rattle.net_settings.specs.Defaults.{default_parts}
-use Rattle.api_steps.specs.Refusing.{told}
+use Rattle.api_types.specs.Refusing.{told}
 use Rattle.api_steps.specs.State.{State}
 use Rattle.api_steps.specs.Step.{api_step}
 use Rattle.api_steps.proofs.StepApart.{step_apart}

@@ -31,12 +31,12 @@ use Rattle.row_laws.proofs.DrawnKept.{drawn_new}
 use Rattle.api_types.proofs.ListLemmas.{none-counted}
 use Rattle.api_types.proofs.NameLemmas.{unnamed}
 use Rattle.api_policy.specs.Visibility.{is_own, sees_network}
-use Rattle.api_steps.specs.Given.{owner_of}
+use Rattle.api_types.specs.Given.{owner_of}
 use Rattle.api_steps.specs.InForm.{have_names}
 use Rattle.api_steps.specs.Networks.{changed_network, creation_refusal, deletion_refusal, network_added, network_created, network_deleted, network_in_use, network_named, network_user, network_replaced, network_shown, network_updated, new_network, update_refusal, with_changed}
 use Rattle.api_steps.specs.NotBuilt.{is_network_ahead}
 use Rattle.api_ml2.specs.Numbers.{free_number}
-use Rattle.api_steps.specs.Refusing.{needing, not_found, unless, when}
+use Rattle.api_types.specs.Refusing.{needing, not_found, unless, when}
 use Rattle.api_steps.specs.State.{State, drawing_at, is_last}
 use Rattle.api_steps.specs.Step.{network_asked, network_change_asked}
 use Rattle.api_steps.proofs.NetworksKept.{created_kept, deleted_kept, owner_named, updated_kept}

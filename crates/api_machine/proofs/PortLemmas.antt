@@ -24,11 +24,11 @@ use Rattle.net_settings.specs.Defaults.{default_parts}
 use Rattle.row_laws.specs.NewRows.{with_port}
 use Rattle.row_laws.proofs.DrawnKept.{drawn_new}
 use Rattle.api_policy.specs.Visibility.{seen_networks}
-use Rattle.api_steps.specs.Given.{are_unlike, owner_of, value_of, value_or}
+use Rattle.api_types.specs.Given.{are_unlike, owner_of, value_of, value_or}
 use Rattle.api_steps.specs.InForm.{IsPortForm}
 use Rattle.api_steps.specs.NotBuilt.{is_port_ahead}
 use Rattle.api_steps.specs.Ports.{creation_refusal, groups_at_first, new_port, port_added, port_created, port_made, port_shown, text_of}
-use Rattle.api_steps.specs.Refusing.{at_name, needing, not_found, unless, when}
+use Rattle.api_types.specs.Refusing.{at_name, needing, not_found, unless, when}
 use Rattle.api_steps.specs.State.{State, drawing_at}
 use Rattle.api_steps.specs.Step.{port_asked}
 use Rattle.api_steps.proofs.NetworksKept.{owner_named}

@@ -5,10 +5,10 @@ use Rattle.api_types.specs.declared.call.Caller.{Caller}
 use Rattle.api_types.specs.declared.form.PortForm.{PortForm}
 use Rattle.api_types.specs.declared.network.NetworkRow.{NetworkRow}
 use Rattle.api_policy.specs.Visibility.{seen_networks}
-use Rattle.api_steps.specs.Given.{are_unlike, value_of}
+use Rattle.api_types.specs.Given.{are_unlike, value_of}
 use Rattle.api_steps.specs.NotBuilt.{is_port_ahead}
 use Rattle.api_steps.specs.Ports.{creation_refusal}
-use Rattle.api_steps.specs.Refusing.{at_name}
+use Rattle.api_types.specs.Refusing.{at_name}
 
 -- no refusal comes before the drawing of the port's id
 pub record IsOpen (rows : RowLists) (caller : Caller) (form : PortForm) (n : NetworkRow) : Type 0 where

@@ -1,7 +1,7 @@
 ghost use Rattle.std.specs.Prelude.{◌≡◌, ◌||◌, [], codes};
 ghost use Rattle.std.specs.Str.{bytes_eq};
 ghost use Rattle.api_types.specs.Lists.{is_empty};
-ghost use Rattle.api_steps.specs.Given.{value_or};
+ghost use Rattle.api_types.specs.Given.{value_or};
 ghost use Rattle.api_steps.specs.NotBuilt.{is_network_ahead as is_network_ahead_of, is_port_ahead as is_port_ahead_of};
 
 use crate::given::is_given;

@@ -1,5 +1,5 @@
 ghost use Rattle.std.specs.Prelude.{◌≡◌, IfOk};
-ghost use Rattle.api_steps.specs.Given.{are_unlike as are_unlike_of, is_for_other as is_for_other_of, is_given as is_given_of, is_other as is_other_of, owner_of, value_or as value_or_of};
+ghost use Rattle.api_types.specs.Given.{are_unlike as are_unlike_of, is_for_other as is_for_other_of, is_given as is_given_of, is_other as is_other_of, owner_of, value_or as value_or_of};
 
 use api_types::{Caller, Given};
 use net_addr::{Copies, OutOfMemory, Text};

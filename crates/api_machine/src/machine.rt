@@ -6,7 +6,7 @@ ghost use Rattle.api_types.specs.Printed.{reply_of};
 ghost use Rattle.api_types.specs.Rows.{Fits, after, no_rows};
 ghost use Rattle.net_settings.specs.Defaults.{default_parts};
 ghost use Rattle.api_steps.specs.InForm.{IsForm, IsInForm};
-ghost use Rattle.api_steps.specs.Refusing.{told};
+ghost use Rattle.api_types.specs.Refusing.{told};
 ghost use Rattle.api_steps.specs.State.{State};
 ghost use Rattle.api_steps.specs.Step.{api_step, kind_listed, row_created, row_deleted, row_shown, row_updated};
 ghost use Rattle.api_machine.specs.Alike.{AreAlike};

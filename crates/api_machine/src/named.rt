@@ -1,7 +1,7 @@
 ghost use Rattle.std.specs.Prelude.{◌≡◌, IfOk, filter, option_copied};
 ghost use Rattle.api_types.specs.declared.refusal.Refusal.TheVariants.{Forbidden as ForbiddenBy};
 ghost use Rattle.api_policy.specs.Visibility.{is_own as is_own_of};
-ghost use Rattle.api_steps.specs.Refusing.{at_name, not_found as not_found_of};
+ghost use Rattle.api_types.specs.Refusing.{at_name, not_found as not_found_of};
 
 use api_policy::Visible;
 use api_types::{Caller, Id, Kind, PolicyRule, Refusal, Rows, Table};

@@ -23,7 +23,7 @@ use Rattle.row_laws.specs.NewRows.{with_network}
 use Rattle.api_policy.specs.Visibility.{is_own, owns_network, seen_networks, seen_ports, seen_subnets, sees_network, sees_port, sees_subnet, uses_network}
 use Rattle.api_steps.specs.Footing.{blank, footing, guard, held_of, is_close, is_held_by, is_near, near_of, unnumbered}
 use Rattle.api_ml2.specs.Numbers.{least_free}
-use Rattle.api_steps.specs.Refusing.{told}
+use Rattle.api_types.specs.Refusing.{told}
 use Rattle.api_steps.specs.State.{State}
 use Rattle.api_steps.specs.Step.{api_step}
 use Rattle.api_types.proofs.ListLemmas.{any-filter_none, any-none, any-push, none-any, none-counted, or_false}

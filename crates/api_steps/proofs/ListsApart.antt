@@ -25,7 +25,7 @@ use Rattle.api_policy.specs.Ports.{port_members}
 use Rattle.api_policy.specs.Shown.{shown_as}
 use Rattle.api_steps.specs.Footing.{Near, blank, footing, is_near}
 use Rattle.api_steps.specs.Reads.{marker_text, rows_listed}
-use Rattle.api_steps.specs.Refusing.{not_found, told, unless, when}
+use Rattle.api_types.specs.Refusing.{not_found, told, unless, when}
 use Rattle.api_steps.specs.State.{State}
 use Rattle.api_types.proofs.ListLemmas.{and_both, any-at, none_some, one_row}
 use Rattle.api_steps.proofs.FootingLemmas.{near_same, network_id, port_id, port_near, seen_near, subnets_same, unless_alike}

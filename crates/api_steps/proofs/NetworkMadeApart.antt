@@ -15,10 +15,10 @@ use Rattle.api_types.specs.declared.refusal.Refusal.TheVariants.{CountersSpent, 
 use Rattle.net_settings.specs.Settings.{SettingsParts}
 use Rattle.row_laws.specs.NewRows.{with_network}
 use Rattle.api_steps.specs.Footing.{blank, footing}
-use Rattle.api_steps.specs.Given.{are_unlike, is_for_other, owner_of}
+use Rattle.api_types.specs.Given.{are_unlike, is_for_other, owner_of}
 use Rattle.api_steps.specs.Networks.{creation_refusal, network_added, network_created, new_network}
 use Rattle.api_ml2.specs.Numbers.{free_number, least_free}
-use Rattle.api_steps.specs.Refusing.{needing, told, when}
+use Rattle.api_types.specs.Refusing.{needing, told, when}
 use Rattle.api_steps.specs.State.{State, drawing_at}
 use Rattle.api_steps.proofs.DrawnAlike.{counts_of, counts_same, drawn_one, new_no_subnets, new_not_open}
 use Rattle.api_steps.proofs.FootingLemmas.{first_none, not_admin, owner_own, needing_alike, needing_by, rest_none, unless_alike}

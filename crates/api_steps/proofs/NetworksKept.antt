@@ -32,11 +32,11 @@ use Rattle.row_laws.proofs.NetworkCreated.{network_created as made_kept, vxlan_a
 use Rattle.row_laws.proofs.NetworkGone.{network_gone}
 use Rattle.row_laws.proofs.NetworkReplaced.{network_replaced as replaced_kept}
 use Rattle.api_policy.specs.Visibility.{is_own, sees_network}
-use Rattle.api_steps.specs.Given.{owner_of}
+use Rattle.api_types.specs.Given.{owner_of}
 use Rattle.api_steps.specs.InForm.{has_name, have_names}
 use Rattle.api_steps.specs.Networks.{changed_network, creation_refusal, deletion_refusal, network_created, network_deleted, network_in_use, network_named, network_updated, network_user, new_network, update_refusal, with_changed}
 use Rattle.api_ml2.specs.Numbers.{free_number, is_taken, least_free, numbers}
-use Rattle.api_steps.specs.Refusing.{not_found, unless, when}
+use Rattle.api_types.specs.Refusing.{not_found, unless, when}
 use Rattle.api_steps.specs.State.{State, drawing_at, is_last}
 use Rattle.api_steps.proofs.OutcomeLemmas.{if_some, moved_rows, named_is, needing_moved, none_first, put_once, unfound, unless_moved}
 

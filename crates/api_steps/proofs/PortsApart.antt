@@ -33,10 +33,10 @@ use Rattle.api_policy.specs.Ports.{port_members}
 use Rattle.api_policy.specs.Shown.{shown_as}
 use Rattle.api_ml2.specs.Binding.{bound}
 use Rattle.api_steps.specs.Footing.{Near, blank, footing, is_near, near_of, unnumbered}
-use Rattle.api_steps.specs.Given.{are_unlike, is_for_other, is_given, owner_of, value_of, value_or}
+use Rattle.api_types.specs.Given.{are_unlike, is_for_other, is_given, owner_of, value_of, value_or}
 use Rattle.api_steps.specs.Ports.{creation_refusal, groups_at_first, has_subnet, ids_of, is_for_admin, is_for_owner, is_held, may_use, new_port, port_created, port_made, port_shown, text_of}
 use Rattle.api_steps.specs.Reads.{row_told}
-use Rattle.api_steps.specs.Refusing.{at_name, first_refusal, needing, not_found, told, unless, when}
+use Rattle.api_types.specs.Refusing.{at_name, first_refusal, needing, not_found, told, unless, when}
 use Rattle.api_steps.specs.State.{State, drawing_at}
 use Rattle.api_types.proofs.ListLemmas.{and_both, or_none}
 use Rattle.api_steps.proofs.DrawnAlike.{counts_of, counts_same, drawn_one, groups_of, groups_same}

@@ -40,10 +40,10 @@ use Rattle.api_types.proofs.ListLemmas.{and_both, at-any, count-none, false_true
 use Rattle.api_types.proofs.NameLemmas.{bytes_itself, bytes_same, by_test, ident_itself}
 use Rattle.row_laws.proofs.PortPushed.{port_pushed}
 use Rattle.api_policy.specs.Visibility.{is_own, sees_network, seen_networks}
-use Rattle.api_steps.specs.Given.{are_unlike, is_for_other, is_given, is_other, owner_of, value_of, value_or}
+use Rattle.api_types.specs.Given.{are_unlike, is_for_other, is_given, is_other, owner_of, value_of, value_or}
 use Rattle.api_steps.specs.InForm.{IsPortForm}
 use Rattle.api_steps.specs.Ports.{creation_refusal, groups_at_first, has_subnet, ids_of, is_for_admin, is_for_owner, is_held, may_use, new_port, port_added, port_created, port_made, text_of}
-use Rattle.api_steps.specs.Refusing.{at_name, needing, not_found, unless, when}
+use Rattle.api_types.specs.Refusing.{at_name, needing, not_found, unless, when}
 use Rattle.api_steps.specs.State.{State, drawing_at}
 use Rattle.api_steps.proofs.NetworksKept.{drawn_is, owner_named}
 use Rattle.api_steps.proofs.OutcomeLemmas.{IsNamed, found_at, moved_rows, named_is, needing_moved, none_first, not_when, unless_moved}

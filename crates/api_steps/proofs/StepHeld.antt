@@ -41,13 +41,13 @@ use Rattle.row_laws.proofs.PortPushed as port_pushed
 use Rattle.api_ml2.specs.Carrying.{carries}
 use Rattle.api_policy.specs.Visibility.{seen_networks, sees_network}
 use Rattle.api_ml2.specs.Binding.{binds, bound}
-use Rattle.api_steps.specs.Given.{are_unlike, owner_of, value_of, value_or}
+use Rattle.api_types.specs.Given.{are_unlike, owner_of, value_of, value_or}
 use Rattle.api_steps.specs.Networks.{changed_network, creation_refusal, deletion_refusal, network_created, network_deleted, network_named, network_updated, new_network, update_refusal}
 use Rattle.api_steps.specs.Holdable.{AreHoldable}
 use Rattle.api_steps.specs.NotBuilt.{is_network_ahead, is_port_ahead}
 use Rattle.api_ml2.specs.Numbers.{free_number}
 use Rattle.api_steps.specs.Ports as ports
-use Rattle.api_steps.specs.Refusing.{at_name, needing, not_found, unless, when}
+use Rattle.api_types.specs.Refusing.{at_name, needing, not_found, unless, when}
 use Rattle.api_steps.specs.State.{State, drawing_at}
 use Rattle.api_steps.specs.Step.{api_step, row_created, row_deleted, row_updated}
 use Rattle.api_steps.proofs.NetworksKept.{drawn_is, not_used, unused}

@@ -31,13 +31,13 @@ use Rattle.api_policy.specs.Listed.{has_marker, listed as rows_of}
 use Rattle.api_policy.specs.Networks.{network_members}
 use Rattle.api_policy.specs.Ports.{port_members}
 use Rattle.api_policy.specs.Shown.{shown_as}
-use Rattle.api_steps.specs.Given.{is_given, value_of}
+use Rattle.api_types.specs.Given.{is_given, value_of}
 use Rattle.api_steps.specs.InForm.{IsForm, IsInForm, IsPortForm}
 use Rattle.api_steps.specs.Networks.{network_created, network_updated}
 use Rattle.api_steps.specs.NotBuilt.{host_of, is_kind_ahead, is_network_ahead, is_port_ahead}
 use Rattle.api_steps.specs.Ports.{port_created}
 use Rattle.api_steps.specs.Reads.{marker_text, row_told}
-use Rattle.api_steps.specs.Refusing.{at_name, needing, not_found, unless, when}
+use Rattle.api_types.specs.Refusing.{at_name, needing, not_found, unless, when}
 use Rattle.api_steps.specs.State.{State}
 use Rattle.api_steps.specs.Step.{api_step, kind_listed, row_created, row_deleted, row_shown, row_updated}
 use Rattle.api_steps.proofs.NetworksKept as networks

@@ -11,7 +11,7 @@ use Rattle.api_types.specs.declared.form.Given.{Given}
 use Rattle.api_types.specs.declared.form.Given.TheVariants.{Absent, Null, Is}
 use Rattle.api_types.specs.declared.form.Form.TheVariants.{Network as NetworkOf, Subnet as SubnetOf, Port as PortOf, Group as GroupOf, Rule as RuleOf, Router as RouterOf, Floating as FloatingOf, Policy as PolicyOf}
 use Rattle.api_types.specs.declared.form.PortForm.{PortForm}
-use Rattle.api_steps.specs.Given.{is_given, value_of, value_or}
+use Rattle.api_types.specs.Given.{is_given, value_of, value_or}
 
 -- a project that is named has a name
 abbrev pub has_name : Given (List ℕ) → Bool

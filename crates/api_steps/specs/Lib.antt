@@ -1,6 +1,4 @@
 pub mod State
-pub mod Refusing
-pub mod Given
 pub mod Reads
 pub mod Networks
 pub mod Ports

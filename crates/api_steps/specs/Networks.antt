@@ -24,9 +24,9 @@ use Rattle.row_laws.specs.NewRows.{with_network}
 use Rattle.api_policy.specs.Visibility.{is_own, seen_networks, sees_port}
 use Rattle.api_policy.specs.Networks.{network_members}
 use Rattle.api_policy.specs.Shown.{shown_as}
-use Rattle.api_steps.specs.Given.{are_unlike, is_for_other, owner_of, value_or}
+use Rattle.api_types.specs.Given.{are_unlike, is_for_other, owner_of, value_or}
 use Rattle.api_ml2.specs.Numbers.{free_number}
-use Rattle.api_steps.specs.Refusing.{at_name, first_refusal, needing, not_found, unless, when}
+use Rattle.api_types.specs.Refusing.{at_name, first_refusal, needing, not_found, unless, when}
 use Rattle.api_steps.specs.State.{State, drawing_at, is_last}
 
 -- what a caller is shown of a network

@@ -6,7 +6,7 @@ use Rattle.api_types.specs.declared.form.NetworkForm.{NetworkForm}
 use Rattle.api_types.specs.declared.form.PortForm.{PortForm}
 use Rattle.api_types.specs.declared.kind.Kind.{Kind}
 use Rattle.api_types.specs.declared.kind.Kind.TheVariants.{Project, Network, Subnet, Port, Group, Rule, Router, Floating, Policy}
-use Rattle.api_steps.specs.Given.{is_given, value_or}
+use Rattle.api_types.specs.Given.{is_given, value_or}
 
 -- `shared`, `router:external` and the provider attributes
 abbrev pub is_network_ahead : NetworkForm → Bool

@@ -29,8 +29,8 @@ use Rattle.api_policy.specs.Visibility.{is_own, seen_networks}
 use Rattle.api_policy.specs.Ports.{port_members}
 use Rattle.api_policy.specs.Shown.{shown_as}
 use Rattle.api_ml2.specs.Binding.{bound}
-use Rattle.api_steps.specs.Given.{are_unlike, is_for_other, is_given, owner_of, value_of, value_or}
-use Rattle.api_steps.specs.Refusing.{at_name, first_refusal, needing, not_found, unless, when}
+use Rattle.api_types.specs.Given.{are_unlike, is_for_other, is_given, owner_of, value_of, value_or}
+use Rattle.api_types.specs.Refusing.{at_name, first_refusal, needing, not_found, unless, when}
 use Rattle.api_steps.specs.State.{State, drawing_at}
 
 -- what a caller is shown of a port

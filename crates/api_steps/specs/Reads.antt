@@ -10,7 +10,7 @@ use Rattle.api_types.specs.declared.call.Query.{Query}
 use Rattle.api_types.specs.declared.kind.Kind.{Kind}
 use Rattle.api_policy.specs.Listed.{has_marker, listed}
 use Rattle.api_policy.specs.Shown.{shown_as}
-use Rattle.api_steps.specs.Refusing.{at_name, needing, not_found, unless, when}
+use Rattle.api_types.specs.Refusing.{at_name, needing, not_found, unless, when}
 
 -- of the rows that the caller sees, the one that a text names, with these members
 abbrev pub row_told : {R : Type 0} → Kind → (R → Ident) → (R → List NamedTree) → Caller → IdText → List (List ℕ) → List R → Outcome

@@ -19,7 +19,7 @@ ghost use Rattle.api_ml2.specs.Carrying.{carries};
 ghost use Rattle.api_steps.specs.Footing.{footing};
 ghost use Rattle.api_steps.specs.Holdable.{AreHoldable};
 ghost use Rattle.api_steps.specs.InForm.{IsInForm};
-ghost use Rattle.api_steps.specs.Refusing.{told};
+ghost use Rattle.api_types.specs.Refusing.{told};
 ghost use Rattle.api_steps.specs.State.{State};
 ghost use Rattle.api_steps.specs.Step.{api_step};
 

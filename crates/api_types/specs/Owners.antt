@@ -1,5 +1,5 @@
 -- What a port is for, by its `device_owner` (Networking API v2.0, ports; Neutron's constants of device owners).
-use Rattle.std.specs.Prelude.{ℕ, ◌&&◌, ◌||◌, Bool, List, codes}
+use Rattle.std.specs.Prelude.{ℕ, ◌&&◌, ◌||◌, Bool, List, codes, take}
 use Rattle.std.specs.List.{list_any}
 use Rattle.std.specs.Str.{bytes_eq}
 use Rattle.api_types.specs.Ident.{Ident, ident_text}
@@ -23,6 +23,10 @@ is_dhcp owner = bytes_eq owner (codes "network:dhcp")
 -- the port that holds a floating address
 unfoldable pub is_floating : List ℕ → Bool
 is_floating owner = bytes_eq owner (codes "network:floatingip")
+
+-- a service's port: Neutron's owners of these begin so
+abbrev pub is_service : List ℕ → Bool
+is_service owner = bytes_eq (take 8 owner) (codes "network:")
 
 abbrev pub is_router_port : List ℕ → Bool
 is_router_port owner = is_interface owner || is_gateway owner

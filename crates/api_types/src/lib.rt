@@ -45,7 +45,7 @@ pub use form::{
     VnicType,
 };
 pub use group::{Direction, Ethertype, GroupRow, RuleRow, is_group_of};
-pub use holding::{holds, holds_in, names_group};
+pub use holding::{holds, holds_in, names_group, reaches, touches};
 pub use id::Id;
 pub use kind::{Kind, Row};
 pub use lease::Lease;
@@ -53,6 +53,7 @@ pub use network::{NetworkRow, Segment, is_network_of};
 pub use order::{Ordered, ascending};
 pub use owners::{
     device_is, is_dhcp, is_floating, is_gateway, is_interface, is_port_of, is_router_port,
+    is_service,
 };
 pub use policy::{Action, PolicyRow};
 pub use port::{Fixed, FixedList, Pair, PortRow, Vif};

@@ -1,7 +1,7 @@
 //! Whose a port is, by its `device_owner` and its `device_id`.
 
 ghost use Rattle.std.specs.Prelude.{◌≡◌};
-ghost use Rattle.api_types.specs.Owners.{is_interface as interface_of, is_gateway as gateway_of, is_dhcp as dhcp_of, is_floating as floating_of, is_router_port as router_port_of, device_is as device_of, is_port_of as port_of};
+ghost use Rattle.api_types.specs.Owners.{is_interface as interface_of, is_gateway as gateway_of, is_dhcp as dhcp_of, is_floating as floating_of, is_router_port as router_port_of, device_is as device_of, is_port_of as port_of, is_service as service_of};
 
 use crate::id::Id;
 use crate::port::PortRow;
@@ -49,6 +49,14 @@ pub fn is_floating(owner: &Text) -> bool
     ensures { result ≡ floating_of owner.now }
 {
     owner.as_str() == "network:floatingip"
+}
+
+/// Whether a port's `device_owner` says that it is a service's: of DHCP, a router or a floating
+/// address.
+pub fn is_service(owner: &Text) -> bool
+    ensures { result ≡ service_of owner.now }
+{
+    owner.as_str().as_bytes().starts_with(b"network:")
 }
 
 /// Whether a port's `device_owner` says that it is a router's, interface or gateway.

@@ -16,7 +16,7 @@ use Rattle.api_types.specs.declared.refusal.Refusal.TheVariants.{Forbidden, Inva
 use Rattle.net_settings.specs.Defaults.{default_parts}
 use Rattle.api_policy.specs.Visibility.{seen_ports, sees_port, sees_row}
 use Rattle.api_steps.specs.Footing.{Footing, footing}
-use Rattle.api_steps.specs.Refusing.{first_refusal, not_found, when}
+use Rattle.api_types.specs.Refusing.{first_refusal, not_found, when}
 use Rattle.api_steps.proofs.StepApart.{step_apart}
 use Rattle.api_types.specs.Wires.{network_on}
 use Rattle.plane_types.specs.declared.ask.Ask.{Ask}

@@ -22,7 +22,7 @@ use Rattle.api_types.proofs.ListLemmas.{false_true, none_some, or_true, some_equ
 use Rattle.api_types.proofs.NameLemmas.{bytes_itself, bytes_same}
 use Rattle.api_ml2.specs.Carrying.{can_carry, carries}
 use Rattle.api_steps.specs.Holdable.{AreHoldable}
-use Rattle.api_steps.specs.Refusing.{when}
+use Rattle.api_types.specs.Refusing.{when}
 use Rattle.keeper_core.specs.Counts.{Tells}
 use Rattle.api_steps.specs.State.{State}
 use Rattle.plane_types.specs.Crossing.{CrossesAtRouters}

@@ -24,10 +24,10 @@ use Rattle.net_settings.specs.Settings.{SettingsParts}
 use Rattle.api_steps.specs.NotBuilt.{is_kind_ahead, is_network_ahead, is_port_ahead}
 use Rattle.api_steps.specs.Networks as networks
 use Rattle.api_steps.specs.Ports as ports
-use Rattle.api_steps.specs.Given.{are_unlike, is_for_other, owner_of, value_of, value_or}
+use Rattle.api_types.specs.Given.{are_unlike, is_for_other, owner_of, value_of, value_or}
 use Rattle.api_ml2.specs.Numbers.{free_number}
 use Rattle.api_steps.specs.Reads.{marker_text, row_told, rows_listed}
-use Rattle.api_steps.specs.Refusing.{at_name, first_refusal, needing, not_found as not_found_of, unless, when}
+use Rattle.api_types.specs.Refusing.{at_name, first_refusal, needing, not_found as not_found_of, unless, when}
 use Rattle.api_machine.specs.Plan.{IsRefusalOf}
 use Rattle.api_steps.specs.State.{State, drawing_at, is_last}
 use Rattle.api_policy.specs.Visibility.{is_own, seen_networks, seen_ports}

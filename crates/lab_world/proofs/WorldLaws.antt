@@ -17,7 +17,7 @@ use Rattle.net_settings.proofs.DefaultRules.{default_rules}
 use Rattle.row_laws.proofs.NoRows.{no_rows_consistent}
 use Rattle.api_ml2.specs.Carrying.{carries}
 use Rattle.api_steps.specs.Holdable.{AreHoldable}
-use Rattle.api_steps.specs.Refusing.{when}
+use Rattle.api_types.specs.Refusing.{when}
 use Rattle.api_steps.specs.Step.{api_step}
 use Rattle.api_steps.proofs.StepHeld.{step_held}
 use Rattle.api_steps.proofs.StepKept.{step_kept}

@@ -9,7 +9,7 @@ use Rattle.api_types.specs.declared.refusal.PolicyRule.TheVariants.{AdminOnly}
 use Rattle.api_types.specs.declared.refusal.Refusal.{Refusal}
 use Rattle.api_types.specs.declared.refusal.Refusal.TheVariants.{Forbidden, Invalid, NoHost, NotBuilt, OutOfMemory}
 use Rattle.api_policy.specs.Visibility.{sees_row}
-use Rattle.api_steps.specs.Refusing.{first_refusal, not_found, when}
+use Rattle.api_types.specs.Refusing.{first_refusal, not_found, when}
 use Rattle.api_steps.specs.State.{State}
 use Rattle.plane_types.specs.Hosts.{Host, all_entries, is_named}
 use Rattle.api_types.specs.Wires.{network_on}

@@ -16,7 +16,7 @@ use Rattle.plane_types.specs.declared.ask.Reply.{Reply}
 use Rattle.plane_types.specs.declared.ask.Reply.TheVariants.{Done, LabDone, Refused}
 use Rattle.api_ml2.specs.Carrying.{carries}
 use Rattle.api_steps.specs.InForm.{IsInForm}
-use Rattle.api_steps.specs.Refusing.{told}
+use Rattle.api_types.specs.Refusing.{told}
 use Rattle.api_steps.specs.Step.{api_step}
 use Rattle.plane_laws.specs.Held.{HoldRows}
 use Rattle.plane_types.specs.Wired.{wired}

@@ -3,7 +3,7 @@ ghost use Rattle.std.specs.Prelude.{◌≡◌, ◌⊎◌, None, Some, false, fin
 ghost use Rattle.api_types.specs.Ident.{ident_text};
 ghost use Rattle.api_types.specs.declared.refusal.PolicyRule.TheVariants.{AdminOnly as ForAdmins};
 ghost use Rattle.api_types.specs.declared.refusal.Refusal.TheVariants.{Forbidden as ForbiddenBy};
-ghost use Rattle.api_steps.specs.Refusing.{not_found as not_found_of};
+ghost use Rattle.api_types.specs.Refusing.{not_found as not_found_of};
 ghost use Rattle.plane_types.specs.Hosts.{is_named};
 ghost use Rattle.plane_types.specs.Node.{host_of};
 ghost use Rattle.lab_world.specs.Lab.{Answered, IsBarred, event_refusal, tables_told};

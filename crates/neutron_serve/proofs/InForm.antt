@@ -16,7 +16,7 @@ use Rattle.api_types.specs.declared.call.Query.{Query}
 use Rattle.api_types.specs.declared.form.Form.{Form}
 use Rattle.api_types.specs.declared.kind.Kind.{Kind}
 use Rattle.api_types.specs.declared.kind.Kind.TheVariants as kind
-use Rattle.api_steps.specs.Given.{is_given, value_of, value_or}
+use Rattle.api_types.specs.Given.{is_given, value_of, value_or}
 use Rattle.api_steps.specs.InForm.{IsBody, IsForm, IsPortForm, has_name, have_names}
 use Rattle.json_values.specs.Grammars.{device_owner, is_free_owner, is_project_name, project_name, short_text}
 use Rattle.json_values.specs.Items.{card_of}

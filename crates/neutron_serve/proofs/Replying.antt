@@ -10,7 +10,7 @@ use Rattle.api_types.specs.declared.call.Caller.{Caller}
 use Rattle.api_types.specs.declared.refusal.PolicyRule.TheVariants.{AdminOnly}
 use Rattle.api_types.specs.declared.refusal.Refusal.{Refusal}
 use Rattle.api_types.specs.declared.refusal.Refusal.TheVariants.{Forbidden, NoHost, OutOfMemory, StoreFault}
-use Rattle.api_steps.specs.Refusing.{when}
+use Rattle.api_types.specs.Refusing.{when}
 use Rattle.http_heads.specs.Fields.{closes}
 use Rattle.http_heads.specs.Heads.{Asked}
 use Rattle.lab_world.specs.Lab.{Barred, LabOutcome, WorldState, event_refusal, host_told, lab_outcome, tables_told, unless_barred}

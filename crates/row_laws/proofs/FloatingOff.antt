@@ -15,7 +15,7 @@ use Rattle.api_types.specs.declared.port.PortRow.{PortRow}
 use Rattle.api_types.specs.declared.router.Gateway.{Gateway}
 use Rattle.api_types.specs.declared.floating.FloatingRow.{FloatingRow}
 use Rattle.api_types.specs.declared.floating.Target.{Target}
-use Rattle.row_laws.specs.ServicePorts.{other_ports}
+use Rattle.api_types.specs.RouterWays.{other_ports}
 use Rattle.row_laws.specs.Gone.{with_ports_kept}
 use Rattle.row_laws.specs.OwnPorts.{other_floatings, without_floating}
 use Rattle.api_types.proofs.ListLemmas.{and_both, any-at, any-none, any-weaker, at-any, at_filter, false_true, none-any, one_row, or_true}

@@ -17,7 +17,7 @@ use Rattle.api_types.specs.declared.router.RouterRow.{RouterRow}
 use Rattle.api_types.specs.declared.router.Gateway.{Gateway}
 use Rattle.api_types.specs.declared.floating.FloatingRow.{FloatingRow}
 use Rattle.api_types.specs.declared.floating.Target.{Target}
-use Rattle.row_laws.specs.ServicePorts.{other_ports}
+use Rattle.api_types.specs.RouterWays.{other_ports}
 use Rattle.row_laws.specs.Gateways.{IsFreeGateway, unled, with_gateway_off}
 use Rattle.row_laws.specs.Gone.{with_ports_kept}
 use Rattle.row_laws.specs.Replaced.{IsReplacedRouter}

@@ -16,7 +16,7 @@ use Rattle.api_types.specs.declared.port.Fixed.{Fixed}
 use Rattle.api_types.specs.declared.router.RouterRow.{RouterRow}
 use Rattle.api_types.specs.declared.router.Gateway.{Gateway}
 use Rattle.api_types.specs.declared.floating.Target.{Target}
-use Rattle.row_laws.specs.ServicePorts.{other_ports}
+use Rattle.api_types.specs.RouterWays.{other_ports}
 use Rattle.row_laws.specs.Gateways.{HasNoInterface, ports_without, unled, without_router}
 use Rattle.row_laws.specs.Gone.{IsUnusedRouter}
 use Rattle.row_laws.specs.Replaced.{gateways_agree, with_router_at}

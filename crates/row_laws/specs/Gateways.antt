@@ -11,7 +11,8 @@ use Rattle.api_types.specs.declared.port.PortRow.{PortRow}
 use Rattle.api_types.specs.declared.router.RouterRow.{RouterRow}
 use Rattle.api_types.specs.declared.router.Gateway.{Gateway}
 use Rattle.api_types.specs.declared.floating.Target.{Target}
-use Rattle.row_laws.specs.ServicePorts.{IsPortAt, IsServicePort, other_ports}
+use Rattle.row_laws.specs.ServicePorts.{IsPortAt, IsServicePort}
+use Rattle.api_types.specs.RouterWays.{other_ports}
 
 -- the router with its gateway by a port, and without one
 abbrev pub led_by : RouterRow → PortRow → Bool → RouterRow

@@ -16,7 +16,8 @@ use Rattle.api_types.specs.declared.port.PortRow.{PortRow}
 use Rattle.api_types.specs.declared.router.RouterRow.{RouterRow}
 use Rattle.api_types.specs.declared.floating.FloatingRow.{FloatingRow}
 use Rattle.api_types.specs.declared.floating.Target.{Target}
-use Rattle.row_laws.specs.ServicePorts.{IsPortAt, IsServicePort, other_ports}
+use Rattle.row_laws.specs.ServicePorts.{IsPortAt, IsServicePort}
+use Rattle.api_types.specs.RouterWays.{other_ports}
 
 -- a new port with one address, of a project that may use its network
 pub record IsNewInterface (rows : RowLists) (r : RouterRow) (p : PortRow) : Type 0 where

@@ -11,7 +11,8 @@ use Rattle.api_types.specs.Consistent.Services.{is_port_for}
 use Rattle.api_types.specs.Consistent.Floating.{leads_to, stands_for}
 use Rattle.api_types.specs.declared.port.PortRow.{PortRow}
 use Rattle.api_types.specs.declared.floating.FloatingRow.{FloatingRow}
-use Rattle.row_laws.specs.ServicePorts.{IsServicePort, other_ports}
+use Rattle.row_laws.specs.ServicePorts.{IsServicePort}
+use Rattle.api_types.specs.RouterWays.{other_ports}
 use Rattle.row_laws.specs.NewRows.{with_port}
 
 -- the rows with a floating address and the port that holds it, and without both

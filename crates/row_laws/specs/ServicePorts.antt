@@ -18,10 +18,6 @@ use Rattle.api_types.specs.Consistent.Disjoint.{reach_alike}
 use Rattle.api_types.specs.declared.port.PortRow.{PortRow}
 use Rattle.api_types.specs.declared.router.RouterRow.{RouterRow}
 
--- the ports but that with an id
-abbrev pub other_ports : Ident → List PortRow → List PortRow
-other_ports i ports = filter (λ p. not (ident_eq i p.id)) ports
-
 -- a new port without port security, whose addresses and MAC address nobody else holds
 pub record IsServicePort (rows : RowLists) (p : PortRow) : Type 0 where
   pub fresh : times_in rows p.id ≡ 0

@@ -1,6 +1,6 @@
 use Rattle.std.proofs.Common.{◌≡◌, ◌∙◌, ap, sym, filter, option_copied, Option, Some, None, Bool, if◌then◌else◌}
 use Rattle.api_types.specs.Table.{row_of}
-use Rattle.api_steps.specs.Refusing.{at_name}
+use Rattle.api_types.specs.Refusing.{at_name}
 use Rattle.api_machine.proofs.FoundLemmas.{if_seen, seen_row}
 use Rattle.api_machine.proofs.named.named.Goals as goal
 

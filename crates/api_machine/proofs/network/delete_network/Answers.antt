@@ -3,7 +3,7 @@ use Rattle.std.proofs.lemmas.Result.{err_from_is_err_and}
 use Rattle.api_types.specs.Outcome.{Refused}
 use Rattle.api_types.specs.declared.network.NetworkRow.{NetworkRow}
 use Rattle.api_policy.specs.Visibility.{sees_network}
-use Rattle.api_steps.specs.Refusing.{at_name}
+use Rattle.api_types.specs.Refusing.{at_name}
 use Rattle.api_steps.specs.State.{State}
 use Rattle.api_machine.proofs.NetworkLemmas.{delete_refused, delete_unfound, deleted_leads, room_left}
 use Rattle.api_machine.proofs.network.delete_network.Goals as goal

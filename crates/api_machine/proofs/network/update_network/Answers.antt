@@ -4,7 +4,7 @@ use Rattle.api_types.specs.Printed.{shown_row}
 use Rattle.api_types.specs.declared.network.NetworkRow.{NetworkRow}
 use Rattle.api_policy.specs.Visibility.{sees_network}
 use Rattle.api_steps.specs.Networks.{network_shown}
-use Rattle.api_steps.specs.Refusing.{at_name}
+use Rattle.api_types.specs.Refusing.{at_name}
 use Rattle.api_steps.specs.State.{State}
 use Rattle.api_machine.proofs.NetworkLemmas.{room_by, stands, updated_leads, update_unfound}
 use Rattle.api_machine.proofs.network.update_network.Goals as goal

@@ -4,7 +4,7 @@ use Rattle.api_types.specs.Registration.{ident}
 use Rattle.api_types.specs.declared.kind.Kind.TheVariants.{Port as PortKind}
 use Rattle.api_types.specs.declared.kind.Row.TheVariants.{Port as PortOf}
 use Rattle.net_settings.specs.Defaults.{default_parts}
-use Rattle.api_steps.specs.Given.{value_or}
+use Rattle.api_types.specs.Given.{value_or}
 use Rattle.api_steps.specs.Ports.{new_port, port_shown}
 use Rattle.api_steps.specs.State.{State}
 use Rattle.api_steps.specs.Step.{port_asked}

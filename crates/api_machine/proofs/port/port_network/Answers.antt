@@ -5,7 +5,7 @@ use Rattle.api_types.specs.declared.kind.Kind.TheVariants.{Network as NetworkKin
 use Rattle.api_types.specs.declared.network.NetworkRow.{NetworkRow}
 use Rattle.api_policy.specs.Visibility.{sees_network}
 use Rattle.api_steps.specs.Ports.{text_of}
-use Rattle.api_steps.specs.Refusing.{at_name, not_found}
+use Rattle.api_types.specs.Refusing.{at_name, not_found}
 use Rattle.api_steps.specs.State.{State}
 use Rattle.api_machine.proofs.PortLemmas.{port_refused, port_unfound}
 use Rattle.api_machine.proofs.port.port_network.Goals as goal
