@@ -40,7 +40,7 @@ impl Model for AgentNode {
           held = a.held;
           version = a.version;
           rows = a.rows;
-          tables = a.tables;
+          tables = a.tables.lists;
           entries = a.entries.items;
           spare = a.entries.spare;
         } };
@@ -52,7 +52,7 @@ impl Model for AgentNode {
           held = a.held;
           version = a.version;
           rows = a.rows;
-          tables = a.tables;
+          tables = a.tables.lists;
           entries = a.entries.items;
           spare = a.entries.spare;
         }) };
@@ -107,14 +107,13 @@ impl AgentNode {
             }) }
     {
         let name = self.name.copy(alloc)?;
-        let old = self.tables.tags.copy(alloc)?;
+        let old = self.tables.copy_tags(alloc)?;
         ReadyNode::make(alloc, name, version, rows, old)
     }
 
     /// Puts in place what was made ready for this host and the tags that it has. Its version is
     /// then held. Entries without a tap or router in the new tables are dropped, and the others
-    /// stay in their order. It takes no memory. Its cost grows with the entries times taps and
-    /// routers.
+    /// stay in their order. It takes no memory. Its cost grows with the entries.
     pub fn put(&mut self, ready: ReadyNode)
         requires name { ready.name ≡ self.old.name }
         requires tags { ready.old ≡ self.old.tables.tags }
@@ -138,7 +137,7 @@ impl AgentNode {
     /// Gives the host the rows of a version, which it then holds, and wires them: networks keep
     /// their tags, entries without a tap or router in the new tables are dropped, and the others
     /// stay in their order. Its cost is that of wiring and of a copy of the rows, and grows with
-    /// the entries times taps and routers.
+    /// the entries.
     pub fn resync(&mut self, alloc: Global, version: u64, rows: &Rows) -> Result<(), OutOfMemory>
         requires { IsConsistent rows.now }
         ensures node { OnOk result (self.new ≡ resynced self.old version rows.now self.new.spare) }
@@ -159,7 +158,7 @@ impl AgentNode {
 
     /// The tables, which are those that the rows give to the host.
     pub fn tables(&self) -> &HostTables
-        ensures tables { result.now ≡ self.now.tables }
+        ensures tables { result.now.lists ≡ self.now.tables }
         ensures realised { Realises self.now.rows self.now.name self.now.tables }
     {
         &self.tables

@@ -28,7 +28,7 @@ impl Model for ReadyNode {
 
     ghost view = { λ r.
         record
-        { name = r.name; version = r.version; rows = r.rows; tables = r.tables; old = r.old } };
+        { name = r.name; version = r.version; rows = r.rows; tables = r.tables.lists; old = r.old } };
 
     ghost invariant = { λ r.
         IsReady
@@ -36,7 +36,7 @@ impl Model for ReadyNode {
           name = r.name;
           version = r.version;
           rows = r.rows;
-          tables = r.tables;
+          tables = r.tables.lists;
           old = r.old;
         }) };
 }

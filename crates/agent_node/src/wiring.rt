@@ -9,11 +9,11 @@ use dhcp_agent::wire_leases;
 use l2_agent::{L2Tables, wire_ports};
 use l3_agent::{L3Tables, wire_routers};
 use net_addr::{OutOfMemory, Text};
-use plane_types::{HostTables, Leases, Tags};
+use plane_types::{HostTables, Leases, TableLists, Tags};
 use std::alloc::Global;
 
-// The tables of three agents as those of their host.
-fn joined(l2: L2Tables, l3: L3Tables, leases: Leases) -> HostTables
+// The tables of three agents as the lists of those of their host.
+fn joined(l2: L2Tables, l3: L3Tables, leases: Leases) -> TableLists
     ensures { result
         ≡ record {
           tags = l2.tags;
@@ -29,7 +29,7 @@ fn joined(l2: L2Tables, l3: L3Tables, leases: Leases) -> HostTables
           leases = leases;
         } }
 {
-    HostTables {
+    TableLists {
         tags: l2.tags,
         taps: l2.taps,
         filters: l2.filters,
@@ -45,7 +45,7 @@ fn joined(l2: L2Tables, l3: L3Tables, leases: Leases) -> HostTables
 }
 
 /// The tables that a host makes of rows, where its tags were these. Its cost is that of
-/// `wire_ports`, `wire_routers` and `wire_leases`.
+/// `wire_ports`, `wire_routers` and `wire_leases`, and grows with what these make.
 #[tactic(auto, unfolding(plane_types::specs::Wired::wired))]
 pub(crate) fn wired(
     alloc: Global,
@@ -55,11 +55,11 @@ pub(crate) fn wired(
 ) -> Result<HostTables, OutOfMemory>
     requires consistent { IsConsistent rows.now }
     requires tags { AreTags old.now }
-    ensures tables { IfOk result (λ t. t ≡ wired_by_rows rows.now host.now old.now) }
-    ensures realised { IfOk result (λ t. Realises rows.now host.now t) }
+    ensures tables { IfOk result (λ t. t.lists ≡ wired_by_rows rows.now host.now old.now) }
+    ensures realised { IfOk result (λ t. Realises rows.now host.now t.lists) }
 {
     let l2 = wire_ports(alloc, rows, host, old)?;
     let l3 = wire_routers(alloc, rows, host, &l2.tags)?;
     let leases = wire_leases(alloc, rows, host, &l2.tags)?;
-    Ok(joined(l2, l3, leases))
+    HostTables::make(alloc, joined(l2, l3, leases))
 }

@@ -3,10 +3,11 @@ ghost use Rattle.net_addr.specs.Ordered.{whole_prefix};
 ghost use Rattle.api_types.specs.declared.port.Fixed.{Fixed as TheFixed};
 ghost use Rattle.api_types.specs.declared.port.Pair.{Pair as ThePair};
 ghost use Rattle.api_types.specs.Ascending.{ascending as in_order, prefix_before as comes_before};
-ghost use Rattle.api_types.specs.Members.{members as members_of, once, prefixes_of};
+ghost use Rattle.api_types.specs.Members.{once};
+ghost use Rattle.api_secgroup.specs.Named.{given_by};
 ghost use Rattle.api_secgroup.specs.Repeats.{begins_with as first_is, without_repeats as apart};
 
-use api_types::{Fixed, Id, Pair, PortRow, Rows, Shared, ascending, names_group};
+use api_types::{Fixed, Pair, PortRow, ascending};
 use net_addr::{OutOfMemory, Prefix, Prefixes, Seq};
 use std::alloc::Global;
 
@@ -68,39 +69,33 @@ fn add_pairs(prefixes: &mut Vec<Prefix>, pairs: &[Pair]) -> Result<(), OutOfMemo
     Ok(())
 }
 
-// Adds the prefixes of a port, where it names the group.
-fn add_prefixes(prefixes: &mut Vec<Prefix>, port: &PortRow, group: Id) -> Result<(), OutOfMemory>
-    ensures { OnOk result (prefixes.new.items ≡ prefixes.old.items ++ prefixes_of group port.now) }
+// Adds the prefixes that a port gives to its groups.
+fn add_prefixes(prefixes: &mut Vec<Prefix>, port: &PortRow) -> Result<(), OutOfMemory>
+    ensures { OnOk result (prefixes.new.items ≡ prefixes.old.items ++ given_by port.now) }
 {
-    if !names_group(port, group) {
-        return Ok(());
-    }
     add_addresses(prefixes, port.fixed.as_slice())?;
     add_pairs(prefixes, port.pairs.as_slice())
 }
 
-// The prefixes of all ports that name the group.
-fn prefixes_of_all(
-    alloc: Global,
-    ports: &[Shared<PortRow>],
-    group: Id,
-) -> Result<Vec<Prefix>, OutOfMemory>
-    ensures { IfOk result (λ v. v.items ≡ flat_map (prefixes_of group) ports.now) }
+// The prefixes that ports give to a group that they name.
+fn prefixes_of_all(alloc: Global, ports: &[&PortRow]) -> Result<Vec<Prefix>, OutOfMemory>
+    ensures { IfOk result (λ v. v.items ≡ flat_map given_by (map (λ p. p.now) ports.now)) }
 {
     let mut prefixes = Vec::new(alloc);
     for port in ports {
-        add_prefixes(&mut prefixes, port, group)?;
+        add_prefixes(&mut prefixes, port)?;
     }
     Ok(prefixes)
 }
 
-/// The members of a group, in ascending order and each once: the fixed addresses, as prefixes of
-/// their whole length, and the prefixes of the allowed pairs of all ports that name it. Its cost
-/// grows with the ports, and with the members and the logarithm of their number.
-#[tactic(auto, unfolding(api_types::specs::Members::members))]
-pub fn members(alloc: Global, rows: &Rows, group: Id) -> Result<Prefixes, OutOfMemory>
-    ensures { IfOk result (λ p. p ≡ members_of rows.now group) }
+/// What ports that name a group make its members: in ascending order and each once, their fixed
+/// addresses, as prefixes of their whole length, and the prefixes of their allowed pairs. Its cost
+/// grows with what they hold and are allowed, and the logarithm of that number.
+pub(crate) fn members_by(alloc: Global, ports: &[&PortRow]) -> Result<Prefixes, OutOfMemory>
+    ensures { IfOk result
+        (λ p. p ≡ in_order comes_before
+        (once (flat_map given_by (map (λ p. p.now) ports.now)))) }
 {
-    let all = prefixes_of_all(alloc, rows.ports().rows(), group)?;
+    let all = prefixes_of_all(alloc, ports)?;
     Ok(Seq::from_vec(sorted_once(alloc, all)?))
 }

@@ -7,14 +7,16 @@ use net_addr::OutOfMemory;
 use plane_types::{Ends, Event, Frame, KeyPart, Outcome};
 use std::alloc::Global;
 
-// How many ports each host has.
-const EACH: u16 = 250;
-
-// The n-th frame: TCP to port 22 of a port of the second host. The first 62,500 go between
-// different pairs of ports.
-fn event_of(n: u16) -> Event {
-    let sender = n % EACH * 2;
-    let getter = (n / EACH + n % EACH) % EACH * 2 + 1;
+// The n-th frame: TCP to port 22 of a port of the second host, of which each has so many ports. The
+// first ones, as many as that number's square, go between different pairs of ports.
+fn event_of(each: u16, n: u16) -> Event
+    requires first { 1 ≤ each }
+    requires most { each ≤ 4000 }
+{
+    let from = n % each;
+    let to = (n / each % each + from) % each;
+    let sender = from * 2;
+    let getter = to * 2 + 1;
     Event::FromPort {
         port: port_id(sender),
         frame: Frame::Ip {
@@ -35,11 +37,15 @@ fn is_delivered(alloc: Global, lab: &Lab, event: &Event) -> Result<bool, OutOfMe
     Ok(matches!(&verdict.outcome, Outcome::Delivered { .. }))
 }
 
-/// How many of so many frames are delivered. The entries that they make aren't kept.
-pub(crate) fn deliver(alloc: Global, lab: &Lab, frames: u16) -> Result<u16, OutOfMemory> {
+/// How many of so many frames are delivered, where each host has so many ports. The entries that
+/// they make aren't kept.
+pub(crate) fn deliver(alloc: Global, lab: &Lab, each: u16, frames: u16) -> Result<u16, OutOfMemory>
+    requires first { 1 ≤ each }
+    requires most { each ≤ 4000 }
+{
     let mut delivered = 0u16;
     for n in 0..frames {
-        if is_delivered(alloc, lab, &event_of(n))? {
+        if is_delivered(alloc, lab, &event_of(each, n))? {
             delivered = delivered.saturating_add(1);
         }
     }

@@ -62,8 +62,8 @@ impl Lab {
     /// How many rows the bridges have.
     pub(crate) fn bridge_rows(&self) -> (usize, usize) {
         (
-            self.first.tables().bridge.len(),
-            self.second.tables().bridge.len(),
+            self.first.tables().bridge().len(),
+            self.second.tables().bridge().len(),
         )
     }
 }

@@ -10,10 +10,12 @@ use net_settings::default_settings;
 use std::alloc::Global;
 use test_rows::{add, bound_port, group, network, project, router, rule, service_port, subnet};
 
-// 10.0.0.0, the base of each network's subnet, and the first address of routers in it.
+// 10.0.0.0, the base of each network's subnet, and the first addresses of routers and of DHCP ports.
 const INNER: u32 = 0x0a00_0000;
 
 const ROUTERS: u32 = 0x0a80_0000;
+
+const SERVERS: u32 = 0x0ac0_0000;
 
 /// The id of a port.
 pub(crate) fn port_id(port: u16) -> Id {
@@ -38,6 +40,10 @@ fn router_id(place: u16) -> Id {
 
 fn interface_id(place: u16) -> Id {
     Id::make(1, 500_000 + u64::from(place))
+}
+
+fn server_id(place: u16) -> Id {
+    Id::make(1, 600_000 + u64::from(place))
 }
 
 fn rule_id(group: u16, rule: u16) -> Id {
@@ -65,7 +71,12 @@ fn add_project(alloc: Global, rows: &mut Rows) -> Result<(), OutOfMemory> {
 }
 
 // A network of VXLAN with the subnet 10.0.0.0/8.
-fn add_network(alloc: Global, rows: &mut Rows, place: u16) -> Result<(), OutOfMemory> {
+fn add_network(
+    alloc: Global,
+    rows: &mut Rows,
+    place: u16,
+    served: bool,
+) -> Result<(), OutOfMemory> {
     let number = 1 + u32::from(place);
     let mut network = network(alloc, 0, Segment::Vxlan { number })?;
     network.id = network_id(place);
@@ -75,6 +86,7 @@ fn add_network(alloc: Global, rows: &mut Rows, place: u16) -> Result<(), OutOfMe
     let mut subnet = subnet(alloc, 0, 0, prefix)?;
     subnet.id = subnet_id(place);
     subnet.network = network_id(place);
+    subnet.dhcp = served;
     add(alloc, rows, Row::Subnet(subnet))
 }
 
@@ -178,9 +190,31 @@ fn add_router(alloc: Global, rows: &mut Rows, scene: &Scene, n: u16) -> Result<(
     add(alloc, rows, Row::Port(port))
 }
 
+// The DHCP port of a network.
+fn add_server(alloc: Global, rows: &mut Rows, place: u16) -> Result<(), OutOfMemory> {
+    let fixed = Fixed {
+        subnet: subnet_id(place),
+        address: Addr::V4(Addr4(SERVERS + u32::from(place))),
+    };
+    let mut port = service_port(alloc, 0, 0, fixed, "network:dhcp", "")?;
+    port.id = server_id(place);
+    port.network = network_id(place);
+    port.mac = Mac(0x0200_0002_0000 + u64::from(place));
+    add(alloc, rows, Row::Port(port))
+}
+
 fn add_networks(alloc: Global, rows: &mut Rows, scene: &Scene) -> Result<(), OutOfMemory> {
     for place in 0..scene.networks {
-        add_network(alloc, rows, place)?;
+        add_network(alloc, rows, place, place < scene.served)?;
+    }
+    Ok(())
+}
+
+fn add_servers(alloc: Global, rows: &mut Rows, scene: &Scene) -> Result<(), OutOfMemory> {
+    for place in 0..scene.served {
+        if place < scene.networks {
+            add_server(alloc, rows, place)?;
+        }
     }
     Ok(())
 }
@@ -220,6 +254,7 @@ fn rows_of(alloc: Global, scene: &Scene) -> Result<Rows, OutOfMemory> {
     add_networks(alloc, &mut rows, scene)?;
     add_groups(alloc, &mut rows, scene)?;
     add_ports(alloc, &mut rows, scene, 0, scene.ports)?;
+    add_servers(alloc, &mut rows, scene)?;
     add_routers(alloc, &mut rows, scene)?;
     Ok(rows)
 }

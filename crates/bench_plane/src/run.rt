@@ -1,3 +1,4 @@
+ghost use Rattle.std.specs.Prelude.{◌≤◌};
 ghost use Rattle.api_types.specs.Consistent.{IsConsistent};
 
 use crate::failure::Failure;
@@ -19,17 +20,22 @@ fn agents_of(alloc: Global, host: &str, rows: &Rows) -> Result<AgentNode, Failur
     Ok(AgentNode::make(alloc, Text::of(alloc, host)?, rows, 1)?)
 }
 
-fn two_hosts(alloc: Global) -> Result<Lab, Failure> {
-    let rows = consistent_rows(alloc, &Scene::two_hosts())?;
+fn two_hosts(alloc: Global, each: u16) -> Result<Lab, Failure>
+    requires { each ≤ 4000 }
+{
+    let rows = consistent_rows(alloc, &Scene::two_hosts(each))?;
     let first = agents_of(alloc, "c1", &rows)?;
     let second = agents_of(alloc, "c2", &rows)?;
     Lab::make(first, second)
 }
 
-fn run_frames(rt: &impl Print, alloc: Global, frames: u16) -> Result<(), Failure> {
-    let lab = two_hosts(alloc)?;
+fn run_frames(rt: &impl Print, alloc: Global, each: u16, frames: u16) -> Result<(), Failure> {
+    if each == 0 || each > 4000 {
+        return usage(rt);
+    }
+    let lab = two_hosts(alloc, each)?;
     let (first, second) = lab.bridge_rows();
-    let delivered = deliver(alloc, &lab, frames)?;
+    let delivered = deliver(alloc, &lab, each, frames)?;
     println!(rt; "{delivered} of {frames} frames delivered, {first} and {second} bridge rows")?;
     Ok(())
 }
@@ -44,7 +50,7 @@ fn agents_bridge(alloc: Global, rows: &Rows) -> Result<usize, Failure>
     requires { IsConsistent rows.now }
 {
     let agents = agents_of(alloc, "c1", rows)?;
-    Ok(agents.tables().bridge.len())
+    Ok(agents.tables().bridge().len())
 }
 
 // The rows of a scene, its ports wired, or all of its host.
@@ -79,16 +85,29 @@ fn run_rows(rt: &impl Print, alloc: Global, word: &str, count: u16) -> Result<()
 }
 
 fn usage(rt: &impl Print) -> Result<(), Failure> {
-    println!(rt; "bench_plane frames|copies|changes COUNT")?;
-    println!(rt; "bench_plane rows|ports|hosts PORTS NETWORKS GROUPS RULES ROUTERS")?;
+    println!(rt; "bench_plane copies|changes COUNT")?;
+    println!(rt; "bench_plane frames PORTS COUNT")?;
+    println!(rt; "bench_plane rows|ports|hosts PORTS NETWORKS GROUPS RULES ROUTERS [SERVED]")?;
     println!(rt; "bench_plane entries PORTS NETWORKS GROUPS RULES ROUTERS COUNT")?;
     Ok(())
 }
 
 fn run_count(rt: &impl Print, alloc: Global, word: &str, count: u16) -> Result<(), Failure> {
     match word {
-        "frames" => run_frames(rt, alloc, count),
         "copies" | "changes" => run_rows(rt, alloc, word, count),
+        _ => usage(rt),
+    }
+}
+
+fn run_pair(
+    rt: &impl Print,
+    alloc: Global,
+    word: &str,
+    each: u16,
+    count: u16,
+) -> Result<(), Failure> {
+    match word {
+        "frames" => run_frames(rt, alloc, each, count),
         _ => usage(rt),
     }
 }
@@ -102,6 +121,9 @@ fn run_counts(rt: &impl Print, alloc: Global, word: &str, counts: &[u16]) -> Res
     };
     match (word, more) {
         ("rows" | "ports" | "hosts", []) => run_scene(rt, alloc, word, &scene),
+        ("rows" | "ports" | "hosts", [served]) => {
+            run_scene(rt, alloc, word, &scene.with_served(*served))
+        }
         ("entries", [count]) => run_entries(rt, alloc, &scene, *count),
         _ => usage(rt),
     }
@@ -127,6 +149,7 @@ pub(crate) fn run(rt: &impl Print, alloc: Global, words: &[Text]) -> Result<(), 
     let counts = counts(alloc, numbers)?;
     match counts.as_slice() {
         [count] => run_count(rt, alloc, word.as_str(), *count),
+        [each, count] => run_pair(rt, alloc, word.as_str(), *each, *count),
         counts => run_counts(rt, alloc, word.as_str(), counts),
     }
 }

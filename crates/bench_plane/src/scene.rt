@@ -11,6 +11,8 @@ pub(crate) struct Scene {
     pub(crate) rules: u16,
     /// Routers of the host c1, each with an interface on a network.
     pub(crate) routers: u16,
+    /// How many networks have a DHCP port on c1.
+    pub(crate) served: u16,
     /// Whether the first four rules of a group are those that each new one has, and the others let
     /// TCP in from the next group alone. Else one lets all of IPv4 out, and one TCP to port 22 in.
     pub(crate) usual: bool,
@@ -21,14 +23,18 @@ pub(crate) struct Scene {
 }
 
 impl Scene {
-    /// 500 ports on one network and in one group, every other one of them on the host c2.
-    pub(crate) fn two_hosts() -> Scene {
+    /// Two hosts, each with so many ports, all on one network and in one group. Those with an odd
+    /// number are on the host c2.
+    pub(crate) fn two_hosts(each: u16) -> Scene
+        requires { each ≤ 4000 }
+    {
         Scene {
-            ports: 500,
+            ports: each * 2,
             networks: 1,
             groups: 1,
             rules: 2,
             routers: 0,
+            served: 0,
             usual: false,
             second: "c2",
         }
@@ -42,12 +48,14 @@ impl Scene {
             groups: 5,
             rules: 5,
             routers: 0,
+            served: 0,
             usual: true,
             second: "c1",
         }
     }
 
-    /// So many of each on the host c1, where there are a network and a group.
+    /// So many of each on the host c1, where there are a network and a group. No network has a DHCP
+    /// port.
     pub(crate) fn of(
         ports: u16,
         networks: u16,
@@ -64,8 +72,15 @@ impl Scene {
             groups,
             rules,
             routers,
+            served: 0,
             usual: true,
             second: "c1",
         })
+    }
+
+    /// The same, where so many networks have a DHCP port.
+    pub(crate) fn with_served(mut self, served: u16) -> Scene {
+        self.served = served;
+        self
     }
 }

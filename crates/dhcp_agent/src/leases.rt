@@ -2,11 +2,10 @@ ghost use Rattle.std.specs.Prelude.{◌≡◌, IfOk, Some};
 ghost use Rattle.plane_types.specs.TableRows.{lease_row as lease_row_of, lease_row_by as lease_row_from, lease_rows as lease_rows_of};
 
 use crate::served::Served;
-use crate::tag_map::TagMap;
 use api_types::{PortRow, Rows};
 use net_addr::{OutOfMemory, Seq, Text};
 use plane_rows::{is_at, is_live, lease_for};
-use plane_types::{LeaseRow, Leases, Tags};
+use plane_types::{LeaseRow, Leases, TagMap, Tags};
 use std::alloc::Global;
 
 // The row by which a DHCP port serves a port, where it is bound to this host.

@@ -8,6 +8,5 @@
 
 mod leases;
 mod served;
-mod tag_map;
 
 pub use leases::wire_leases;

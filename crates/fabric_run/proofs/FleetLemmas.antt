@@ -8,7 +8,7 @@ use Rattle.plane_laws.proofs.Facts.{AtMostOne}
 use Rattle.plane_types.specs.Hosts.{Host, is_named}
 use Rattle.plane_types.specs.Told.{place_among}
 use Rattle.plane_types.specs.declared.entry.Entry.{Entry}
-use Rattle.plane_types.specs.declared.tables.HostTables.{HostTables}
+use Rattle.plane_types.specs.declared.lists.TableLists.{TableLists}
 
 module _ {X : Type 0} where
   -- what stands at a place below the length
@@ -45,7 +45,7 @@ module _ {X : Type 0} where
       go false rest e = rest e
 
 -- a host by its name, tables and entries
-pub host_there : (hosts : List Host) (i : ℕ) (n : List ℕ) (t : HostTables) (es : List Entry) → slice_get (map (λ (h : Host). h.name) hosts) i ≡ Some n → slice_get (map (λ (h : Host). h.tables) hosts) i ≡ Some t → slice_get (map (λ (h : Host). h.entries) hosts) i ≡ Some es → slice_get hosts i ≡ Some (record { name = n; tables = t; entries = es })
+pub host_there : (hosts : List Host) (i : ℕ) (n : List ℕ) (t : TableLists) (es : List Entry) → slice_get (map (λ (h : Host). h.name) hosts) i ≡ Some n → slice_get (map (λ (h : Host). h.tables) hosts) i ≡ Some t → slice_get (map (λ (h : Host). h.entries) hosts) i ≡ Some es → slice_get hosts i ≡ Some (record { name = n; tables = t; entries = es })
 host_there [] i n t es a b c = absurd (none-some n a)
 host_there (h ∷ hosts) zero n t es a b c =
     let x : h.name ≡ n = same_Some h.name n a in

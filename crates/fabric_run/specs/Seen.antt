@@ -22,7 +22,7 @@ use Rattle.fabric_run.specs.declared.taker.Sought.TheVariants.{Named, Taker, Wit
 use Rattle.fabric_run.specs.declared.turn.Turn.{Turn}
 
 abbrev pub host_seen : HostAt → Host
-host_seen h = record { name = h.name.now; tables = h.tables.now; entries = h.entries.now.items }
+host_seen h = record { name = h.name.now; tables = h.tables.now.lists; entries = h.entries.now.items }
 
 -- any host, or one with another name
 abbrev pub is_other_than : Option (List ℕ) → Host → Bool

@@ -7,14 +7,14 @@ ghost use Rattle.fabric_run.specs.Seen.{host_seen};
 use crate::fleet::HostAt;
 use crate::run::Added;
 use api_types::Id;
-use host_plane::{Step, inward_tunnel, inward_wire, tag_row};
+use host_plane::Step;
 use plane_types::{InwardRow, Place};
 
 /// The network of a tag.
 pub(crate) fn network_at(host: &HostAt<'_>, tag: u16) -> Option<Id>
     ensures { option_to_list result ≡ path_at (host_seen host.now) tag }
 {
-    match tag_row(host.tables, tag) {
+    match host.tables.tag_row(tag) {
         Some(row) => Some(row.network),
         None => None,
     }
@@ -51,10 +51,10 @@ fn tag_at(host: &HostAt<'_>, place: &Place<'_>) -> Option<u16>
 {
     match place {
         Place::Bridge { tag, .. } => Some(*tag),
-        Place::TunnelIn { number, .. } => inward_tag(host, inward_tunnel(host.tables, *number)),
+        Place::TunnelIn { number, .. } => inward_tag(host, host.tables.inward_tunnel(*number)),
         Place::WireIn { physical, tag, .. } => inward_tag(
             host,
-            inward_wire(host.tables, physical, *tag),
+            host.tables.inward_wire(physical, *tag),
         ),
         Place::TapIn { .. }
         | Place::RouterIn { .. }

@@ -18,7 +18,7 @@ use crate::taker::{Sought, first, taker};
 use crate::trip::travel;
 use crate::turn::Turn;
 use api_types::Id;
-use host_plane::{Ended, Ending, Step, inward_wire, tap_at};
+use host_plane::{Ended, Ending, Step};
 use net_addr::{Copies, OutOfMemory, Text};
 use plane_types::{AskAnswer, DropCause, Event, Frame, Outcome, Place, Verdict, is_unsupported};
 use std::alloc::Global;
@@ -38,9 +38,9 @@ fn steps_for(frame: &Frame) -> u16
 
 fn network_of_tap(host: &HostAt<'_>, port: Id) -> Option<Id>
     ensures { option_to_list result
-        ≡ at_tap (host_seen host.now) (tap_by_port host.now.tables.now port) }
+        ≡ at_tap (host_seen host.now) (tap_by_port host.now.tables.now.lists port) }
 {
-    match tap_at(host.tables, port) {
+    match host.tables.tap_at(port) {
         Some(tap) => network_at(host, tap.tag),
         None => None,
     }
@@ -49,10 +49,10 @@ fn network_of_tap(host: &HostAt<'_>, port: Id) -> Option<Id>
 fn network_of_wire(host: &HostAt<'_>, physical: &Text, tag: Option<u16>) -> Option<Id>
     ensures { option_to_list result
         ≡ at_inward (host_seen host.now)
-        (inward_by host.now.tables.now
+        (inward_by host.now.tables.now.lists
         (ByWire (record { physical = physical.now; tag = tag }))) }
 {
-    match inward_wire(host.tables, physical, tag) {
+    match host.tables.inward_wire(physical, tag) {
         Some(row) => network_at(host, row.tag),
         None => None,
     }

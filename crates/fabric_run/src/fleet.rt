@@ -23,7 +23,8 @@ pub trait Fleet {
     /// The tables of a host.
     fn tables(&self, at: usize) -> &HostTables
         requires { at < length (hosts self.now) }
-        ensures { slice_get (map (λ (h : Host). h.tables) (hosts self.now)) at ≡ Some result.now };
+        ensures { slice_get (map (λ (h : Host). h.tables) (hosts self.now)) at
+            ≡ Some result.now.lists };
 
     /// The tracked entries of a host.
     fn entries(&self, at: usize) -> &Entries

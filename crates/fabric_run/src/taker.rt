@@ -5,7 +5,7 @@ ghost use Rattle.fabric_run.specs.Seen.{IsFirst, host_seen, is_other_than, is_so
 
 use crate::fleet::{Fleet, HostAt, host_at};
 use api_types::Id;
-use host_plane::{bridge_at, inward_wire, neighbour_at, tap_at};
+use host_plane::{bridge_at, neighbour_at};
 use net_addr::Text;
 use plane_types::{BridgeKey, BridgeRow, BridgeTo, Frame};
 
@@ -44,7 +44,7 @@ fn takes(host: &HostAt<'_>, physical: &Text, tag: Option<u16>, frame: &Frame) ->
     ensures { result
         ≡ taken_by (record { physical = physical.now; tag = tag }) frame.now (host_seen host.now) }
 {
-    let Some(row) = inward_wire(host.tables, physical, tag) else {
+    let Some(row) = host.tables.inward_wire(physical, tag) else {
         return false;
     };
     match *frame {
@@ -71,7 +71,7 @@ fn is_sought(host: &HostAt<'_>, sought: &Sought<'_>) -> bool
 {
     match sought {
         Sought::Named(name) => **name == *host.name,
-        Sought::WithTap(port) => tap_at(host.tables, *port).is_some(),
+        Sought::WithTap(port) => host.tables.tap_at(*port).is_some(),
         Sought::Taker {
             but,
             physical,

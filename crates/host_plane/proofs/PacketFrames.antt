@@ -8,7 +8,7 @@ use Rattle.plane_types.specs.declared.entry.Entry.{Entry}
 use Rattle.plane_types.specs.declared.frame.Frame.{Frame}
 use Rattle.plane_types.specs.declared.frame.Frame.TheVariants.{Dhcp, Ip, NeighbourAsk, Other}
 use Rattle.plane_types.specs.declared.table.TapRow.{TapRow}
-use Rattle.plane_types.specs.declared.tables.HostTables.{HostTables}
+use Rattle.plane_types.specs.declared.lists.TableLists.{TableLists}
 
 pub frame_of : (frame : Frame) (p : Packet) → Some p ≡ packet_in frame → ip_frame p ≡ frame
 frame_of (Ip src dst ends ttl part) p is = ap ip_frame (same_Some p (packet src dst ends ttl part) is)
@@ -16,7 +16,7 @@ frame_of (NeighbourAsk src ends) p is = absurd (none-some p (sym is))
 frame_of (Dhcp src from) p is = absurd (none-some p (sym is))
 frame_of (Other src dst ethertype) p is = absurd (none-some p (sym is))
 
-module _ (t : HostTables) (entries : List Entry) (tap : TapRow) (frame : Frame) (p : Packet) (is : Some p ≡ packet_in frame) where
+module _ (t : TableLists) (entries : List Entry) (tap : TapRow) (frame : Frame) (p : Packet) (is : Some p ≡ packet_in frame) where
   pub sends_packet : tap_filtered (ip_frame p) tap (tap_passage t entries tap Egress p) ≡ tap_sends t entries tap frame
   sends_packet = ap (tap_sends t entries tap) (frame_of frame p is)
 

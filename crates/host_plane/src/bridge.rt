@@ -5,7 +5,6 @@ ghost use Rattle.plane_types.specs.TableStep.{asked_at, bridge_at as bridge_by_k
 ghost use Rattle.host_plane.specs.Seen.{step_seen};
 
 use crate::ending::{Ended, Ending, Step, drops};
-use crate::look::{lease_at, tag_row};
 use crate::map::{bridge_at, neighbour_at};
 use api_types::Id;
 use net_addr::Mac;
@@ -100,7 +99,7 @@ fn bridged<'t>(
 ) -> Step<'t>
     ensures { step_seen result
         ≡ bridged_by_row inner row.now toward frame cause
-        (bridge_by_key tables.now row.now.tag key) }
+        (bridge_by_key tables.now.lists row.now.tag key) }
 {
     match bridge_at(tables, row.tag, key) {
         Some(entry) => led(inner, row.tag, frame, &entry.to),
@@ -112,7 +111,7 @@ fn bridged<'t>(
 fn asked<'t>(tables: &HostTables, inner: bool, row: &'t TagRow, src: Mac, ends: &Ends) -> Step<'t>
     ensures { step_seen result
         ≡ asked_at inner row.now (address_ask src ends.now)
-        (neighbour_by_address tables.now row.now.tag (destination ends.now)) }
+        (neighbour_by_address tables.now.lists row.now.tag (destination ends.now)) }
 {
     match neighbour_at(tables, row.tag, &ends.destination()) {
         Some(held) => Step::End(Ending {
@@ -133,7 +132,7 @@ fn asked<'t>(tables: &HostTables, inner: bool, row: &'t TagRow, src: Mac, ends: 
 }
 
 fn bridge_in<'t>(tables: &'t HostTables, inner: bool, row: &'t TagRow, frame: Frame) -> Step<'t>
-    ensures { step_seen result ≡ bridged_in tables.now inner row.now frame }
+    ensures { step_seen result ≡ bridged_in tables.now.lists inner row.now frame }
 {
     match frame {
         Frame::Ip { dst, .. } => bridged(
@@ -168,9 +167,9 @@ pub(crate) fn bridge_step<'t>(
     tag: u16,
     frame: Frame,
 ) -> Step<'t>
-    ensures { step_seen result ≡ bridged_at_tag tables.now inner tag frame }
+    ensures { step_seen result ≡ bridged_at_tag tables.now.lists inner tag frame }
 {
-    match tag_row(tables, tag) {
+    match tables.tag_row(tag) {
         Some(row) => bridge_in(tables, inner, row, frame),
         None => drops(DropCause::Unknown),
     }
@@ -182,7 +181,7 @@ pub(crate) fn inward_step<'t>(
     frame: Frame,
     found: Option<&'t InwardRow>,
 ) -> Step<'t>
-    ensures { step_seen result ≡ bridged_inward tables.now frame (option_copied found.entry) }
+    ensures { step_seen result ≡ bridged_inward tables.now.lists frame (option_copied found.entry) }
 {
     match found {
         Some(row) => bridge_step(tables, true, row.tag, frame),
@@ -203,9 +202,10 @@ fn sender(frame: &Frame) -> Mac
 
 /// A frame comes to the DHCP port of a tag, which answers with the lease of its MAC.
 pub(crate) fn dhcp_in<'t>(tables: &'t HostTables, tag: u16, frame: &Frame) -> Step<'t>
-    ensures { step_seen result ≡ leased_by (lease_by_mac tables.now tag (sender_of frame.now)) }
+    ensures { step_seen result
+        ≡ leased_by (lease_by_mac tables.now.lists tag (sender_of frame.now)) }
 {
-    match lease_at(tables, tag, sender(frame)) {
+    match tables.lease_at(tag, sender(frame)) {
         Some(row) => Step::End(Ending {
             ended: Ended::Lease(&row.lease),
             way: None,

@@ -4,7 +4,7 @@ ghost use Rattle.plane_types.specs.Parts.{packet_of};
 ghost use Rattle.host_plane.specs.Seen.{stepped_seen};
 
 use crate::ending::{Stepped, dropped};
-use crate::look::{port_of, router_at};
+use crate::port::port_of;
 use crate::router::route;
 use api_types::Id;
 use plane_types::{DropCause, Entry, Frame, HostTables, Packet, RouterTable};
@@ -19,7 +19,7 @@ fn routed<'t>(
     packet: &Packet,
 ) -> Stepped<'t>
     ensures { stepped_seen result
-        ≡ by_port tables.now (entries.now ++ fresh.now) router.now (packet_of packet.now)
+        ≡ by_port tables.now.lists (entries.now ++ fresh.now) router.now (packet_of packet.now)
         (leg_by_port router.now port) }
 {
     match port_of(router, port) {
@@ -38,12 +38,12 @@ pub(crate) fn router_in<'t>(
     frame: Frame,
 ) -> Stepped<'t>
     ensures { stepped_seen result
-        ≡ routed_in tables.now (entries.now ++ fresh.now) port router frame }
+        ≡ routed_in tables.now.lists (entries.now ++ fresh.now) port router frame }
 {
     let Some(packet) = Packet::of(&frame) else {
         return dropped(DropCause::Unknown);
     };
-    let Some(router) = router_at(tables, router) else {
+    let Some(router) = tables.router_at(router) else {
         return dropped(DropCause::Unknown);
     };
     routed(tables, entries, fresh, router, port, &packet)

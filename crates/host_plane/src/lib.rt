@@ -11,10 +11,10 @@ mod bridge;
 mod ending;
 mod filter;
 mod inside;
-mod look;
 mod map;
 mod outward;
 mod place;
+mod port;
 mod router;
 mod source;
 mod tap;
@@ -22,6 +22,5 @@ mod translation;
 mod ways;
 
 pub use ending::{Ended, Ending, Step};
-pub use look::{inward_tunnel, inward_wire, tag_row, tap_at};
 pub use map::{bridge_at, neighbour_at};
 pub use place::step;

@@ -118,13 +118,9 @@ fn row_at<R: Mapped>(rows: &[R], first: u32, second: u128) -> Option<&R>
 
 /// The entry of the bridge with this tag and key. Its cost grows with the logarithm of the rows.
 pub fn bridge_at(tables: &HostTables, tag: u16, key: BridgeKey) -> Option<&BridgeRow>
-    ensures { option_copied result ≡ bridge_by_key tables.now tag key }
+    ensures { option_copied result ≡ bridge_by_key tables.now.lists tag key }
 {
-    row_at(
-        tables.bridge.as_slice(),
-        u32::from(tag),
-        u128::from(key_place(key)),
-    )
+    row_at(tables.bridge(), u32::from(tag), u128::from(key_place(key)))
 }
 
 fn neighbour_among<'t>(
@@ -148,7 +144,7 @@ pub fn neighbour_at<'t>(
     tag: u16,
     address: &Addr,
 ) -> Option<&'t NeighbourRow>
-    ensures { option_copied result ≡ neighbour_by_address tables.now tag address.now }
+    ensures { option_copied result ≡ neighbour_by_address tables.now.lists tag address.now }
 {
-    neighbour_among(tables.neighbours.as_slice(), tag, address)
+    neighbour_among(tables.neighbours(), tag, address)
 }

@@ -5,8 +5,8 @@ ghost use Rattle.plane_types.specs.Parts.{packet_of};
 ghost use Rattle.host_plane.specs.Seen.{step_seen};
 
 use crate::ending::{Ended, Ending, Step, drops};
-use crate::look::{port_of, tag_row};
 use crate::map::neighbour_at;
+use crate::port::port_of;
 use api_types::Id;
 use net_addr::{Addr, Mac};
 use plane_types::{DropCause, Frame, HostTables, Packet, Place, RouterTable, Toward};
@@ -21,9 +21,9 @@ fn to_mac(packet: &Packet, dst: Mac) -> Frame
 // Nobody has the next hop: out by the physical network of the way out, where it has one.
 fn unheld<'t>(tables: &'t HostTables, tag: u16, hop: &Addr, packet: &Packet) -> Step<'t>
     ensures { step_seen result
-        ≡ unheld_by hop.now (packet_of packet.now) (row_of_tag tables.now tag) }
+        ≡ unheld_by hop.now (packet_of packet.now) (row_of_tag tables.now.lists tag) }
 {
-    let Some(row) = tag_row(tables, tag) else {
+    let Some(row) = tables.tag_row(tag) else {
         return drops(DropCause::Unknown);
     };
     let way = Some(row.network);
@@ -46,8 +46,8 @@ fn unheld<'t>(tables: &'t HostTables, tag: u16, hop: &Addr, packet: &Packet) -> 
 // The neighbour at the next hop gets it, by the bridge.
 fn sent_by<'t>(tables: &'t HostTables, tag: u16, hop: &Addr, packet: &Packet) -> Step<'t>
     ensures { step_seen result
-        ≡ sent_by_neighbour tables.now tag hop.now (packet_of packet.now)
-        (neighbour_by_address tables.now tag hop.now) }
+        ≡ sent_by_neighbour tables.now.lists tag hop.now (packet_of packet.now)
+        (neighbour_by_address tables.now.lists tag hop.now) }
 {
     let Some(held) = neighbour_at(tables, tag, hop) else {
         return unheld(tables, tag, hop, packet);
@@ -67,7 +67,8 @@ pub(crate) fn sent_at<'t>(
     packet: &Packet,
 ) -> Step<'t>
     ensures { step_seen result
-        ≡ sent_at_port tables.now hop.now (packet_of packet.now) (leg_by_port router.now out) }
+        ≡ sent_at_port tables.now.lists hop.now (packet_of packet.now)
+        (leg_by_port router.now out) }
 {
     match port_of(router, out) {
         Some(port) => sent_by(tables, port.tag, hop, packet),

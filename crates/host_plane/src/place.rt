@@ -6,7 +6,6 @@ ghost use Rattle.host_plane.specs.Seen.{step_seen, stepped_seen};
 use crate::bridge::{bridge_step, dhcp_in, inward_step};
 use crate::ending::{Step, Stepped};
 use crate::inside::router_in;
-use crate::look::{inward_tunnel, inward_wire};
 use crate::tap::{tap_in, tap_out};
 use plane_types::{Entries, Entry, Fresh, HostTables, Place};
 
@@ -17,7 +16,7 @@ fn stepped<'t>(
     place: &Place<'t>,
 ) -> Stepped<'t>
     ensures { stepped_seen result
-        ≡ table_step tables.now (entries.now ++ fresh.now) (place_seen place.now) }
+        ≡ table_step tables.now.lists (entries.now ++ fresh.now) (place_seen place.now) }
 {
     match place {
         Place::TapIn { port, frame } => tap_in(tables, entries, fresh, *port, *frame),
@@ -26,7 +25,7 @@ fn stepped<'t>(
             made: None,
         },
         Place::TunnelIn { number, frame } => Stepped {
-            step: inward_step(tables, *frame, inward_tunnel(tables, *number)),
+            step: inward_step(tables, *frame, tables.inward_tunnel(*number)),
             made: None,
         },
         Place::WireIn {
@@ -34,7 +33,7 @@ fn stepped<'t>(
             tag,
             frame,
         } => Stepped {
-            step: inward_step(tables, *frame, inward_wire(tables, physical, *tag)),
+            step: inward_step(tables, *frame, tables.inward_wire(physical, *tag)),
             made: None,
         },
         Place::RouterIn {
@@ -55,10 +54,10 @@ fn stepped<'t>(
 /// this step makes is added. It takes no memory and refuses nothing.
 ///
 /// Bridge and neighbours are searched by halving, so its cost grows with the logarithm of their
-/// rows. All else is stepped over: the taps and a tap's allowed pairs, the tags, what comes inward
-/// and the leases; at a filter the host's filter rows, the entries, and the sets for each row of
-/// the tap that names a group; at a router the routers, its ports with their addresses, the routes,
-/// the floating addresses, and the entries, for a new translation as often as ports are taken.
+/// rows. Taps, tags, what comes inward, leases and routers are looked up. What is stepped over is a
+/// tap's own: its allowed pairs and its filter rows, and for each of these that names a group the
+/// group's set; a router's own ports with their addresses, routes and floating addresses; and the
+/// entries.
 pub fn step<'t>(
     tables: &'t HostTables,
     entries: &Entries,
@@ -67,10 +66,10 @@ pub fn step<'t>(
 ) -> Step<'t>
     requires { 2 ≤ fresh.old.spare }
     ensures step { step_seen result
-        ≡ (table_step tables.now (entries.now.items ++ fresh.old.items) (place_seen place.now)).step }
+        ≡ (table_step tables.now.lists (entries.now.items ++ fresh.old.items) (place_seen place.now)).step }
     ensures made { fresh.new.items
         ≡ fresh.old.items
-        ++ (table_step tables.now (entries.now.items ++ fresh.old.items) (place_seen place.now)).made }
+        ++ (table_step tables.now.lists (entries.now.items ++ fresh.old.items) (place_seen place.now)).made }
     ensures room { fresh.old.spare + length fresh.old.items
         ≤ fresh.new.spare + length fresh.new.items }
 {

@@ -10,8 +10,8 @@ ghost use Rattle.plane_types.specs.Parts.{changed_of, destined_of, packet_of, so
 ghost use Rattle.host_plane.specs.Seen.{stepped_seen};
 
 use crate::ending::{Ended, Ending, Step, Stepped, dropped};
-use crate::look::port_of;
 use crate::outward::sent_at;
+use crate::port::port_of;
 use crate::source::{find_source, fixed_behind};
 use crate::translation::answer;
 use crate::ways::best_way;
@@ -32,7 +32,7 @@ fn find_destination(
     packet: &Packet,
 ) -> Destined
     ensures { destined_of result
-        ≡ destined_by (table_view tables.now router.now)
+        ≡ destined_by (table_view tables.now.lists router.now)
         (uses_by router.now.snat router.now.gateway router.now.router
         (entries.now ++ fresh.now)) (packet_of packet.now) }
 {
@@ -65,7 +65,7 @@ fn holds(port: &RouterPort, address: &Addr) -> bool
 
 // Whether a live port of the router holds the address.
 fn is_own(tables: &HostTables, router: &RouterTable, address: &Addr) -> bool
-    ensures { result ≡ is_own_by (table_view tables.now router.now) address.now }
+    ensures { result ≡ is_own_by (table_view tables.now.lists router.now) address.now }
 {
     for port in router.ports.as_slice() {
         if holds(port, address) {
@@ -84,7 +84,7 @@ fn send_on<'t>(
     sourced: Option<Sourced>,
 ) -> Stepped<'t>
     ensures { stepped_seen result
-        ≡ led_by tables.now router.now
+        ≡ led_by tables.now.lists router.now
         (sent_by (leg_at out.now) hop.now (option_map sourced_of sourced)) }
 {
     let Some(sourced) = sourced else {
@@ -121,8 +121,8 @@ fn routed_by<'t>(
     row: &RouteRow,
 ) -> Stepped<'t>
     ensures { stepped_seen result
-        ≡ led_by tables.now router.now
-        (way_by_view (table_view tables.now router.now)
+        ≡ led_by tables.now.lists router.now
+        (way_by_view (table_view tables.now.lists router.now)
         (uses_by router.now.snat router.now.gateway router.now.router
         (entries.now ++ fresh.now)) (leg_at port.now) (changed_of destined.now.by)
         (packet_of destined.now.packet) (Some (way_at row.now))) }
@@ -147,13 +147,13 @@ fn routed_on<'t>(
     destined: &Destined,
 ) -> Stepped<'t>
     ensures { stepped_seen result
-        ≡ led_by tables.now router.now
-        (way_by_view (table_view tables.now router.now)
+        ≡ led_by tables.now.lists router.now
+        (way_by_view (table_view tables.now.lists router.now)
         (uses_by router.now.snat router.now.gateway router.now.router
         (entries.now ++ fresh.now)) (leg_at port.now) (changed_of destined.now.by)
         (packet_of destined.now.packet)
         (best_of_ways (destined_for destined.now.packet.ends)
-        (ways_at router.now.router tables.now.routes))) }
+        (ways_at router.now.router tables.now.lists.routes))) }
 {
     let to = destined.packet.ends.destination();
     match best_way(tables, router.router, &to) {
@@ -184,8 +184,8 @@ fn routed_to<'t>(
     destined: &Destined,
 ) -> Stepped<'t>
     ensures { stepped_seen result
-        ≡ led_by tables.now router.now
-        (to_by_view (table_view tables.now router.now)
+        ≡ led_by tables.now.lists router.now
+        (to_by_view (table_view tables.now.lists router.now)
         (uses_by router.now.snat router.now.gateway router.now.router
         (entries.now ++ fresh.now)) (leg_at port.now) (destined_of destined.now)) }
 {
@@ -211,8 +211,8 @@ pub(crate) fn route<'t>(
     packet: &Packet,
 ) -> Stepped<'t>
     ensures { stepped_seen result
-        ≡ led_by tables.now router.now
-        (routed_by_view (table_view tables.now router.now) (entries.now ++ fresh.now)
+        ≡ led_by tables.now.lists router.now
+        (routed_by_view (table_view tables.now.lists router.now) (entries.now ++ fresh.now)
         (leg_at port.now) (packet_of packet.now)) }
 {
     if !router.up {

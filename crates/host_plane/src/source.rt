@@ -14,21 +14,46 @@ use crate::translation::{new_port, with_key};
 use api_types::Id;
 use net_addr::{Addr, Addr4};
 use plane_types::{
-    Changed, Destined, Entry, HostTables, Packet, RouterPort, RouterTable, Sourced, by_any,
-    by_float, kept_source, sourced_at, with_ends,
+    Changed, Destined, Entry, FloatRow, HostTables, Packet, RouterPort, RouterTable, Sourced,
+    by_any, by_float, kept_source, sourced_at, with_ends,
 };
 
+// The fixed address of the first of these rows that is of the router and has the floating address.
+fn fixed_among(rows: &[FloatRow], router: Id, floating: &Addr) -> Option<Addr4>
+    ensures { result
+        ≡ option_map (λ (f : Float). f.fixed)
+        (find (λ (f : Float). addr_eq (V4 f.floating) floating.now)
+        (floats_at_router router rows.now)) }
+{
+    for row in rows {
+        if router == row.router && Addr::V4(row.floating) == *floating {
+            return Some(row.fixed);
+        }
+    }
+    None
+}
+
 /// The fixed address for which a floating address of the router stands; for an address of version 6
-/// there is none. Its cost grows with the floating addresses.
+/// there is none. Its cost grows with the router's floating addresses.
 pub(crate) fn fixed_behind(tables: &HostTables, router: Id, floating: &Addr) -> Option<Addr4>
     ensures { result
         ≡ option_map (λ (f : Float). f.fixed)
         (find (λ (f : Float). addr_eq (V4 f.floating) floating.now)
-        (floats_at_router router tables.now.floats)) }
+        (floats_at_router router tables.now.lists.floats)) }
 {
-    for row in tables.floats.as_slice() {
-        if router == row.router && Addr::V4(row.floating) == *floating {
-            return Some(row.fixed);
+    fixed_among(tables.floats_near(router), router, floating)
+}
+
+// The floating address of the first of these rows that is of the router and has the fixed address.
+fn floating_among(rows: &[FloatRow], router: Id, fixed: &Addr) -> Option<Addr4>
+    ensures { result
+        ≡ option_map (λ (f : Float). f.floating)
+        (find (λ (f : Float). addr_eq (V4 f.fixed) fixed.now)
+        (floats_at_router router rows.now)) }
+{
+    for row in rows {
+        if router == row.router && Addr::V4(row.fixed) == *fixed {
+            return Some(row.floating);
         }
     }
     None
@@ -39,14 +64,9 @@ fn floating_for(tables: &HostTables, router: Id, fixed: &Addr) -> Option<Addr4>
     ensures { result
         ≡ option_map (λ (f : Float). f.floating)
         (find (λ (f : Float). addr_eq (V4 f.fixed) fixed.now)
-        (floats_at_router router tables.now.floats)) }
+        (floats_at_router router tables.now.lists.floats)) }
 {
-    for row in tables.floats.as_slice() {
-        if router == row.router && Addr::V4(row.fixed) == *fixed {
-            return Some(row.floating);
-        }
-    }
-    None
+    floating_among(tables.floats_near(router), router, fixed)
 }
 
 // With a new entry, where a port is left.
@@ -87,7 +107,7 @@ fn sourced_gateway(
 ) -> Option<Sourced>
     requires { router.now.snat ≡ true }
     ensures { option_map sourced_of result
-        ≡ sourced_by_gateway (table_view tables.now router.now)
+        ≡ sourced_by_gateway (table_view tables.now.lists router.now)
         (uses_by router.now.snat router.now.gateway router.now.router
         (entries.now ++ fresh.now)) (packet_of packet.now) router.now.gateway }
 {
@@ -115,7 +135,7 @@ fn has_live_gateway(router: &RouterTable) -> bool
 fn is_translated(tables: &HostTables, router: &RouterTable, out: &RouterPort, by: Changed) -> bool
     ensures { result
         ≡ ((not out.now.inside || changed_by_float (changed_of by)) && router.now.snat
-        && is_gateway_live (table_view tables.now router.now)) }
+        && is_gateway_live (table_view tables.now.lists router.now)) }
 {
     (!out.inside || by_float(by)) && router.snat && has_live_gateway(router)
 }
@@ -130,12 +150,12 @@ fn sourced_float(
     destined: &Destined,
 ) -> Option<Sourced>
     ensures { option_map sourced_of result
-        ≡ sourced_by_float (table_view tables.now router.now)
+        ≡ sourced_by_float (table_view tables.now.lists router.now)
         (uses_by router.now.snat router.now.gateway router.now.router
         (entries.now ++ fresh.now)) (leg_at out.now) (changed_of destined.now.by)
         (packet_of destined.now.packet)
         (find (λ (f : Float). addr_eq (V4 f.fixed) (source destined.now.packet.ends))
-        (floats_at_router router.now.router tables.now.floats)) }
+        (floats_at_router router.now.router tables.now.lists.floats)) }
 {
     let packet = &destined.packet;
     if let Some(from) = floating_for(tables, router.router, &packet.ends.source()) {
@@ -164,7 +184,7 @@ pub(crate) fn find_source(
     destined: &Destined,
 ) -> Option<Sourced>
     ensures { option_map sourced_of result
-        ≡ sourced_by (table_view tables.now router.now)
+        ≡ sourced_by (table_view tables.now.lists router.now)
         (uses_by router.now.snat router.now.gateway router.now.router
         (entries.now ++ fresh.now)) (leg_at port.now) (leg_at out.now)
         (changed_of destined.now.by) (packet_of destined.now.packet) }

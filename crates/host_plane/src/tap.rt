@@ -9,7 +9,6 @@ ghost use Rattle.host_plane.specs.Seen.{step_seen, stepped_seen};
 
 use crate::ending::{Ended, Ending, Step, Stepped, dropped};
 use crate::filter::passage_at;
-use crate::look::tap_at;
 use api_types::{Direction, Id};
 use net_addr::Addr;
 use plane_types::{
@@ -56,7 +55,7 @@ fn filtered<'t>(
 ) -> Stepped<'t>
     ensures { stepped_seen result
         ≡ filtered_by (ip_frame (packet_of packet.now)) tap.now
-        (tap_passage tables.now (entries.now ++ fresh.now) tap.now Egress
+        (tap_passage tables.now.lists (entries.now ++ fresh.now) tap.now Egress
         (packet_of packet.now)) }
 {
     let passage = passage_at(tables, entries, fresh, tap, Direction::Egress, packet);
@@ -77,7 +76,8 @@ fn sends<'t>(
     tap: &TapRow,
     frame: Frame,
 ) -> Stepped<'t>
-    ensures { stepped_seen result ≡ sent_by tables.now (entries.now ++ fresh.now) tap.now frame }
+    ensures { stepped_seen result
+        ≡ sent_by tables.now.lists (entries.now ++ fresh.now) tap.now frame }
 {
     match Packet::of(&frame) {
         Some(packet) => filtered(tables, entries, fresh, tap, &packet),
@@ -97,9 +97,10 @@ pub(crate) fn tap_in<'t>(
     frame: Frame,
 ) -> Stepped<'t>
     ensures { stepped_seen result
-        ≡ taken_in tables.now (entries.now ++ fresh.now) frame (tap_by_port tables.now port) }
+        ≡ taken_in tables.now.lists (entries.now ++ fresh.now) frame
+        (tap_by_port tables.now.lists port) }
 {
-    let Some(tap) = tap_at(tables, port) else {
+    let Some(tap) = tables.tap_at(port) else {
         return dropped(DropCause::Dead);
     };
     if is_unsupported(&frame) {
@@ -130,7 +131,7 @@ fn delivers<'t>(
 ) -> Stepped<'t>
     ensures { stepped_seen result
         ≡ delivered_to tap.now.port (ip_frame (packet_of packet.now))
-        (tap_passage tables.now (entries.now ++ fresh.now) tap.now Ingress
+        (tap_passage tables.now.lists (entries.now ++ fresh.now) tap.now Ingress
         (packet_of packet.now)) }
 {
     let passage = passage_at(tables, entries, fresh, tap, Direction::Ingress, packet);
@@ -152,7 +153,7 @@ fn gets<'t>(
     frame: Frame,
 ) -> Stepped<'t>
     ensures { stepped_seen result
-        ≡ taken_out_by tables.now (entries.now ++ fresh.now) frame tap.now }
+        ≡ taken_out_by tables.now.lists (entries.now ++ fresh.now) frame tap.now }
 {
     match Packet::of(&frame) {
         Some(packet) => delivers(tables, entries, fresh, tap, &packet),
@@ -172,9 +173,10 @@ pub(crate) fn tap_out<'t>(
     frame: Frame,
 ) -> Stepped<'t>
     ensures { stepped_seen result
-        ≡ taken_out tables.now (entries.now ++ fresh.now) frame (tap_by_port tables.now port) }
+        ≡ taken_out tables.now.lists (entries.now ++ fresh.now) frame
+        (tap_by_port tables.now.lists port) }
 {
-    match tap_at(tables, port) {
+    match tables.tap_at(port) {
         Some(tap) => gets(tables, entries, fresh, tap, frame),
         None => dropped(DropCause::Unknown),
     }

@@ -47,18 +47,12 @@ fn better_for<'t>(
     }
 }
 
-/// The route of the router with the longest prefix that has the destination; of equal lengths a
-/// connected one goes before an extra one, that before the default, and the first of equal ones.
-/// They are looked at from the last to the first. Its cost grows with the routes.
-pub(crate) fn best_way<'t>(
-    tables: &'t HostTables,
-    router: Id,
-    destination: &Addr,
-) -> Option<&'t RouteRow>
+// The best of those of these rows that are of the router and have the destination. They are looked
+// at from the last to the first.
+fn best_among<'t>(rows: &'t [RouteRow], router: Id, destination: &Addr) -> Option<&'t RouteRow>
     ensures { option_map way_at (option_copied result)
-        ≡ best_of_ways destination.now (ways_at router tables.now.routes) }
+        ≡ best_of_ways destination.now (ways_at router rows.now) }
 {
-    let rows = tables.routes.as_slice();
     let mut best = None;
     let mut left = rows.len();
     while left > 0 {
@@ -66,4 +60,18 @@ pub(crate) fn best_way<'t>(
         best = better_for(router, destination, &rows[left], best);
     }
     best
+}
+
+/// The route of the router with the longest prefix that has the destination; of equal lengths a
+/// connected one goes before an extra one, that before the default, and the first of equal ones.
+/// Its cost grows with the router's routes.
+pub(crate) fn best_way<'t>(
+    tables: &'t HostTables,
+    router: Id,
+    destination: &Addr,
+) -> Option<&'t RouteRow>
+    ensures { option_map way_at (option_copied result)
+        ≡ best_of_ways destination.now (ways_at router tables.now.lists.routes) }
+{
+    best_among(tables.routes_near(router), router, destination)
 }

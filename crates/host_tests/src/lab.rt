@@ -3,7 +3,7 @@ ghost use Rattle.std.specs.Str.{bytes_eq};
 
 use fabric_run::Fleet;
 use net_addr::{OutOfMemory, Text};
-use plane_types::{Entries, Entry, HostTables, Made};
+use plane_types::{Entries, Entry, HostTables, Made, TableLists};
 use std::alloc::Global;
 use std::test::Fail;
 
@@ -45,9 +45,9 @@ impl Fleet for Lab {
 
     ghost hosts = { λ l.
         record
-        { name = l.first.name; tables = l.first.tables; entries = l.first.entries.items }
+        { name = l.first.name; tables = l.first.tables.lists; entries = l.first.entries.items }
         ∷ record
-        { name = l.second.name; tables = l.second.tables; entries = l.second.entries.items }
+        { name = l.second.name; tables = l.second.tables.lists; entries = l.second.entries.items }
         ∷ [] };
 
     fn count(&self) -> usize {
@@ -80,10 +80,10 @@ impl Fleet for Lab {
 }
 
 impl Node {
-    pub(crate) fn make(alloc: Global, name: &str, tables: HostTables) -> Result<Node, OutOfMemory> {
+    pub(crate) fn make(alloc: Global, name: &str, lists: TableLists) -> Result<Node, OutOfMemory> {
         Ok(Node {
             name: Text::of(alloc, name)?,
-            tables,
+            tables: HostTables::make(alloc, lists)?,
             entries: Entries::new(alloc),
         })
     }

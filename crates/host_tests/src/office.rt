@@ -2,8 +2,8 @@ use crate::lab::{Lab, Node};
 use api_types::{Direction, Ethertype, Id, Lease, Pair, Wire};
 use net_addr::{Addr, Addr4, Mac, OutOfMemory, Prefix, Seq, Text};
 use plane_types::{
-    Ascending, BridgeKey, BridgeRow, BridgeTo, Carrier, FilterRow, HostTables, InwardRow, LeaseRow,
-    NeighbourRow, SetRow, TagRow, TapRow,
+    Ascending, BridgeKey, BridgeRow, BridgeTo, Carrier, FilterRow, InwardRow, LeaseRow,
+    NeighbourRow, SetRow, TableLists, TagRow, TapRow,
 };
 use std::alloc::Global;
 use std::test::Fail;
@@ -33,8 +33,8 @@ pub(crate) fn inner(n: u8) -> Addr4 {
 }
 
 /// Tables without rows.
-pub(crate) fn empty(alloc: Global) -> HostTables {
-    HostTables {
+pub(crate) fn empty(alloc: Global) -> TableLists {
+    TableLists {
         tags: Seq::new(alloc),
         taps: Seq::new(alloc),
         filters: Seq::new(alloc),
@@ -135,7 +135,7 @@ pub(crate) fn neighbour(tag: u16, address: &Addr, mac: Mac) -> NeighbourRow {
 }
 
 // What lets everything out, and in from the group.
-fn add_filters(tables: &mut HostTables, n: u8) -> Result<(), OutOfMemory> {
+fn add_filters(tables: &mut TableLists, n: u8) -> Result<(), OutOfMemory> {
     let anywhere = Some(prefix(0, 0));
     tables
         .filters
@@ -146,7 +146,7 @@ fn add_filters(tables: &mut HostTables, n: u8) -> Result<(), OutOfMemory> {
         .push(filter(n, Direction::Ingress, None, group))
 }
 
-fn add_sets(tables: &mut HostTables) -> Result<(), OutOfMemory> {
+fn add_sets(tables: &mut TableLists) -> Result<(), OutOfMemory> {
     for n in [FIRST, SECOND] {
         tables.sets.push(SetRow {
             group: id(GROUP),
@@ -171,7 +171,7 @@ fn lease(alloc: Global, n: u8) -> LeaseRow {
 }
 
 /// The first host, with the first instance and the DHCP port.
-pub(crate) fn first_host(alloc: Global) -> Result<HostTables, OutOfMemory> {
+pub(crate) fn first_host(alloc: Global) -> Result<TableLists, OutOfMemory> {
     let mut tables = empty(alloc);
     tables.tags.push(tag_row(OFFICE, HERE, None))?;
     tables.taps.push(tap(alloc, FIRST, HERE, true)?)?;
@@ -194,7 +194,7 @@ pub(crate) fn first_host(alloc: Global) -> Result<HostTables, OutOfMemory> {
 }
 
 /// The second host, with the second instance.
-pub(crate) fn second_host(alloc: Global) -> Result<HostTables, OutOfMemory> {
+pub(crate) fn second_host(alloc: Global) -> Result<TableLists, OutOfMemory> {
     // the prover asks that a value of this type is at hand
     let _address = Addr::V4(inner(1));
     let mut tables = empty(alloc);
@@ -219,7 +219,7 @@ pub(crate) fn second_host(alloc: Global) -> Result<HostTables, OutOfMemory> {
 }
 
 /// The hosts c1 and c2 with these tables.
-pub(crate) fn lab_of(alloc: Global, first: HostTables, second: HostTables) -> Result<Lab, Fail> {
+pub(crate) fn lab_of(alloc: Global, first: TableLists, second: TableLists) -> Result<Lab, Fail> {
     let first = Node::make(alloc, "c1", first)?;
     let second = Node::make(alloc, "c2", second)?;
     Lab::make(first, second)

@@ -6,7 +6,7 @@ use crate::office::{
 use api_types::{RouteRank, Wire};
 use net_addr::{Addr, Addr4, OutOfMemory, Prefix, Seq, Text};
 use plane_types::{
-    BridgeTo, Carrier, FloatRow, HostTables, InwardRow, RouteRow, RouterPort, RouterTable,
+    BridgeTo, Carrier, FloatRow, InwardRow, RouteRow, RouterPort, RouterTable, TableLists,
 };
 use std::alloc::Global;
 use std::test::Fail;
@@ -91,7 +91,7 @@ pub(crate) fn route(prefix: Prefix, rank: RouteRank, next: Option<Addr>, port: u
     }
 }
 
-fn add_routes(tables: &mut HostTables) -> Result<(), OutOfMemory> {
+fn add_routes(tables: &mut TableLists) -> Result<(), OutOfMemory> {
     let inside = prefix(INNER, 24);
     tables
         .routes
@@ -106,7 +106,7 @@ fn add_routes(tables: &mut HostTables) -> Result<(), OutOfMemory> {
         .push(route(prefix(0, 0), RouteRank::Default, next, OUTSIDE))
 }
 
-fn add_neighbours(tables: &mut HostTables) -> Result<(), OutOfMemory> {
+fn add_neighbours(tables: &mut TableLists) -> Result<(), OutOfMemory> {
     // the prover asks that a value of this type is at hand
     let _address = Addr::V4(inner(1));
     for (n, port) in [(1, INSIDE), (FIRST, FIRST), (SECOND, SECOND)] {
@@ -125,7 +125,7 @@ pub(crate) fn to_router(port: u8) -> BridgeTo {
 }
 
 /// The first host with a router to an external network, which translates sources.
-pub(crate) fn routing_host(alloc: Global) -> Result<HostTables, OutOfMemory> {
+pub(crate) fn routing_host(alloc: Global) -> Result<TableLists, OutOfMemory> {
     let mut tables = first_host(alloc)?;
     let beyond = tag_row(EXTERNAL, BEYOND, Some(wire(alloc)?));
     tables.tags.push(beyond)?;
@@ -144,7 +144,7 @@ pub(crate) fn routing_host(alloc: Global) -> Result<HostTables, OutOfMemory> {
 }
 
 /// A floating address of the second instance, 203.0.113.3.
-pub(crate) fn add_float(tables: &mut HostTables) -> Result<(), OutOfMemory> {
+pub(crate) fn add_float(tables: &mut TableLists) -> Result<(), OutOfMemory> {
     tables.floats.push(FloatRow {
         router: id(ROUTER),
         floating: outer(3),
@@ -153,7 +153,7 @@ pub(crate) fn add_float(tables: &mut HostTables) -> Result<(), OutOfMemory> {
 }
 
 /// The first host as it is given, and the second.
-pub(crate) fn lab_with(alloc: Global, first: HostTables) -> Result<Lab, Fail> {
+pub(crate) fn lab_with(alloc: Global, first: TableLists) -> Result<Lab, Fail> {
     let mut second = second_host(alloc)?;
     let inside = tunnel(alloc, "c1")?;
     second.bridge.put(at_mac(THERE, INSIDE, inside))?;

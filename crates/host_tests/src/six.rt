@@ -9,7 +9,7 @@ use crate::seen::{End, Seen, Sender, see};
 use api_types::{Direction, Ethertype, Id};
 use net_addr::{Addr, Addr6, OutOfMemory};
 use plane_types::{
-    BridgeTo, Carrier, DropCause, Ends, FilterRow, Frame, HostTables, InwardRow, KeyPart, SetRow,
+    BridgeTo, Carrier, DropCause, Ends, FilterRow, Frame, InwardRow, KeyPart, SetRow, TableLists,
 };
 use std::alloc::Global;
 use std::test::Fail;
@@ -56,7 +56,7 @@ fn host_with(
     (n, tag): (u8, u16),
     (other, host): (u8, &str),
     filter: FilterRow,
-) -> Result<HostTables, OutOfMemory> {
+) -> Result<TableLists, OutOfMemory> {
     let mut tables = empty(alloc);
     tables.tags.push(tag_row(OFFICE, tag, None))?;
     let own = prefix_six(INNER + u128::from(n), 128);

@@ -9,7 +9,7 @@ use crate::seen::{End, Seen, Sender, see, tcp};
 use crate::six::{INNER, inner};
 use api_types::RouteRank;
 use net_addr::{Addr, Addr6, Mac, OutOfMemory};
-use plane_types::{BridgeTo, Carrier, Ends, Frame, HostTables, InwardRow, KeyPart, Toward};
+use plane_types::{BridgeTo, Carrier, Ends, Frame, InwardRow, KeyPart, TableLists, Toward};
 use std::alloc::Global;
 use std::test::Fail;
 use test_rows::{id, mac, prefix, prefix_six};
@@ -24,7 +24,7 @@ fn beyond(n: u8) -> Addr6 {
 }
 
 // Of the default routes the one of version 4 is first.
-fn add_routes(tables: &mut HostTables) -> Result<(), OutOfMemory> {
+fn add_routes(tables: &mut TableLists) -> Result<(), OutOfMemory> {
     let four = Some(Addr::V4(outer(1)));
     let six = Some(Addr::V6(beyond(1)));
     for row in [
@@ -38,7 +38,7 @@ fn add_routes(tables: &mut HostTables) -> Result<(), OutOfMemory> {
     Ok(())
 }
 
-fn add_neighbours(tables: &mut HostTables) -> Result<(), OutOfMemory> {
+fn add_neighbours(tables: &mut TableLists) -> Result<(), OutOfMemory> {
     for (tag, address, n) in [
         (BEYOND, beyond(2), OUTSIDE),
         (HERE, inner(FIRST), FIRST),
@@ -50,7 +50,7 @@ fn add_neighbours(tables: &mut HostTables) -> Result<(), OutOfMemory> {
     Ok(())
 }
 
-fn add_bridge(tables: &mut HostTables) -> Result<(), OutOfMemory> {
+fn add_bridge(tables: &mut TableLists) -> Result<(), OutOfMemory> {
     let first = BridgeTo::Tap(id(FIRST));
     tables.bridge.put(at_mac(HERE, FIRST, first))?;
     let inside = to_router(INSIDE);
@@ -60,7 +60,7 @@ fn add_bridge(tables: &mut HostTables) -> Result<(), OutOfMemory> {
 }
 
 // A host with an instance that isn't filtered and a router to an external network.
-fn routing_host(alloc: Global) -> Result<HostTables, OutOfMemory> {
+fn routing_host(alloc: Global) -> Result<TableLists, OutOfMemory> {
     let mut tables = empty(alloc);
     tables.tags.push(tag_row(OFFICE, HERE, None))?;
     let far = tag_row(EXTERNAL, BEYOND, Some(wire(alloc)?));

@@ -3,13 +3,13 @@ use crate::office::{FIRST, SECOND, at_mac, empty, inner, lab_of, neighbour, tag_
 use crate::outer::{EXTERNAL, wire};
 use crate::seen::{End, Seen, Sender, goes, see, tcp};
 use net_addr::{Addr, Mac, OutOfMemory};
-use plane_types::{BridgeTo, Carrier, DropCause, Ends, Frame, HostTables, InwardRow, Toward};
+use plane_types::{BridgeTo, Carrier, DropCause, Ends, Frame, InwardRow, TableLists, Toward};
 use std::alloc::Global;
 use std::test::Fail;
 use test_rows::{id, mac};
 
 // A host on the wire with an instance that isn't filtered, which knows its address alone.
-fn host_with(alloc: Global, n: u8, tag: u16) -> Result<HostTables, OutOfMemory> {
+fn host_with(alloc: Global, n: u8, tag: u16) -> Result<TableLists, OutOfMemory> {
     // the prover asks that a value of this type is at hand
     let _address = Addr::V4(inner(n));
     let mut tables = empty(alloc);

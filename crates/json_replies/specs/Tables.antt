@@ -24,7 +24,7 @@ use Rattle.plane_types.specs.declared.table.RouteRow.{RouteRow}
 use Rattle.plane_types.specs.declared.table.FloatRow.{FloatRow}
 use Rattle.plane_types.specs.declared.table.LeaseRow.{LeaseRow}
 use Rattle.api_types.specs.declared.wire.Wire.{Wire}
-use Rattle.plane_types.specs.declared.tables.HostTables.{HostTables}
+use Rattle.plane_types.specs.declared.lists.TableLists.{TableLists}
 use Rattle.json_replies.specs.Printed.{fields, list, or_null}
 use Rattle.json_replies.specs.Frames.{id_tree, address_tree, four_tree, mac_tree, prefix_tree, direction_tree, ethertype_tree}
 use Rattle.json_replies.specs.Verdicts.{hop_tree}
@@ -120,7 +120,7 @@ lease_row_tree row = fields (
     ∷ (codes "mac", mac_tree row.mac) ∷ (codes "name_servers", list (map address_tree row.lease.name_servers))
     ∷ (codes "tag", number row.tag) ∷ [])
 
-abbrev pub tables_tree : HostTables → Tree
+abbrev pub tables_tree : TableLists → Tree
 tables_tree tables = fields (
     (codes "bridge", list (map bridge_tree tables.bridge)) ∷ (codes "filters", list (map filter_tree tables.filters))
     ∷ (codes "floats", list (map float_tree tables.floats)) ∷ (codes "inward", list (map inward_tree tables.inward))

@@ -9,8 +9,8 @@ use crate::printed::Prints;
 use api_types::{Pair, RouteRank, Wire};
 use net_addr::{OutOfMemory, Text};
 use plane_types::{
-    BridgeKey, BridgeRow, BridgeTo, Carrier, FilterRow, FloatRow, HostTables, InwardRow, LeaseRow,
-    NeighbourRow, RouteRow, RouterPort, RouterTable, SetRow, TagRow, TapRow,
+    BridgeKey, BridgeRow, BridgeTo, Carrier, FilterRow, FloatRow, InwardRow, LeaseRow,
+    NeighbourRow, RouteRow, RouterPort, RouterTable, SetRow, TableLists, TagRow, TapRow,
 };
 use serde_json::{Map, Value};
 use std::alloc::Global;
@@ -289,7 +289,7 @@ impl Prints for LeaseRow {
     }
 }
 
-impl Prints for HostTables {
+impl Prints for TableLists {
     ghost tree = { tables_tree };
 
     fn value(&self, alloc: Global) -> Result<Value, OutOfMemory> {

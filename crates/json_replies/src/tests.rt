@@ -3,7 +3,7 @@ use api_types::{Answer, Direction, Ethertype, Id, Kind, Lease, Members, Printed,
 use net_addr::{Addr, Addr4, Addr6, Mac, OutOfMemory, Seq, Text};
 use plane_types::{
     Ascending, AskAnswer, BridgeKey, BridgeRow, BridgeTo, DropCause, Ends, Entry, FilterRow, Frame,
-    Heard, HostState, HostTables, Key, KeyKind, KeyPart, LabAnswer, Made, Outcome, Reply, Toward,
+    Heard, HostState, Key, KeyKind, KeyPart, LabAnswer, Made, Outcome, Reply, TableLists, Toward,
     TrailItem, Verdict,
 };
 use std::alloc::Global;
@@ -326,7 +326,7 @@ fn hosts(rt: HostRuntime) -> Result<(), Fail> {
 }
 
 // Tables without rows but for one of the bridge and one of the filters.
-fn tables(alloc: Global) -> Result<HostTables, OutOfMemory> {
+fn tables(alloc: Global) -> Result<TableLists, OutOfMemory> {
     let mut bridge = Ascending::new(alloc);
     bridge.put(BridgeRow {
         tag: 1,
@@ -347,7 +347,7 @@ fn tables(alloc: Global) -> Result<HostTables, OutOfMemory> {
         remote_prefix: None,
         remote_group: None,
     })?;
-    Ok(HostTables {
+    Ok(TableLists {
         tags: Seq::new(alloc),
         taps: Seq::new(alloc),
         filters,

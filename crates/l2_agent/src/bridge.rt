@@ -3,21 +3,20 @@ ghost use Rattle.std.specs.List.{filter_map};
 ghost use Rattle.api_types.specs.Live.{segment};
 ghost use Rattle.plane_types.specs.TableRows.{bridge_row as bridge_row_of, bridge_rows as bridge_rows_of, dhcp_row as dhcp_row_of, end_of as end_for, mac_row, to_here as to_tap_or_router, to_there as to_tunnel};
 
-use crate::tag_map::TagMap;
 use api_types::{PortRow, Rows, Segment, is_dhcp, is_router_port};
 use net_addr::{Copies, OutOfMemory, Text};
-use plane_rows::{is_at, is_live, router_of, segment_of};
-use plane_types::{Ascending, BridgeKey, BridgeRow, BridgeTo, TagRow};
+use plane_rows::{NamedRouters, is_at, is_live, segment_of};
+use plane_types::{Ascending, BridgeKey, BridgeRow, BridgeTo, TagMap, TagRow};
 use std::alloc::Global;
 
 // To a port of this host.
-fn to_here(rows: &Rows, port: &PortRow) -> Option<BridgeTo>
-    ensures { result ≡ to_tap_or_router rows.now port.now }
+fn to_here(routers: &NamedRouters, port: &PortRow) -> Option<BridgeTo>
+    ensures { result ≡ to_tap_or_router routers.now port.now }
 {
     if !is_router_port(&port.owner) {
         return Some(BridgeTo::Tap(port.id));
     }
-    let router = router_of(rows, port)?;
+    let router = routers.router_of(port)?;
     Some(BridgeTo::Router {
         router: router.id,
         port: port.id,
@@ -40,34 +39,34 @@ fn to_there(alloc: Global, rows: &Rows, port: &PortRow) -> Result<Option<BridgeT
 
 fn end_of(
     alloc: Global,
-    rows: &Rows,
+    routers: &NamedRouters,
     host: &Text,
     port: &PortRow,
 ) -> Result<Option<BridgeTo>, OutOfMemory>
-    ensures { IfOk result (λ o. o ≡ end_for rows.now host.now port.now) }
+    ensures { IfOk result (λ o. o ≡ end_for routers.now host.now port.now) }
 {
     if is_at(host, port) {
-        Ok(to_here(rows, port))
+        Ok(to_here(routers, port))
     } else {
-        to_there(alloc, rows, port)
+        to_there(alloc, routers.rows(), port)
     }
 }
 
 // The entry of a key that leads to a port, where it is live and can be reached.
 fn bridge_row(
     alloc: Global,
-    rows: &Rows,
+    routers: &NamedRouters,
     host: &Text,
     tags: &TagMap,
     key: BridgeKey,
     port: &PortRow,
 ) -> Result<Option<BridgeRow>, OutOfMemory>
-    ensures { IfOk result (λ o. o ≡ bridge_row_of rows.now host.now tags.now key port.now) }
+    ensures { IfOk result (λ o. o ≡ bridge_row_of routers.now host.now tags.now key port.now) }
 {
-    if !is_live(rows, port) {
+    if !is_live(routers.rows(), port) {
         return Ok(None);
     }
-    let Some(to) = end_of(alloc, rows, host, port)? else {
+    let Some(to) = end_of(alloc, routers, host, port)? else {
         return Ok(None);
     };
     match tags.tag_of(port.network) {
@@ -80,17 +79,17 @@ fn bridge_row(
 fn add_macs(
     alloc: Global,
     bridge: &mut Vec<BridgeRow>,
-    rows: &Rows,
+    routers: &NamedRouters,
     host: &Text,
     tags: &TagMap,
 ) -> Result<(), OutOfMemory>
     ensures { OnOk result
         (bridge.new.items
-        ≡ bridge.old.items ++ filter_map (mac_row rows.now host.now tags.now) rows.now.ports) }
+        ≡ bridge.old.items ++ filter_map (mac_row routers.now host.now tags.now) routers.now.ports) }
 {
-    for port in rows.ports().rows() {
+    for port in routers.rows().ports().rows() {
         let key = BridgeKey::Mac(port.mac);
-        if let Some(row) = bridge_row(alloc, rows, host, tags, key, port)? {
+        if let Some(row) = bridge_row(alloc, routers, host, tags, key, port)? {
             bridge.push(row)?;
         }
     }
@@ -99,34 +98,34 @@ fn add_macs(
 
 fn dhcp_row(
     alloc: Global,
-    rows: &Rows,
+    routers: &NamedRouters,
     host: &Text,
     tags: &TagMap,
     port: &PortRow,
 ) -> Result<Option<BridgeRow>, OutOfMemory>
-    ensures { IfOk result (λ o. o ≡ dhcp_row_of rows.now host.now tags.now port.now) }
+    ensures { IfOk result (λ o. o ≡ dhcp_row_of routers.now host.now tags.now port.now) }
 {
     if !is_dhcp(&port.owner) {
         return Ok(None);
     }
-    bridge_row(alloc, rows, host, tags, BridgeKey::Dhcp, port)
+    bridge_row(alloc, routers, host, tags, BridgeKey::Dhcp, port)
 }
 
 // Adds the entries of DHCP.
 fn add_dhcp(
     alloc: Global,
     bridge: &mut Vec<BridgeRow>,
-    rows: &Rows,
+    routers: &NamedRouters,
     host: &Text,
     tags: &TagMap,
 ) -> Result<(), OutOfMemory>
     ensures { OnOk result
         (bridge.new.items
         ≡ bridge.old.items
-        ++ filter_map (dhcp_row_of rows.now host.now tags.now) rows.now.ports) }
+        ++ filter_map (dhcp_row_of routers.now host.now tags.now) routers.now.ports) }
 {
-    for port in rows.ports().rows() {
-        if let Some(row) = dhcp_row(alloc, rows, host, tags, port)? {
+    for port in routers.rows().ports().rows() {
+        if let Some(row) = dhcp_row(alloc, routers, host, tags, port)? {
             bridge.push(row)?;
         }
     }
@@ -134,8 +133,8 @@ fn add_dhcp(
 }
 
 /// The entries by which frames of each tag go to ports, here and on other hosts, in ascending order
-/// of tag and key. Its cost grows with the tags, with the ports, with the routers' ports times the
-/// routers, and with the entries and the logarithm of their number.
+/// of tag and key. Its cost grows with the tags, the ports and the routers, and with the entries
+/// and the logarithm of their number.
 #[tactic(auto, unfolding(plane_types::specs::TableRows::bridge_rows))]
 pub(crate) fn bridge_rows(
     alloc: Global,
@@ -145,9 +144,10 @@ pub(crate) fn bridge_rows(
 ) -> Result<Ascending<BridgeRow>, OutOfMemory>
     ensures { IfOk result (λ b. b ≡ bridge_rows_of rows.now host.now tags.now) }
 {
+    let routers = NamedRouters::of(alloc, rows)?;
     let tags = TagMap::of(alloc, tags)?;
     let mut bridge = Vec::new(alloc);
-    add_macs(alloc, &mut bridge, rows, host, &tags)?;
-    add_dhcp(alloc, &mut bridge, rows, host, &tags)?;
+    add_macs(alloc, &mut bridge, &routers, host, &tags)?;
+    add_dhcp(alloc, &mut bridge, &routers, host, &tags)?;
     Ascending::of(bridge)
 }

@@ -12,7 +12,6 @@ mod inward;
 mod neighbours;
 mod ruled;
 mod sets;
-mod tag_map;
 mod tags;
 mod taps;
 mod wires;

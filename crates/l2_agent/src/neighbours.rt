@@ -3,11 +3,10 @@ ghost use Rattle.std.specs.List.{filter_map};
 ghost use Rattle.api_types.specs.declared.port.Fixed.{Fixed as TheFixed};
 ghost use Rattle.plane_types.specs.TableRows.{floating_neighbour, neighbour_rows as neighbour_rows_of, neighbours_of};
 
-use crate::tag_map::TagMap;
 use api_types::{Fixed, FloatingRow, PortRow, Rows};
 use net_addr::{Addr, Mac, OutOfMemory, Text};
 use plane_rows::{floating_holder, is_joined, is_live};
-use plane_types::{Ascending, NeighbourRow, TagRow};
+use plane_types::{Ascending, NeighbourRow, TagMap, TagRow};
 use std::alloc::Global;
 
 // Adds an entry for each address.

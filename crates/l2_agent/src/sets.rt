@@ -8,7 +8,7 @@ ghost use Rattle.plane_types.specs.TableRows.{names_remote, set_rows as set_rows
 ghost use Rattle.plane_types.specs.declared.table.FilterRow.{FilterRow as TheFilter};
 ghost use Rattle.l2_agent.specs.Among.{set_if, sets_among};
 
-use api_secgroup::members;
+use api_secgroup::Memberships;
 use api_types::{GroupRow, Id, Rows};
 use net_addr::{OutOfMemory, Prefix, Seq};
 use plane_types::{FilterRow, SetRow};
@@ -52,34 +52,39 @@ fn add_prefixes(sets: &mut Seq<SetRow>, group: Id, prefixes: &[Prefix]) -> Resul
 fn add_set(
     alloc: Global,
     sets: &mut Seq<SetRow>,
-    rows: &Rows,
+    ports: &Memberships,
     remote: &HashSet<Id>,
     group: &GroupRow,
 ) -> Result<(), OutOfMemory>
     ensures { OnOk result
         (sets.new
-        ≡ sets.old ++ set_if rows.now (contains ident_eq remote.now group.now.id) group.now) }
+        ≡ sets.old ++ set_if ports.now (contains ident_eq remote.now group.now.id) group.now) }
 {
     if !remote.contains(&group.id) {
         return Ok(());
     }
-    let prefixes = members(alloc, rows, group.id)?;
+    let prefixes = ports.members(alloc, group.id)?;
     add_prefixes(sets, group.id, prefixes.as_slice())
 }
 
 // The members of each group that is among these.
-fn sets_of(alloc: Global, rows: &Rows, remote: &HashSet<Id>) -> Result<Seq<SetRow>, OutOfMemory>
-    ensures { IfOk result (λ s. s ≡ sets_among rows.now remote.now) }
+fn sets_of(
+    alloc: Global,
+    ports: &Memberships,
+    remote: &HashSet<Id>,
+) -> Result<Seq<SetRow>, OutOfMemory>
+    ensures { IfOk result (λ s. s ≡ sets_among ports.now remote.now) }
 {
     let mut sets = Seq::new(alloc);
-    for group in rows.groups().rows() {
-        add_set(alloc, &mut sets, rows, remote, group)?;
+    for group in ports.rows().groups().rows() {
+        add_set(alloc, &mut sets, ports, remote, group)?;
     }
     Ok(sets)
 }
 
-/// The members of each group that a filter names. Its cost grows with the filters and the groups,
-/// and for each of these groups with the ports.
+/// The members of each group that a filter names. Its cost grows with the filters, the groups, the
+/// ports and the groups that these name, and with what the members of the named groups are made of
+/// and the logarithm of their number.
 #[tactic(auto, unfolding(plane_types::specs::TableRows::set_rows))]
 pub(crate) fn set_rows(
     alloc: Global,
@@ -89,6 +94,7 @@ pub(crate) fn set_rows(
     ensures { IfOk result (λ s. s ≡ set_rows_by rows.now filters.now) }
 {
     let remote = remote_groups(alloc, filters)?;
-    let sets = sets_of(alloc, rows, &remote)?;
+    let ports = Memberships::of(alloc, rows)?;
+    let sets = sets_of(alloc, &ports, &remote)?;
     Ok(sets)
 }

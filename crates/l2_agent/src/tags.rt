@@ -10,12 +10,11 @@ ghost use Rattle.plane_types.specs.Retagged.{in_turn as given_in_turn, kept_tags
 ghost use Rattle.l2_agent.specs.Among.{ids_among};
 ghost use Rattle.l2_agent.specs.Free.{free_from, is_left};
 
-use crate::tag_map::TagMap;
 use crate::wires::wire_of;
 use api_types::{Id, NetworkRow, PortRow, Rows};
 use net_addr::{OutOfMemory, Seq, Text};
 use plane_rows::is_here;
-use plane_types::{TagRow, Tags};
+use plane_types::{TagMap, TagRow, Tags};
 use std::alloc::Global;
 use std::collections::HashSet;
 

@@ -3,11 +3,10 @@ ghost use Rattle.net_addr.specs.Ordered.{whole_prefix};
 ghost use Rattle.api_types.specs.declared.port.Fixed.{Fixed as TheFixed};
 ghost use Rattle.plane_types.specs.TableRows.{allowed_of as allowed_by_rows, is_tap as is_tap_by_rows, tap_row as tap_row_of, tap_rows as tap_rows_of};
 
-use crate::tag_map::TagMap;
 use api_types::{Fixed, Pair, PortRow, Rows, is_router_port};
 use net_addr::{Mac, OutOfMemory, Seq, Text};
 use plane_rows::is_here;
-use plane_types::{TagRow, TapRow};
+use plane_types::{TagMap, TagRow, TapRow};
 use std::alloc::Global;
 
 /// Whether a port is live on the host and no router's.

@@ -34,9 +34,8 @@ pub struct L2Tables {
 /// A network keeps its tag while a live port of it is on the host, and the others take the least
 /// free ones, in order of creation. Where the old tags were different ones from 1 to 4,094 and the
 /// rows are consistent, each of these networks has a tag of its own. The cost grows with the
-/// networks, the ports, the groups, the rules, the floating addresses and the old tags; with the
-/// routers' ports here times the routers, and the groups that filters name times the ports; and
-/// with what is written and the logarithm of its length.
+/// networks, the ports and the groups that they name, the groups, the rules, the routers, the
+/// floating addresses and the old tags, and with what is written and the logarithm of its length.
 pub fn wire_ports(
     alloc: Global,
     rows: &Rows,

@@ -1,21 +1,13 @@
-ghost use Rattle.std.specs.Prelude.{◌≡◌, IfOk, option_copied};
+ghost use Rattle.std.specs.Prelude.{◌≡◌, IfOk};
 ghost use Rattle.api_types.specs.Holders.{router_named};
 ghost use Rattle.plane_types.specs.TableRows.{float_row_by, float_rows as float_rows_of, is_hosted as is_hosted_by_rows};
 
 use crate::routers::is_hosted;
-use api_types::{FloatingRow, Id, RouterRow, Rows};
+use api_types::{FloatingRow, Id, Rows};
 use net_addr::{OutOfMemory, Seq, Text};
+use plane_rows::named_router;
 use plane_types::FloatRow;
 use std::alloc::Global;
-
-// The router with this id.
-fn named_router(rows: &Rows, id: Id) -> Option<&RouterRow>
-    ensures { option_copied result ≡ router_named rows.now id }
-{
-    let routers = rows.routers();
-    let _own_ids = routers.rows();
-    routers.get(id)
-}
 
 // Whether the router with this id stands on the host.
 fn is_hosted_here(rows: &Rows, host: &Text, router: Id) -> bool

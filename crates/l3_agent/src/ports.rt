@@ -6,8 +6,8 @@ ghost use Rattle.plane_types.specs.TableRows.{prefixes_for as prefixes_by_rows, 
 
 use api_types::{PortRow, RouterRow, Rows, is_interface};
 use net_addr::{Addr, OutOfMemory, Prefixes, Seq};
-use plane_rows::{is_leg, named_subnet};
-use plane_types::{RouterPort, TagRow, tag_of};
+use plane_rows::{Legs, named_subnet};
+use plane_types::{RouterPort, TagMap};
 use std::alloc::Global;
 
 // The addresses of a port.
@@ -56,36 +56,50 @@ fn router_port(
 fn tagged(
     alloc: Global,
     rows: &Rows,
-    tags: &[TagRow],
+    tags: &TagMap,
     port: &PortRow,
 ) -> Result<Option<RouterPort>, OutOfMemory>
     ensures { IfOk result (λ o. o ≡ tagged_by rows.now tags.now port.now) }
 {
-    match tag_of(tags, port.network) {
+    match tags.tag_of(port.network) {
         Some(tag) => Ok(Some(router_port(alloc, rows, port, tag)?)),
         None => Ok(None),
     }
 }
 
-/// A row for each live port of a router on a network that has a tag. Its cost grows with the ports,
-/// and for each of the router's with the tags and its addresses.
-#[tactic(auto, unfolding(api_types::specs::RouterRows::legs_of))]
-pub(crate) fn router_ports(
+// A row for each of these ports whose network has a tag.
+fn rows_of_ports(
     alloc: Global,
     rows: &Rows,
-    tags: &[TagRow],
-    router: &RouterRow,
+    tags: &TagMap,
+    legs: &[&PortRow],
 ) -> Result<Seq<RouterPort>, OutOfMemory>
     ensures { IfOk result
-        (λ p. p ≡ filter_map (tagged_by rows.now tags.now) (legs_of rows.now router.now)) }
+        (λ p. p ≡ filter_map (tagged_by rows.now tags.now) (map (λ p. p.now) legs.now)) }
 {
     let mut ports = Seq::new(alloc);
-    for port in rows.ports().rows() {
-        if is_leg(rows, router, port) {
-            if let Some(row) = tagged(alloc, rows, tags, port)? {
-                ports.push(row)?;
-            }
+    for port in legs {
+        if let Some(row) = tagged(alloc, rows, tags, port)? {
+            ports.push(row)?;
         }
     }
     Ok(ports)
+}
+
+/// A row for each live port of a router on a network that has a tag. Its cost grows with the
+/// router's ports and their addresses.
+pub(crate) fn router_ports(
+    alloc: Global,
+    legs: &Legs,
+    tags: &TagMap,
+    router: &RouterRow,
+) -> Result<Seq<RouterPort>, OutOfMemory>
+    ensures { IfOk result
+        (λ p. p ≡ filter_map (tagged_by legs.now tags.now) (legs_of legs.now router.now)) }
+{
+    let name = router.id.print(alloc)?;
+    match legs.named(name.as_str()) {
+        Some(ports) => rows_of_ports(alloc, legs.rows(), tags, ports.as_slice()),
+        None => Ok(Seq::new(alloc)),
+    }
 }

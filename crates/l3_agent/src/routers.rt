@@ -3,10 +3,10 @@ ghost use Rattle.api_types.specs.RouterRows.{has_snat as snat_of};
 ghost use Rattle.plane_types.specs.TableRows.{hosted, router_row as router_row_of, router_rows as router_rows_of};
 
 use crate::ports::router_ports;
-use api_types::{Gateway, RouterRow, Rows};
+use api_types::{Gateway, RouterRow};
 use net_addr::{OutOfMemory, Seq, Text};
-use plane_rows::gateway_address;
-use plane_types::{RouterTable, TagRow};
+use plane_rows::{Legs, gateway_address};
+use plane_types::{RouterTable, TagMap};
 use std::alloc::Global;
 
 /// Whether a router stands on the host.
@@ -30,36 +30,36 @@ fn has_snat(gateway: Option<Gateway>) -> bool
 
 fn router_row(
     alloc: Global,
-    rows: &Rows,
-    tags: &[TagRow],
+    legs: &Legs,
+    tags: &TagMap,
     router: &RouterRow,
 ) -> Result<RouterTable, OutOfMemory>
-    ensures { IfOk result (λ t. t ≡ router_row_of rows.now tags.now router.now) }
+    ensures { IfOk result (λ t. t ≡ router_row_of legs.now tags.now router.now) }
 {
     Ok(RouterTable {
         router: router.id,
         up: router.up,
         snat: has_snat(router.gateway),
-        gateway: gateway_address(rows, router),
-        ports: router_ports(alloc, rows, tags, router)?,
+        gateway: gateway_address(legs.rows(), router),
+        ports: router_ports(alloc, legs, tags, router)?,
     })
 }
 
 /// A row for each router of the host. Its cost grows with the routers, and for each of the host's
-/// with the ports and the tags.
+/// with its ports and their addresses.
 #[tactic(auto, unfolding(plane_types::specs::TableRows::router_rows))]
 pub(crate) fn router_rows(
     alloc: Global,
-    rows: &Rows,
+    legs: &Legs,
     host: &Text,
-    tags: &[TagRow],
+    tags: &TagMap,
 ) -> Result<Seq<RouterTable>, OutOfMemory>
-    ensures { IfOk result (λ r. r ≡ router_rows_of rows.now host.now tags.now) }
+    ensures { IfOk result (λ r. r ≡ router_rows_of legs.now host.now tags.now) }
 {
     let mut routers = Seq::new(alloc);
-    for router in rows.routers().rows() {
+    for router in legs.rows().routers().rows() {
         if is_hosted(host, router) {
-            routers.push(router_row(alloc, rows, tags, router)?)?;
+            routers.push(router_row(alloc, legs, tags, router)?)?;
         }
     }
     Ok(routers)

@@ -6,7 +6,8 @@ use crate::routers::router_rows;
 use crate::routes::route_rows;
 use api_types::Rows;
 use net_addr::{OutOfMemory, Seq, Text};
-use plane_types::{FloatRow, RouteRow, RouterTable, Tags};
+use plane_rows::Legs;
+use plane_types::{FloatRow, RouteRow, RouterTable, TagMap, Tags};
 use std::alloc::Global;
 
 /// The tables of a host by which its routers carry packets.
@@ -25,10 +26,8 @@ pub struct L3Tables {
 /// come its extra ones, then while its gateway port is live the default ones, for the addresses of
 /// that port in ascending order; its floating addresses are the associated ones (`routers` and
 /// `floatingips` of the Networking API). Rows are in the order of creation of what they come from.
-/// The cost grows with the floating addresses and the routers; for each router of the host with the
-/// ports, and for each of its live ports with the tags and the port's addresses; and with what
-/// `plane_rows::ways_of` costs for it, which grows with its addresses and extra routes times the
-/// ports.
+/// The cost grows with the ports, the tags, the floating addresses and the routers, and for each
+/// router of the host with what `plane_rows::ways_by` costs for its live ports.
 pub fn wire_routers(
     alloc: Global,
     rows: &Rows,
@@ -39,8 +38,10 @@ pub fn wire_routers(
     ensures routes { IfOk result (λ t. t.routes ≡ route_rows_of rows.now host.now) }
     ensures floats { IfOk result (λ t. t.floats ≡ float_rows_of rows.now host.now) }
 {
-    let routers = router_rows(alloc, rows, host, tags.as_slice())?;
-    let routes = route_rows(alloc, rows, host)?;
+    let legs = Legs::of(alloc, rows)?;
+    let tags = TagMap::of(alloc, tags.as_slice())?;
+    let routers = router_rows(alloc, &legs, host, &tags)?;
+    let routes = route_rows(alloc, &legs, host)?;
     let floats = float_rows(alloc, rows, host)?;
     Ok(L3Tables {
         routers,

@@ -36,7 +36,7 @@ use Rattle.plane_types.specs.declared.ask.HostState.{HostState}
 use Rattle.plane_types.specs.declared.ask.Reply.TheVariants.{LabDone}
 use Rattle.plane_types.specs.declared.event.Event.{Event}
 use Rattle.plane_types.specs.declared.entry.Entry.{Entry}
-use Rattle.plane_types.specs.declared.tables.HostTables.{HostTables}
+use Rattle.plane_types.specs.declared.lists.TableLists.{TableLists}
 use Rattle.plane_types.specs.declared.verdict.Made.{Made}
 use Rattle.plane_types.specs.declared.verdict.Verdict.{Verdict}
 use Rattle.plane_laws.specs.Bounds.{HasEightBits}
@@ -367,13 +367,13 @@ explained_told w caller event entries verdict none is all =
     ap (λ o. unless_barred o (Answered (Seen (rows_verdict w.state.rows (all_entries w.hosts) event)) w.hosts)) none
     ∙ ap (λ es. Answered (Seen (rows_verdict w.state.rows es event)) w.hosts) (sym all) ∙ ap (λ v. Answered (Seen v) w.hosts) (sym is)
 
-pub tables_found : (name : List ℕ) (nodes : List Node) (t : HostTables) → Some t ≡ option_map (λ (n : Node). n.tables) (find (λ (n : Node). is_named name (host_of n)) nodes)
+pub tables_found : (name : List ℕ) (nodes : List Node) (t : TableLists) → Some t ≡ option_map (λ (n : Node). n.tables) (find (λ (n : Node). is_named name (host_of n)) nodes)
     → tables_told name (map host_of nodes) (find (is_named name) (map host_of nodes)) ≡ Answered (Tables t) (map host_of nodes)
 tables_found name nodes t h = ap (tables_told name (map host_of nodes)) (found_host name nodes) ∙ by (find (λ (n : Node). is_named name (host_of n)) nodes) h
   where
     by : (o : Option Node) → Some t ≡ option_map (λ (n : Node). n.tables) o → tables_told name (map host_of nodes) (option_map host_of o) ≡ Answered (Tables t) (map host_of nodes)
     by None g = absurd cc
-    by (Some n) g = ap (λ (x : HostTables). Answered (Tables x) (map host_of nodes)) (sym (some_equal t n.tables g))
+    by (Some n) g = ap (λ (x : TableLists). Answered (Tables x) (map host_of nodes)) (sym (some_equal t n.tables g))
 
 pub tables_unfound : (name : List ℕ) (nodes : List Node) → None ≡ option_map (λ (n : Node). n.tables) (find (λ (n : Node). is_named name (host_of n)) nodes)
     → tables_told name (map host_of nodes) (find (is_named name) (map host_of nodes)) ≡ Barred (NoHost name)

@@ -13,7 +13,7 @@ use Rattle.plane_types.specs.Hosts.{Host}
 use Rattle.plane_types.specs.Placed.{IsPlaced, is_placed, meets, translates}
 use Rattle.plane_types.specs.Told.{kept, kept_from, made_at}
 use Rattle.plane_types.specs.declared.entry.Entry.{Entry}
-use Rattle.plane_types.specs.declared.tables.HostTables.{HostTables}
+use Rattle.plane_types.specs.declared.lists.TableLists.{TableLists}
 use Rattle.plane_types.specs.declared.verdict.Made.{Made}
 use Rattle.plane_types.specs.Node.{Node, Ready, host_of, host_with, with_entries}
 use Rattle.lab_world.specs.Steps.{AreFor, held_by, made_for}
@@ -28,7 +28,7 @@ in_front [] more k e at = none_some e _ at
 in_front (x ∷ es) more zero e at = at
 in_front (x ∷ es) more (suc k) e at = in_front es more k e at
 
-front_placed : (name : List ℕ) (t : HostTables) (es more : List Entry) → IsPlaced (record { name = name; tables = t; entries = es ++ more }) → IsPlaced (record { name = name; tables = t; entries = es })
+front_placed : (name : List ℕ) (t : TableLists) (es more : List Entry) → IsPlaced (record { name = name; tables = t; entries = es ++ more }) → IsPlaced (record { name = name; tables = t; entries = es })
 front_placed name t es more h = record {
   stand = λ k e at. h.stand k e (in_front es more k e at);
   once_outside = λ router kind outer port far far_port. fewer (meets router kind outer port far far_port) es more (h.once_outside router kind outer port far far_port);

@@ -5,6 +5,7 @@ ghost use Rattle.plane_types.specs.Hosts.{is_named};
 ghost use Rattle.plane_types.specs.Placed.{IsPlaced};
 ghost use Rattle.plane_types.specs.Told.{kept};
 ghost use Rattle.plane_types.specs.Node.{Node, host_of, started, with_entries};
+ghost use Rattle.plane_types.specs.Tables.{Tables};
 ghost use Rattle.lab_world.specs.Steps.{AreFor, ArePut, IsKeptAt, Stepwise, ready_for};
 
 use crate::each::{add_entries, keep_all, put_all, reserve_all};
@@ -135,7 +136,7 @@ impl Hosts {
 
     /// The tables of the host with this name, which are those that its rows give to it.
     pub fn tables_of(&self, name: &Text) -> Option<&HostTables>
-        ensures { option_copied result
+        ensures { option_map (λ (t : Tables). t.lists) (option_copied result)
             ≡ option_map (λ (n : Node). n.tables)
             (find (λ (n : Node). is_named name.now (host_of n)) self.now) }
     {

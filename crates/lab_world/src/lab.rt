@@ -85,7 +85,7 @@ pub(crate) fn tables_of(alloc: Global, hosts: &Hosts, name: &Text) -> Result<Lab
         (find (is_named name.now) (map host_of hosts.now)))) }
 {
     match hosts.tables_of(name) {
-        Some(tables) => Ok(LabAnswer::Tables(tables.copy(alloc)?)),
+        Some(tables) => Ok(LabAnswer::Tables(tables.lists(alloc)?)),
         None => Err(Refusal::NoHost {
             name: name.copy(alloc)?,
         }),

@@ -229,8 +229,8 @@ fn routed_to<'r>(
     routed_on(alloc, rows, router, uses, port, &lowered)
 }
 
-/// What a router does with a packet that came by a port of it. Its cost grows with the entries, and
-/// with the router's addresses and routes times the ports.
+/// What a router does with a packet that came by a port of it. Its cost grows with the entries and
+/// the ports, and with what `plane_rows::ways_by` costs for the router's.
 #[tactic(auto, unfolding(plane_types::specs::Routing::routed, api_types::specs::RouterRows::router_view))]
 pub(crate) fn route<'r>(
     alloc: Global,

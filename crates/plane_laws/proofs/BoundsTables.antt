@@ -35,7 +35,7 @@ use Rattle.plane_types.specs.declared.table.RouterTable.{RouterTable}
 use Rattle.plane_types.specs.declared.table.TagRow.{TagRow}
 use Rattle.plane_types.specs.declared.table.TapRow.{TapRow}
 use Rattle.api_types.specs.declared.wire.Wire.{Wire}
-use Rattle.plane_types.specs.declared.tables.HostTables.{HostTables}
+use Rattle.plane_types.specs.declared.lists.TableLists.{TableLists}
 use Rattle.plane_types.specs.declared.verdict.DropCause.{DropCause}
 use Rattle.plane_types.specs.declared.verdict.DropCause.TheVariants.{Egress as EgressFilter, Ingress as IngressFilter, NoHolder, NoLease, Spoof, Unknown, Unsupported}
 use Rattle.plane_types.specs.declared.verdict.Outcome.{Outcome}
@@ -95,7 +95,7 @@ Carries f (End o way) = ⊤
 Carries f (ToTunnel name number g) = (ids_of g ≤ ids_of f) × (entries_of g ≤ entries_of f)
 Carries f (ToWire w n toward g) = (ids_of g ≤ ids_of f) × (entries_of g ≤ entries_of f)
 
-module _ (t : HostTables) (inner : Bool) where
+module _ (t : TableLists) (inner : Bool) where
   wire-carries : (n : Ident) (w : Option Wire) (toward : Toward) (f : Frame) (c : DropCause) → Carries f (wire_or inner n w toward f c)
   wire-carries n w toward f c = go inner w
     where
@@ -131,7 +131,7 @@ module _ (t : HostTables) (inner : Bool) where
   bridge-carries (Dhcp src from) (Some row) = bridged-carries row TowardDhcp (Dhcp src from) NoLease (bridge_at t row.tag AtDhcp)
   bridge-carries (Other src dst ethertype) (Some row) = wire-carries row.network row.wire (TowardMac dst) (Other src dst ethertype) Unknown
 
-inward-carries : (t : HostTables) (f : Frame) (o : Option InwardRow) → Carries f (inward_step t f o)
+inward-carries : (t : TableLists) (f : Frame) (o : Option InwardRow) → Carries f (inward_step t f o)
 inward-carries t f None = tt
 inward-carries t f (Some r) = bridge-carries t true f (tag_row t r.tag)
 

@@ -26,7 +26,7 @@ use Rattle.plane_types.specs.declared.entry.Entry.{Entry}
 use Rattle.plane_types.specs.declared.entry.Entry.TheVariants.{Flow, Snat}
 use Rattle.plane_types.specs.declared.table.Carrier.{Carrier}
 use Rattle.plane_types.specs.declared.table.TagRow.{TagRow}
-use Rattle.plane_types.specs.declared.tables.HostTables.{HostTables}
+use Rattle.plane_types.specs.declared.lists.TableLists.{TableLists}
 
 -- at most one element passes the test
 abbrev pub AtMostOne : {X : Type 0} → (X → Bool) → List X → Type 0
@@ -47,7 +47,7 @@ pub record TagFacts (rows : RowLists) (host : List ℕ) (tags : List TagRow) : T
   pub stand : AllOf (TagFact rows) tags
   pub differ : (tag : ℕ) → AtMostOne (λ (t : TagRow). t.tag == tag) tags
 
-pub record HostFacts (rows : RowLists) (host : List ℕ) (t : HostTables) : Type 0 where
+pub record HostFacts (rows : RowLists) (host : List ℕ) (t : TableLists) : Type 0 where
   pub tags : TagFacts rows host t.tags
   pub taps : t.taps ≡ tap_rows rows host t.tags
   pub filters : t.filters ≡ filter_rows rows host

@@ -34,7 +34,7 @@ use Rattle.plane_types.specs.TableStep.{in_set, row_fits, tables_allow}
 use Rattle.plane_types.specs.declared.frame.Key.{Key}
 use Rattle.plane_types.specs.declared.table.FilterRow.{FilterRow}
 use Rattle.plane_types.specs.declared.table.SetRow.{SetRow}
-use Rattle.plane_types.specs.declared.tables.HostTables.{HostTables}
+use Rattle.plane_types.specs.declared.lists.TableLists.{TableLists}
 use Rattle.plane_laws.proofs.Facts.{AllOf, FrameFacts, HostFacts, RemoteStands, has_id}
 
 -- words on tests
@@ -157,7 +157,7 @@ module _ (rows : RowLists) (x : Addr) where
       ∙ list_any-flat_map (λ (y : Prefix). contains y x) (prefixes_of g) rows.ports
       ∙ list_any-same (λ p. list_any (λ (y : Prefix). contains y x) (prefixes_of g p)) (gives_member g x) rows.ports (member-port g)
 
-  set-located : (t : HostTables) (g : Ident) → t.sets ≡ set_rows rows t.filters → list_any (λ (r : FilterRow). names_remote g r.remote_group) t.filters ≡ true → list_any (λ (z : GroupRow). ident_eq g z.id) rows.groups ≡ true → in_set t g x ≡ is_member rows g x
+  set-located : (t : TableLists) (g : Ident) → t.sets ≡ set_rows rows t.filters → list_any (λ (r : FilterRow). names_remote g r.remote_group) t.filters ≡ true → list_any (λ (z : GroupRow). ident_eq g z.id) rows.groups ≡ true → in_set t g x ≡ is_member rows g x
   unfolding set_rows
   set-located t g real named there =
       ap (list_any (λ (s : SetRow). ident_eq g s.group && contains s.prefix x)) real
@@ -228,7 +228,7 @@ module _ (rows : RowLists) (good : FrameFacts rows) (host : List ℕ) (T : Filte
           ∙ list_any-same (λ g. list_any T (filters_of_group rows p g)) (λ (g : GroupRow). names_group g.id p.groups && list_any (λ r. ident_eq r.group g.id && T (filter_of p r)) rows.rules) rows.groups of-group
           ∙ swapped rows.rules good.groups_stand
 
-module _ (rows : RowLists) (good : FrameFacts rows) (host : List ℕ) (t : HostTables) (real : HostFacts rows host t) (test : PortRow → Bool) (p : PortRow) (found : find test rows.ports ≡ Some p) (tap : is_tap rows host p ≡ true) (secured : p.secured ≡ true) where
+module _ (rows : RowLists) (good : FrameFacts rows) (host : List ℕ) (t : TableLists) (real : HostFacts rows host t) (test : PortRow → Bool) (p : PortRow) (found : find test rows.ports ≡ Some p) (tap : is_tap rows host p ≡ true) (secured : p.secured ≡ true) where
   by_id : find (has_id p.id) rows.ports ≡ Some p
   by_id = find-only test (has_id p.id) rows.ports p (good.port_ids p.id) found (ident_itself p.id)
 

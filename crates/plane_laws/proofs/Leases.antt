@@ -40,7 +40,7 @@ use Rattle.plane_types.specs.declared.table.Carrier.{Carrier}
 use Rattle.plane_types.specs.declared.table.Carrier.TheVariants.{Tunnel as ByTunnel, Wire as ByWire}
 use Rattle.plane_types.specs.declared.table.LeaseRow.{LeaseRow}
 use Rattle.api_types.specs.declared.wire.Wire.{Wire}
-use Rattle.plane_types.specs.declared.tables.HostTables.{HostTables}
+use Rattle.plane_types.specs.declared.lists.TableLists.{TableLists}
 use Rattle.plane_types.specs.declared.verdict.AskAnswer.TheVariants.{Lease as LeaseAnswer}
 use Rattle.plane_types.specs.declared.verdict.DropCause.TheVariants.{NoLease}
 use Rattle.api_types.specs.declared.lease.Lease.{Lease}
@@ -48,7 +48,7 @@ use Rattle.plane_types.specs.declared.verdict.Outcome.TheVariants.{Answered, Dro
 use Rattle.plane_types.specs.declared.verdict.Toward.TheVariants.{Dhcp as TowardDhcp}
 use Rattle.plane_laws.proofs.Facts.{AllOf, FrameFacts, HostFacts, SyncedFacts}
 
-module _ (rows : RowLists) (host : List ℕ) (t : HostTables) (real : HostFacts rows host t) (good : FrameFacts rows) (n : Ident) (tag : ℕ) (tagged_by : tag_of t.tags n ≡ Some tag) where
+module _ (rows : RowLists) (host : List ℕ) (t : TableLists) (real : HostFacts rows host t) (good : FrameFacts rows) (n : Ident) (tag : ℕ) (tagged_by : tag_of t.tags n ≡ Some tag) where
   dhcp_hit : (q : PortRow) (row : BridgeRow) → dhcp_row rows host t.tags q ≡ Some row → ((row.tag == tag) && bridge_key_eq row.key AtDhcp) ≡ is_live_dhcp_of rows n q
   dhcp_hit q row h = go (is_dhcp q.owner) (is_live rows q) (end_of rows host q) (tag_of t.tags q.network) refl refl refl h
     where

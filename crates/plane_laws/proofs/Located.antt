@@ -25,7 +25,7 @@ use Rattle.plane_types.specs.declared.table.BridgeKey.TheVariants.{Dhcp as AtDhc
 use Rattle.plane_types.specs.declared.table.BridgeRow.{BridgeRow}
 use Rattle.plane_types.specs.declared.table.BridgeTo.{BridgeTo}
 use Rattle.plane_types.specs.declared.table.TagRow.{TagRow}
-use Rattle.plane_types.specs.declared.tables.HostTables.{HostTables}
+use Rattle.plane_types.specs.declared.lists.TableLists.{TableLists}
 use Rattle.plane_laws.proofs.Facts.{FrameFacts, HostFacts, TagFact, TagFacts}
 
 pub and_true : (b : Bool) → (b && true) ≡ b
@@ -84,7 +84,7 @@ bridge_apart tag key x y before here = false_from_ne_true ((y.tag == tag) && bri
     (eqb-true y.tag tag q.0 ∙ sym (eqb-true x.tag tag p.0))
     (key_places y.key key q.1 ∙ sym (key_places x.key key p.1)))
 
-module _ (rows : RowLists) (host : List ℕ) (t : HostTables) (real : HostFacts rows host t) (good : FrameFacts rows) (n : Ident) (tag : ℕ) (tagged : tag_of t.tags n ≡ Some tag) where
+module _ (rows : RowLists) (host : List ℕ) (t : TableLists) (real : HostFacts rows host t) (good : FrameFacts rows) (n : Ident) (tag : ℕ) (tagged : tag_of t.tags n ≡ Some tag) where
   mac_hit : (mac : ℕ) (q : PortRow) (row : BridgeRow) → mac_row rows host t.tags q ≡ Some row → ((row.tag == tag) && bridge_key_eq row.key (AtMac mac)) ≡ has_mac rows n mac q
   mac_hit mac q row h = go (is_live rows q) (end_of rows host q) (tag_of t.tags q.network) refl refl h
     where

@@ -31,7 +31,7 @@ use Rattle.plane_types.specs.declared.frame.Key.{Key}
 use Rattle.plane_types.specs.declared.table.RouterPort.{RouterPort}
 use Rattle.plane_types.specs.declared.table.RouterTable.{RouterTable}
 use Rattle.plane_types.specs.declared.table.TapRow.{TapRow}
-use Rattle.plane_types.specs.declared.tables.HostTables.{HostTables}
+use Rattle.plane_types.specs.declared.lists.TableLists.{TableLists}
 use Rattle.plane_types.specs.declared.verdict.DropCause.TheVariants.{Egress as EgressFilter, Expired, Ingress as IngressFilter, RouterDown, Spoof, Unsupported}
 use Rattle.plane_types.specs.declared.verdict.Outcome.TheVariants.{Absorbed, Delivered, Dropped}
 
@@ -149,7 +149,7 @@ abbrev pub IsApart : List Entry → Entry → Type 0
 IsApart entries (Flow p d k) = ⊤
 IsApart entries (Snat r k o p) = (list_any (meets r k.kind o p (destination k.ends) k.dport) entries ≡ false) × (list_any (translates r k o) entries ≡ false)
 
-abbrev pub Admits : HostTables → List Entry → List Entry → Type 0
+abbrev pub Admits : TableLists → List Entry → List Entry → Type 0
 Admits t entries [] = ⊤
 Admits t entries (e ∷ []) = (is_placed t e ≡ true) × IsApart entries e
 Admits t entries (e ∷ f ∷ es) = ⊥
@@ -157,7 +157,7 @@ Admits t entries (e ∷ f ∷ es) = ⊥
 unused : (uses : List Use) (k : Key) → find (λ (u : Use). key_eq u.key k) uses ≡ None → list_any (λ (u : Use). key_eq u.key k) uses ≡ false
 unused uses k h = sym (find-some (λ (u : Use). key_eq u.key k) uses) ∙ ap is_some h
 
-gives-admits : (t : HostTables) (v : RouterView) (entries made : List Entry) → list_any (λ (r : RouterTable). ident_eq v.id r.router) t.routers ≡ true → Gives v (uses_by v.snat v.gateway v.id entries) made → Admits t entries made
+gives-admits : (t : TableLists) (v : RouterView) (entries made : List Entry) → list_any (λ (r : RouterTable). ident_eq v.id r.router) t.routers ≡ true → Gives v (uses_by v.snat v.gateway v.id entries) made → Admits t entries made
 gives-admits t v entries [] there g = tt
 gives-admits t v entries (Flow p d k ∷ es) there g = absurd g
 gives-admits t v entries (Snat r k o p ∷ e ∷ es) there g = absurd g
@@ -176,7 +176,7 @@ of_passage y = y.made
 abbrev pub of_step : Stepped → List Entry
 of_step s = s.made
 
-module _ (t : HostTables) (entries : List Entry) where
+module _ (t : TableLists) (entries : List Entry) where
   passage-admits : (secured : Bool) (allows : Direction → Key → Bool) (port : Ident) (d : Direction) (k : Key) → list_any (λ (r : TapRow). ident_eq port r.port) t.taps ≡ true → Admits t entries (passage secured allows entries port d k).made
   passage-admits secured allows port d k there = go secured (allows d k)
     where
@@ -259,7 +259,7 @@ gives-one v uses (Flow p d k ∷ es) g = absurd g
 gives-one v uses (Snat r k o p ∷ e ∷ es) g = absurd g
 gives-one v uses (Snat r k o p ∷ []) g = omega arith
 
-pub admits-one : (t : HostTables) (entries made : List Entry) → Admits t entries made → length made ≤ 1
+pub admits-one : (t : TableLists) (entries made : List Entry) → Admits t entries made → length made ≤ 1
 admits-one t entries [] a = omega arith
 admits-one t entries (e ∷ []) a = omega arith
 admits-one t entries (e ∷ f ∷ es) a = absurd a

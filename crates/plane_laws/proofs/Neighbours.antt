@@ -31,7 +31,7 @@ use Rattle.api_types.specs.Live.{is_joined, is_live, joined_with, network_of, ne
 use Rattle.plane_types.specs.TableRows.{floating_neighbour, floating_neighbour_by, neighbour_rows, neighbours_by, neighbours_of, tag_of}
 use Rattle.plane_types.specs.TableStep.{neighbour_at}
 use Rattle.plane_types.specs.declared.table.NeighbourRow.{NeighbourRow}
-use Rattle.plane_types.specs.declared.tables.HostTables.{HostTables}
+use Rattle.plane_types.specs.declared.lists.TableLists.{TableLists}
 use Rattle.plane_laws.proofs.Facts.{AtMostOne, FrameFacts, HostFacts, OwnPortStands, own_port_stands}
 
 abbrev pub row_at : ℕ → Addr → PortRow → NeighbourRow
@@ -102,7 +102,7 @@ held-apart rows good n x q found = go (find (floats_at n x) rows.floatings) refl
     go None e = refl
     go (Some f) e = by f (find-passes (floats_at n x) rows.floatings f e) (row_of (λ (p : PortRow). p.id) f.own_port rows.ports) refl (find-each (OwnPortStands rows) (floats_at n x) rows.floatings f good.own_ports e)
 
-module _ (rows : RowLists) (host : List ℕ) (t : HostTables) (real : HostFacts rows host t) (good : FrameFacts rows) (n : Ident) (tag : ℕ) (tagged : tag_of t.tags n ≡ Some tag) (x : Addr) where
+module _ (rows : RowLists) (host : List ℕ) (t : TableLists) (real : HostFacts rows host t) (good : FrameFacts rows) (n : Ident) (tag : ℕ) (tagged : tag_of t.tags n ≡ Some tag) (x : Addr) where
   of-port : (q : PortRow) → find (at_key tag x) (neighbours_of rows host t.tags q) ≡ cond (holds_live rows n x q) (option_map (row_at tag x) (joined_with rows host (Some q))) None
   of-port q = go (is_live rows q) (is_joined rows q host) (tag_of t.tags q.network) (ident_eq n q.network) refl refl
     where

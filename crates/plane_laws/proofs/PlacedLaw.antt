@@ -33,7 +33,7 @@ use Rattle.plane_types.specs.declared.frame.Key.{Key}
 use Rattle.plane_types.specs.declared.frame.KeyKind.{KeyKind}
 use Rattle.plane_types.specs.declared.table.Carrier.TheVariants.{Wire as ByWire}
 use Rattle.api_types.specs.declared.wire.Wire.{Wire}
-use Rattle.plane_types.specs.declared.tables.HostTables.{HostTables}
+use Rattle.plane_types.specs.declared.lists.TableLists.{TableLists}
 use Rattle.plane_types.specs.declared.verdict.DropCause.TheVariants.{Unsupported}
 use Rattle.plane_types.specs.declared.verdict.Outcome.TheVariants.{Dropped}
 use Rattle.plane_types.specs.declared.verdict.Toward.{Toward}
@@ -105,7 +105,7 @@ translates-like router key outer r k o p h (Snat s q x y) =
     λ j. ident_eq (er j) s && (eo j == x) && ((kind_place q.kind == sym ek j) && addr_eq (source q.ends) (sym ef j) && (q.sport == sym es j) && addr_eq (destination q.ends) (sym et j) && (q.dport == sym ed j))
 
 -- one more entry that is placed and apart
-pub placed-push : (name : List ℕ) (t : HostTables) (es : List Entry) (e : Entry) → IsPlaced (record { name = name; tables = t; entries = es }) → is_placed t e ≡ true → IsApart es e → IsPlaced (record { name = name; tables = t; entries = es ++ e ∷ [] })
+pub placed-push : (name : List ℕ) (t : TableLists) (es : List Entry) (e : Entry) → IsPlaced (record { name = name; tables = t; entries = es }) → is_placed t e ≡ true → IsApart es e → IsPlaced (record { name = name; tables = t; entries = es ++ e ∷ [] })
 placed-push name t es (Flow q d k) old stood apart = record {
   stand = each-push (λ e. is_placed t e ≡ true) es (Flow q d k) old.stand stood;
   once_outside = λ r k o p f g. once-push (meets r k o p f g) es (Flow q d _) (old.once_outside r k o p f g) (λ h. cc);

@@ -26,7 +26,7 @@ use Rattle.plane_types.specs.declared.table.RouteRow.{RouteRow}
 use Rattle.plane_types.specs.declared.table.RouterPort.{RouterPort}
 use Rattle.plane_types.specs.declared.table.RouterTable.{RouterTable}
 use Rattle.plane_types.specs.declared.table.TagRow.{TagRow}
-use Rattle.plane_types.specs.declared.tables.HostTables.{HostTables}
+use Rattle.plane_types.specs.declared.lists.TableLists.{TableLists}
 use Rattle.plane_laws.proofs.Facts.{AllOf, FrameFacts, HostFacts, RouterPortStands, has_id}
 
 ways_one : (i j : Ident) (b : Bool) → ident_eq i j ≡ b → (ws : List Way) → ways_at i (map (route_row j) ws) ≡ (if b then ws else [])
@@ -43,7 +43,7 @@ legs_same rows tags (p ∷ ps) h = go (tag_of tags p.network) h.0 (legs_same row
     go None k rest = cc
     go (Some tag) k rest = ap (λ ls. leg_of p ∷ ls) rest
 
-module _ (rows : RowLists) (host : List ℕ) (t : HostTables) (real : HostFacts rows host t) (good : FrameFacts rows) (test : RouterRow → Bool) (r : RouterRow) (found : find test rows.routers ≡ Some r) (here : hosted host r ≡ true) where
+module _ (rows : RowLists) (host : List ℕ) (t : TableLists) (real : HostFacts rows host t) (good : FrameFacts rows) (test : RouterRow → Bool) (r : RouterRow) (found : find test rows.routers ≡ Some r) (here : hosted host r ≡ true) where
   by-id : find (λ (z : RouterRow). ident_eq r.id z.id) rows.routers ≡ Some r
   by-id = find-only test (λ (z : RouterRow). ident_eq r.id z.id) rows.routers r (good.router_ids r.id) found (ident_itself r.id)
 

@@ -27,7 +27,7 @@ use Rattle.plane_types.specs.declared.table.BridgeKey.TheVariants.{Mac as AtMac}
 use Rattle.plane_types.specs.declared.table.BridgeTo.{BridgeTo}
 use Rattle.plane_types.specs.declared.table.BridgeTo.TheVariants.{Tunnel as ToHost, Router as ToRouter, Tap as ToTap}
 use Rattle.plane_types.specs.declared.table.Carrier.{Carrier}
-use Rattle.plane_types.specs.declared.tables.HostTables.{HostTables}
+use Rattle.plane_types.specs.declared.lists.TableLists.{TableLists}
 use Rattle.plane_types.specs.declared.verdict.DropCause.TheVariants.{Unknown}
 use Rattle.plane_types.specs.declared.verdict.Toward.TheVariants.{Mac as TowardMac}
 use Rattle.plane_laws.proofs.Facts.{FrameFacts, HostFacts, RouterPortStands}
@@ -68,7 +68,7 @@ end-here rows good test q found live = go (is_router_port q.owner) refl
     go false e = (ToTap q.id, refl)
 
 -- at a host with the port, its network's bridge leads to it
-module _ (rows : RowLists) (good : FrameFacts rows) (host : List ℕ) (t : HostTables) (real : HostFacts rows host t) (n : Ident) (tag : ℕ) (is_tagged : tag_of t.tags n ≡ Some tag) (p : Packet) (q : PortRow) (found : port_at rows n p.dst ≡ Some q) where
+module _ (rows : RowLists) (good : FrameFacts rows) (host : List ℕ) (t : TableLists) (real : HostFacts rows host t) (n : Ident) (tag : ℕ) (is_tagged : tag_of t.tags n ≡ Some tag) (p : Packet) (q : PortRow) (found : port_at rows n p.dst ≡ Some q) where
   hit : has_mac rows n p.dst q ≡ true
   hit = find-passes (has_mac rows n p.dst) rows.ports q found
 
@@ -117,7 +117,7 @@ led-here rows q (ToHost h m) e inner tag p = absurd (go (is_router_port q.owner)
     go false o e = cc
 
 -- by its carrier a host with the port leads to it
-pub inner-step : (rows : RowLists) → FrameFacts rows → (host : List ℕ) (t : HostTables) → HostFacts rows host t → (n : Ident) (p : Packet) (q : PortRow) → port_at rows n p.dst ≡ Some q → is_at host q ≡ true → (c : Carrier) → carrier_of (segment rows n) ≡ Some c → carrier_eq c c ≡ true → (to : BridgeTo) → to_here rows q ≡ Some to → inward_step t (ip_frame p) (inward_at t c) ≡ Next (place_of to p)
+pub inner-step : (rows : RowLists) → FrameFacts rows → (host : List ℕ) (t : TableLists) → HostFacts rows host t → (n : Ident) (p : Packet) (q : PortRow) → port_at rows n p.dst ≡ Some q → is_at host q ≡ true → (c : Carrier) → carrier_of (segment rows n) ≡ Some c → carrier_eq c c ≡ true → (to : BridgeTo) → to_here rows q ≡ Some to → inward_step t (ip_frame p) (inward_at t c) ≡ Next (place_of to p)
 inner-step rows good host t real n p q found here c segment_is self to e =
     let live = live-found-of in
     let tag = tagged rows host t real good (has_mac rows n p.dst) q found (and_from (is_live rows q) (is_at host q) live here) in

@@ -26,10 +26,10 @@ use Rattle.plane_types.specs.declared.entry.Entry.TheVariants.{Flow, Snat}
 use Rattle.plane_types.specs.declared.table.RouterTable.{RouterTable}
 use Rattle.plane_types.specs.declared.table.TagRow.{TagRow}
 use Rattle.plane_types.specs.declared.table.TapRow.{TapRow}
-use Rattle.plane_types.specs.declared.tables.HostTables.{HostTables}
+use Rattle.plane_types.specs.declared.lists.TableLists.{TableLists}
 use Rattle.plane_laws.proofs.Facts.{EntriesStand, HostFacts, SyncedFacts, TagFact, is_tap_id, stands_at}
 
-pub host-facts : (rows : RowLists) (host : List ℕ) (t : HostTables) → Realises rows host t → HostFacts rows host t
+pub host-facts : (rows : RowLists) (host : List ℕ) (t : TableLists) → Realises rows host t → HostFacts rows host t
 host-facts rows host t r = record {
   tags = record {
     networks = r.tags.networks;

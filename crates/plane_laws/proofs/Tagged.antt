@@ -20,10 +20,10 @@ use Rattle.plane_types.specs.declared.table.Carrier.{Carrier}
 use Rattle.plane_types.specs.declared.table.InwardRow.{InwardRow}
 use Rattle.plane_types.specs.declared.table.TagRow.{TagRow}
 use Rattle.plane_types.specs.declared.table.TapRow.{TapRow}
-use Rattle.plane_types.specs.declared.tables.HostTables.{HostTables}
+use Rattle.plane_types.specs.declared.lists.TableLists.{TableLists}
 use Rattle.plane_laws.proofs.Facts.{AtMostOne, FrameFacts, HostFacts, carried_by, has_id, is_carrier}
 
-module _ (rows : RowLists) (host : List ℕ) (t : HostTables) (real : HostFacts rows host t) (good : FrameFacts rows) where
+module _ (rows : RowLists) (host : List ℕ) (t : TableLists) (real : HostFacts rows host t) (good : FrameFacts rows) where
   tap_hit : (port : Ident) (q : PortRow) (row : TapRow) → tap_row rows host t.tags q ≡ Some row → ident_eq port row.port ≡ ident_eq port q.id
   tap_hit port q row h = go (is_tap rows host q) (tag_of t.tags q.network) h
     where

@@ -31,7 +31,7 @@ use Rattle.plane_types.specs.TableRows.{is_tagged}
 use Rattle.plane_types.specs.Told.{fabric_verdict, rows_verdict, without_hosts}
 use Rattle.plane_types.specs.declared.event.Event.{Event}
 use Rattle.plane_types.specs.declared.table.TagRow.{TagRow}
-use Rattle.plane_types.specs.declared.tables.HostTables.{HostTables}
+use Rattle.plane_types.specs.declared.lists.TableLists.{TableLists}
 use Rattle.plane_laws.specs.Held.{HoldRows}
 
 -- a project's first network, and a port of it on each host
@@ -142,7 +142,7 @@ tags-there : RealisesTags world c2 (tag (id 6) 1 None ∷ [])
 unfolding is_live
 tags-there = tags-at c2 1 (omega arith) (omega arith) refl
 
-no-entries : (name : List ℕ) (t : HostTables) → IsPlaced (record { name = name; tables = t; entries = [] })
+no-entries : (name : List ℕ) (t : TableLists) → IsPlaced (record { name = name; tables = t; entries = [] })
 no-entries name t = record { stand = nothing_there _; once_outside = λ r k o p f g. omega arith; once_inside = λ r k o. omega arith }
 
 names-differ : (name : List ℕ) → count_by (is_named name) world_hosts ≤ 1

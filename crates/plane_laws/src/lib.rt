@@ -24,39 +24,57 @@ ghost use Rattle.plane_laws.specs.Held.{HoldRows};
 /// Where all hosts hold the rows, what their tables make of an event has exactly the outcome, the
 /// path and the fresh entries that the rows give.
 pub fn tables_mean_rows()
-    ensures { (carries : List ℕ → Segment → Bool) (rows : RowLists) (hosts : List Host) → HoldRows carries rows hosts → (event : Event) → without_hosts (fabric_verdict hosts event) ≡ rows_verdict rows (all_entries hosts) event }
+    ensures { (carries : List ℕ → Segment → Bool) (rows : RowLists) (hosts : List Host)
+        → HoldRows carries rows hosts → (event : Event)
+        → without_hosts (fabric_verdict hosts event) ≡ rows_verdict rows (all_entries hosts) event }
 {}
 
 /// The same for events one after the other, where each host keeps the entries that it made: the
-/// verdicts are those that the rows give with all hosts' entries joined, and the hosts hold the rows
-/// still.
+/// verdicts are those that the rows give with all hosts' entries joined, and the hosts hold the
+/// rows still.
 pub fn event_lists_mean_rows()
-    ensures verdicts { (carries : List ℕ → Segment → Bool) (rows : RowLists) (hosts : List Host) → HoldRows carries rows hosts → (events : List Event) → map without_hosts (fabric_verdicts hosts events) ≡ rows_verdicts rows (all_entries hosts) events }
-    ensures held { (carries : List ℕ → Segment → Bool) (rows : RowLists) (hosts : List Host) → HoldRows carries rows hosts → (events : List Event) → HoldRows carries rows (hosts_after_all hosts events) }
+    ensures verdicts { (carries : List ℕ → Segment → Bool) (rows : RowLists) (hosts : List Host)
+        → HoldRows carries rows hosts → (events : List Event)
+        → map without_hosts (fabric_verdicts hosts events)
+        ≡ rows_verdicts rows (all_entries hosts) events }
+    ensures held { (carries : List ℕ → Segment → Bool) (rows : RowLists) (hosts : List Host)
+        → HoldRows carries rows hosts → (events : List Event)
+        → HoldRows carries rows (hosts_after_all hosts events) }
 {}
 
-/// By any tables, the entries of each host stay placed: each is of a tap or router there, and no two
-/// translations can be taken for one another.
+/// By any tables, the entries of each host stay placed: each is of a tap or router there, and no
+/// two translations can be taken for one another.
 pub fn entries_stay_placed()
-    ensures { (hosts : List Host) → ((name : List ℕ) → count_by (is_named name) hosts ≤ 1) → Each IsPlaced hosts → (event : Event) → Each IsPlaced (hosts_after hosts event) }
+    ensures { (hosts : List Host) → ((name : List ℕ) → count_by (is_named name) hosts ≤ 1)
+        → Each IsPlaced hosts → (event : Event) → Each IsPlaced (hosts_after hosts event) }
 {}
 
 /// A frame crosses between networks only at routers that have live ports on both, and is delivered
 /// to a port of the last network of its path; so does each of frames one after the other.
 pub fn paths_cross_at_routers()
-    ensures by_rows { (rows : RowLists) → IsConsistent rows → (entries : List Entry) (event : Event) → CrossesAtRouters rows (rows_verdict rows entries event) }
-    ensures by_tables { (carries : List ℕ → Segment → Bool) (rows : RowLists) (hosts : List Host) → HoldRows carries rows hosts → (event : Event) → CrossesAtRouters rows (fabric_verdict hosts event) }
-    ensures by_lists { (carries : List ℕ → Segment → Bool) (rows : RowLists) (hosts : List Host) → HoldRows carries rows hosts → (events : List Event) → Each (CrossesAtRouters rows) (fabric_verdicts hosts events) }
+    ensures by_rows { (rows : RowLists) → IsConsistent rows
+        → (entries : List Entry) (event : Event)
+        → CrossesAtRouters rows (rows_verdict rows entries event) }
+    ensures by_tables { (carries : List ℕ → Segment → Bool) (rows : RowLists) (hosts : List Host)
+        → HoldRows carries rows hosts → (event : Event)
+        → CrossesAtRouters rows (fabric_verdict hosts event) }
+    ensures by_lists { (carries : List ℕ → Segment → Bool) (rows : RowLists) (hosts : List Host)
+        → HoldRows carries rows hosts → (events : List Event)
+        → Each (CrossesAtRouters rows) (fabric_verdicts hosts events) }
 {}
 
 /// The port that holds a floating address is never live, so it needs no case of its own among
 /// senders.
 pub fn floating_ports_are_down()
-    ensures { (rows : RowLists) → IsConsistent rows → Each (λ p. is_own_port rows.floatings p.id ≡ true → is_live rows p ≡ false) rows.ports }
+    ensures { (rows : RowLists) → IsConsistent rows
+        → Each (λ p. is_own_port rows.floatings p.id ≡ true → is_live rows p ≡ false) rows.ports }
 {}
 
-/// A packet passes at most 254 routers and makes at most 256 entries, by any rows and by any tables.
+/// A packet passes at most 254 routers and makes at most 256 entries, by any rows and by any
+/// tables.
 pub fn paths_are_bounded()
-    ensures by_rows { (rows : RowLists) (entries : List Entry) (event : Event) → HasEightBits event → IsBounded (rows_verdict rows entries event) }
-    ensures by_tables { (hosts : List Host) (event : Event) → HasEightBits event → IsBounded (fabric_verdict hosts event) }
+    ensures by_rows { (rows : RowLists) (entries : List Entry) (event : Event)
+        → HasEightBits event → IsBounded (rows_verdict rows entries event) }
+    ensures by_tables { (hosts : List Host) (event : Event) → HasEightBits event
+        → IsBounded (fabric_verdict hosts event) }
 {}

@@ -1,21 +1,19 @@
 ghost use Rattle.std.specs.Prelude.{◌≡◌, ◌++◌, List, IfOk, OnOk, Some, find, flat_map, map, option_copied, option_map, option_to_list};
 ghost use Rattle.std.specs.List.{filter_map};
 ghost use Rattle.net_addr.specs.Addresses.{renumbered};
-ghost use Rattle.api_types.specs.Owners.{holds_in as held_in};
 ghost use Rattle.api_types.specs.declared.port.Fixed.{Fixed as TheFixed};
 ghost use Rattle.api_types.specs.declared.port.PortRow.{PortRow as ThePort};
 ghost use Rattle.api_types.specs.declared.subnet.SubnetRow.{SubnetRow as TheSubnet};
 ghost use Rattle.api_types.specs.Ascending.{ascending as in_order};
 ghost use Rattle.api_types.specs.Holders.{gateway_port as gateway_by_rows};
 ghost use Rattle.api_types.specs.RouterRows.{by_address, connected_by, connected_ways as connected_by_rows, default_of as default_by_rows, extra_way as extra_by_rows, extra_ways as extras_by_rows, default_by, holds_next as holds_next_hop, legs_of, subnet_named, way_by as way_by_port, ways_of as ways_by_rows};
-ghost use Rattle.plane_rows.specs.Ways.{defaults_of_port, way_of};
+ghost use Rattle.plane_rows.specs.Ways.{defaults_of_port, way_of, ways_by as ways_by_legs};
 
+use crate::exits::Exits;
 use crate::holders::gateway_port;
 use crate::live::is_live;
 use crate::routers::is_leg;
-use api_types::{
-    Fixed, Hop, Id, PortRow, RouteRank, RouterRow, Rows, SubnetRow, ascending, holds_in,
-};
+use api_types::{Fixed, Hop, Id, PortRow, RouteRank, RouterRow, Rows, SubnetRow, ascending};
 use net_addr::{Addr, Addr4, Addr6, OutOfMemory, Prefix};
 use std::alloc::Global;
 
@@ -29,35 +27,22 @@ pub struct Way {
     pub port: Id,
 }
 
-// The first of these ports with an address in the subnet.
-fn leg_in<'r>(legs: &[&'r PortRow], subnet: Id) -> Option<&'r PortRow>
-    ensures { option_copied result ≡ find (held_in subnet) (map (λ p. p.now) legs.now) }
-{
-    for port in legs {
-        if holds_in(subnet, port) {
-            return Some(*port);
-        }
-    }
-    None
-}
-
-// The route that leaves by the first of these ports in a subnet.
+// The route that leaves by the first port in a subnet.
 fn way_by(
-    legs: &[&PortRow],
+    exits: &Exits,
     subnet: Id,
     prefix: Prefix,
     rank: RouteRank,
     next: Option<Addr>,
 ) -> Option<Way>
-    ensures { option_map way_of result
-        ≡ way_by_port (map (λ p. p.now) legs.now) subnet prefix rank next }
+    ensures { option_map way_of result ≡ way_by_port exits.now subnet prefix rank next }
 {
-    match leg_in(legs, subnet) {
+    match exits.port_in(subnet) {
         Some(port) => Some(Way {
             prefix,
             rank,
             next,
-            port: port.id,
+            port,
         }),
         None => None,
     }
@@ -72,12 +57,12 @@ pub fn named_subnet(rows: &Rows, id: Id) -> Option<&SubnetRow>
     subnets.get(id)
 }
 
-fn connected_way(rows: &Rows, legs: &[&PortRow], fixed: Fixed) -> Option<Way>
+fn connected_way(rows: &Rows, exits: &Exits, fixed: Fixed) -> Option<Way>
     ensures { option_map way_of result
-        ≡ connected_by (map (λ p. p.now) legs.now) (subnet_named rows.now fixed.subnet) }
+        ≡ connected_by exits.now (subnet_named rows.now fixed.subnet) }
 {
     let subnet = named_subnet(rows, fixed.subnet)?;
-    way_by(legs, subnet.id, subnet.prefix, RouteRank::Connected, None)
+    way_by(exits, subnet.id, subnet.prefix, RouteRank::Connected, None)
 }
 
 // The addresses of a port, ascending.
@@ -92,7 +77,7 @@ fn held_by_address(alloc: Global, port: &PortRow) -> Result<Vec<Fixed>, OutOfMem
 fn add_connected_of(
     alloc: Global,
     rows: &Rows,
-    legs: &[&PortRow],
+    exits: &Exits,
     port: &PortRow,
     ways: &mut Vec<Way>,
 ) -> Result<(), OutOfMemory>
@@ -100,13 +85,12 @@ fn add_connected_of(
         (map way_of ways.new.items
         ≡ map way_of ways.old.items
         ++ filter_map
-        (λ (f : TheFixed).
-        connected_by (map (λ p. p.now) legs.now) (subnet_named rows.now f.subnet))
+        (λ (f : TheFixed). connected_by exits.now (subnet_named rows.now f.subnet))
         (in_order by_address port.now.fixed)) }
 {
     let held = held_by_address(alloc, port)?;
     for fixed in held.as_slice() {
-        if let Some(way) = connected_way(rows, legs, *fixed) {
+        if let Some(way) = connected_way(rows, exits, *fixed) {
             ways.push(way)?;
         }
     }
@@ -118,15 +102,16 @@ fn add_connected_of(
 fn add_connected(
     alloc: Global,
     rows: &Rows,
-    legs: &[&PortRow],
+    exits: &Exits,
     ways: &mut Vec<Way>,
 ) -> Result<(), OutOfMemory>
     ensures { OnOk result
         (map way_of ways.new.items
-        ≡ map way_of ways.old.items ++ connected_by_rows rows.now (map (λ p. p.now) legs.now)) }
+        ≡ map way_of ways.old.items ++ connected_by_rows rows.now exits.now) }
 {
+    let legs = exits.legs();
     for port in legs {
-        add_connected_of(alloc, rows, legs, port, ways)?;
+        add_connected_of(alloc, rows, exits, port, ways)?;
     }
     Ok(())
 }
@@ -135,8 +120,11 @@ fn add_connected(
 fn holds_next(rows: &Rows, address: &Addr, fixed: Fixed) -> bool
     ensures { result ≡ holds_next_hop rows.now address.now fixed }
 {
-    rows.subnets().rows().iter().any(|subnet| fixed.subnet == subnet.id
-        && subnet.prefix.contains(*address))
+    let _own_ids = rows.subnets().rows(); // for the proof: no two subnets have one id
+    match named_subnet(rows, fixed.subnet) {
+        Some(subnet) => subnet.prefix.contains(*address),
+        None => false,
+    }
 }
 
 fn fixed_of_port(rows: &Rows, port: &PortRow, address: &Addr) -> Option<Fixed>
@@ -164,12 +152,12 @@ fn fixed_toward(rows: &Rows, legs: &[&PortRow], address: &Addr) -> Option<Fixed>
     None
 }
 
-fn extra_way(rows: &Rows, legs: &[&PortRow], hop: Hop) -> Option<Way>
-    ensures { option_map way_of result ≡ extra_by_rows rows.now (map (λ p. p.now) legs.now) hop }
+fn extra_way(rows: &Rows, exits: &Exits, hop: Hop) -> Option<Way>
+    ensures { option_map way_of result ≡ extra_by_rows rows.now exits.now hop }
 {
-    let fixed = fixed_toward(rows, legs, &hop.next)?;
+    let fixed = fixed_toward(rows, exits.legs(), &hop.next)?;
     way_by(
-        legs,
+        exits,
         fixed.subnet,
         hop.destination,
         RouteRank::Extra,
@@ -181,17 +169,16 @@ fn extra_way(rows: &Rows, legs: &[&PortRow], hop: Hop) -> Option<Way>
 #[tactic(auto, unfolding(api_types::specs::RouterRows::extra_ways))]
 fn add_extra(
     rows: &Rows,
-    legs: &[&PortRow],
+    exits: &Exits,
     routes: &[Hop],
     ways: &mut Vec<Way>,
 ) -> Result<(), OutOfMemory>
     ensures { OnOk result
         (map way_of ways.new.items
-        ≡ map way_of ways.old.items
-        ++ extras_by_rows rows.now (map (λ p. p.now) legs.now) routes.now) }
+        ≡ map way_of ways.old.items ++ extras_by_rows rows.now exits.now routes.now) }
 {
     for hop in routes {
-        if let Some(way) = extra_way(rows, legs, *hop) {
+        if let Some(way) = extra_way(rows, exits, *hop) {
             ways.push(way)?;
         }
     }
@@ -214,13 +201,13 @@ fn everything(gateway: &Addr) -> Prefix
     }
 }
 
-fn default_in(legs: &[&PortRow], subnet: &SubnetRow) -> Option<Way>
+fn default_in(exits: &Exits, subnet: &SubnetRow) -> Option<Way>
     ensures { option_to_list (option_map way_of result)
-        ≡ default_by (map (λ p. p.now) legs.now) (Some subnet.now) }
+        ≡ default_by exits.now (Some subnet.now) }
 {
     let gateway = subnet.gateway?;
     way_by(
-        legs,
+        exits,
         subnet.id,
         everything(&gateway),
         RouteRank::Default,
@@ -228,12 +215,12 @@ fn default_in(legs: &[&PortRow], subnet: &SubnetRow) -> Option<Way>
     )
 }
 
-fn default_way(rows: &Rows, legs: &[&PortRow], fixed: Fixed) -> Option<Way>
+fn default_way(rows: &Rows, exits: &Exits, fixed: Fixed) -> Option<Way>
     ensures { option_to_list (option_map way_of result)
-        ≡ default_by (map (λ p. p.now) legs.now) (subnet_named rows.now fixed.subnet) }
+        ≡ default_by exits.now (subnet_named rows.now fixed.subnet) }
 {
     let subnet = named_subnet(rows, fixed.subnet)?;
-    default_in(legs, subnet)
+    default_in(exits, subnet)
 }
 
 fn live_gateway_port<'r>(rows: &'r Rows, router: &RouterRow) -> Option<&'r PortRow>
@@ -253,18 +240,17 @@ fn live_gateway_port<'r>(rows: &'r Rows, router: &RouterRow) -> Option<&'r PortR
 fn add_defaults_of(
     alloc: Global,
     rows: &Rows,
-    legs: &[&PortRow],
+    exits: &Exits,
     port: &PortRow,
     ways: &mut Vec<Way>,
 ) -> Result<(), OutOfMemory>
     ensures { OnOk result
         (map way_of ways.new.items
-        ≡ map way_of ways.old.items
-        ++ defaults_of_port rows.now (map (λ p. p.now) legs.now) (Some port.now)) }
+        ≡ map way_of ways.old.items ++ defaults_of_port rows.now exits.now (Some port.now)) }
 {
     let held = held_by_address(alloc, port)?;
     for fixed in held.as_slice() {
-        if let Some(way) = default_way(rows, legs, *fixed) {
+        if let Some(way) = default_way(rows, exits, *fixed) {
             ways.push(way)?;
         }
     }
@@ -275,18 +261,17 @@ fn add_defaults_of(
 fn add_defaults(
     alloc: Global,
     rows: &Rows,
-    legs: &[&PortRow],
+    exits: &Exits,
     router: &RouterRow,
     ways: &mut Vec<Way>,
 ) -> Result<(), OutOfMemory>
     ensures { OnOk result
         (map way_of ways.new.items
         ≡ map way_of ways.old.items
-        ++ default_by_rows rows.now (map (λ p. p.now) legs.now)
-        (gateway_by_rows rows.now router.now)) }
+        ++ default_by_rows rows.now exits.now (gateway_by_rows rows.now router.now)) }
 {
     match live_gateway_port(rows, router) {
-        Some(port) => add_defaults_of(alloc, rows, legs, port, ways),
+        Some(port) => add_defaults_of(alloc, rows, exits, port, ways),
         None => Ok(()),
     }
 }
@@ -309,18 +294,33 @@ fn legs<'r>(
     Ok(legs)
 }
 
+/// The routes of a router whose live ports are these: to their subnets, then its own ones, then the
+/// default ones. Its cost grows with the router's addresses, of each port also with the logarithm of
+/// their number, and with its own routes times its addresses.
+pub fn ways_by(
+    alloc: Global,
+    rows: &Rows,
+    legs: &[&PortRow],
+    router: &RouterRow,
+) -> Result<Vec<Way>, OutOfMemory>
+    ensures { IfOk result
+        (λ v. map way_of v.items
+        ≡ ways_by_legs rows.now (map (λ p. p.now) legs.now) router.now) }
+{
+    let exits = Exits::of(alloc, legs)?;
+    let mut ways = Vec::new(alloc);
+    add_connected(alloc, rows, &exits, &mut ways)?;
+    add_extra(rows, &exits, router.routes.as_slice(), &mut ways)?;
+    add_defaults(alloc, rows, &exits, router, &mut ways)?;
+    Ok(ways)
+}
+
 /// The routes of a router: to the subnets of its live ports, then its own ones, then the default
-/// ones. Its cost grows with the ports; with the addresses and routes of the router times its
-/// ports; with its routes times its addresses and the subnets; and with the addresses of a port and
-/// the logarithm of their number.
+/// ones. Its cost grows with the ports, and with what `ways_by` costs for those of the router.
 #[tactic(auto, unfolding(api_types::specs::RouterRows::ways_of))]
 pub fn ways_of(alloc: Global, rows: &Rows, router: &RouterRow) -> Result<Vec<Way>, OutOfMemory>
     ensures { IfOk result (λ v. map way_of v.items ≡ ways_by_rows rows.now router.now) }
 {
     let legs = legs(alloc, rows, router)?;
-    let mut ways = Vec::new(alloc);
-    add_connected(alloc, rows, legs.as_slice(), &mut ways)?;
-    add_extra(rows, legs.as_slice(), router.routes.as_slice(), &mut ways)?;
-    add_defaults(alloc, rows, legs.as_slice(), router, &mut ways)?;
-    Ok(ways)
+    ways_by(alloc, rows, legs.as_slice(), router)
 }

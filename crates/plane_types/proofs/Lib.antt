@@ -8,3 +8,4 @@ pub mod RealisedTags
 pub mod RouteLemmas
 pub mod UseLemmas
 pub mod PutLemmas
+pub mod RunLemmas

@@ -5,13 +5,13 @@ use Rattle.std.specs.List.{filter}
 use Rattle.api_types.proofs.ListLemmas.{each-filter, sum-filter-le}
 use Rattle.plane_types.specs.Placed.{IsPlaced, is_placed, meets, translates}
 use Rattle.plane_types.specs.declared.entry.Entry.{Entry}
-use Rattle.plane_types.specs.declared.tables.HostTables.{HostTables}
+use Rattle.plane_types.specs.declared.lists.TableLists.{TableLists}
 
 -- no more pass among some of the entries
 fewer : (keep test : Entry → Bool) (es : List Entry) → count_by test es ≤ 1 → count_by test (filter keep es) ≤ 1
 fewer keep test es h = omega (arith, h, sum-filter-le keep (λ e. cond {A = ℕ} (test e) 1 0) es)
 
-pub stay_placed : (name : List ℕ) (old new : HostTables) (es : List Entry) → IsPlaced (record { name = name; tables = old; entries = es }) → IsPlaced (record { name = name; tables = new; entries = filter (is_placed new) es })
+pub stay_placed : (name : List ℕ) (old new : TableLists) (es : List Entry) → IsPlaced (record { name = name; tables = old; entries = es }) → IsPlaced (record { name = name; tables = new; entries = filter (is_placed new) es })
 stay_placed name old new es h = record {
   stand = each-filter (is_placed new) (λ e. Unit {0}) (λ e. is_placed new e ≡ true) es (λ e kept w. kept) (λ k e at. tt);
   once_outside = λ router kind outer port far far_port. fewer (is_placed new) (meets router kind outer port far far_port) es (h.once_outside router kind outer port far far_port);

@@ -1,6 +1,6 @@
 -- The tags that are given realise the rows.
-use Rattle.std.proofs.Common.{◌≡◌, ◌∙◌, ℕ, zero, suc, ◌+◌, ◌<◌, ◌≤◌, List, [], ◌∷◌, Bool, true, false, cond, Option, Some, None, length, map, refl, ap, sym, subst, arith}
-use Rattle.std.specs.Prelude.{count_by, ◌==◌, ◌||◌, is_none, find, option_map, not, slice_get}
+use Rattle.std.proofs.Common.{◌≡◌, ◌∙◌, ℕ, zero, suc, ◌+◌, ◌<◌, ◌≤◌, List, [], ◌∷◌, Bool, true, false, cond, Option, Some, None, length, map, refl, ap, subst, arith}
+use Rattle.std.specs.Prelude.{count_by, ◌==◌, ◌||◌, is_none, slice_get}
 use Rattle.std.specs.List.{cons_option, filter, filter_map, list_any, AllByRecursion, IsDistinct}
 use Rattle.std.proofs.lemmas.Bool.{eqb-true}
 use Rattle.std.proofs.lemmas.List.{length-map}
@@ -11,10 +11,8 @@ use Rattle.api_types.specs.Consistent.{IsConsistent}
 use Rattle.api_types.specs.Ident.{Ident}
 use Rattle.api_types.specs.Lists.{Each}
 use Rattle.api_types.specs.RowLists.{RowLists}
-use Rattle.api_types.specs.Table.{HaveOwnIds, ident_eq}
+use Rattle.api_types.specs.Table.{ident_eq}
 use Rattle.api_types.specs.declared.network.NetworkRow.{NetworkRow}
-use Rattle.api_types.specs.Live.{segment}
-use Rattle.api_types.specs.Wires.{wire_of}
 use Rattle.plane_types.specs.Realises.{RealisesTags, TagStands}
 use Rattle.plane_types.specs.TableRows.{is_tagged, tag_of}
 use Rattle.plane_types.specs.declared.table.TagRow.{TagRow}

@@ -3,7 +3,7 @@ use Rattle.std.proofs.Common.{◌≡◌, ◌∙◌, ◌-◌, ◌<◌, ◌≤◌,
 use Rattle.std.specs.Prelude.{find, nat_le, not, if◌then◌else◌}
 use Rattle.std.proofs.lemmas.Bool.Decides.{nat_tests}
 use Rattle.net_addr.specs.declared.address.Addr.{Addr}
-use Rattle.plane_types.specs.Ends.{source, destination}
+use Rattle.plane_types.specs.Ends.{destination}
 use Rattle.plane_types.specs.Keys.{key_eq}
 use Rattle.plane_types.specs.Packets.{Packet, key_of}
 use Rattle.plane_types.specs.Routing.{Changed, Destined, RouteEnds, Routed, Sourced, Use, best_way, destined, is_own, routed, routed_out, routed_to, routed_way, sent, sourced, sourced_at, sourced_gateway, sourced_use, uses_by}

@@ -29,7 +29,7 @@ use Rattle.plane_types.specs.declared.frame.KeyKind.TheVariants.{Tcp as TcpKey}
 use Rattle.plane_types.specs.declared.frame.KeyPart.TheVariants.{Tcp}
 use Rattle.plane_types.specs.declared.table.TagRow.{TagRow}
 use Rattle.api_types.specs.declared.wire.Wire.{Wire}
-use Rattle.plane_types.specs.declared.tables.HostTables.{HostTables}
+use Rattle.plane_types.specs.declared.lists.TableLists.{TableLists}
 
 abbrev pub ip : ℕ → ℕ → ℕ → ℕ → ℕ
 ip a b c d = a * 2 ^ 24 + b * 2 ^ 16 + c * 2 ^ 8 + d
@@ -145,7 +145,7 @@ abbrev pub tcp_key : ℕ → ℕ → ℕ → ℕ → Key
 tcp_key from sport to dport = record { kind = TcpKey; ends = ends from to; sport = sport; dport = dport }
 
 -- tables that the rows give to a host for some tags
-abbrev pub tables_of : RowLists → List ℕ → List TagRow → HostTables
+abbrev pub tables_of : RowLists → List ℕ → List TagRow → TableLists
 tables_of rows host tags = record {
   tags = tags;
   taps = tap_rows rows host tags;

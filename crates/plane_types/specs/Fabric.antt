@@ -21,7 +21,7 @@ use Rattle.plane_types.specs.declared.table.InwardRow.{InwardRow}
 use Rattle.plane_types.specs.declared.table.TagRow.{TagRow}
 use Rattle.plane_types.specs.declared.table.TapRow.{TapRow}
 use Rattle.api_types.specs.declared.wire.Wire.{Wire}
-use Rattle.plane_types.specs.declared.tables.HostTables.{HostTables}
+use Rattle.plane_types.specs.declared.lists.TableLists.{TableLists}
 use Rattle.plane_types.specs.declared.verdict.DropCause.TheVariants.{Dead, Unknown, Unsupported}
 use Rattle.plane_types.specs.declared.verdict.Outcome.{Outcome}
 use Rattle.plane_types.specs.declared.verdict.Outcome.TheVariants.{Dropped, Out}
@@ -49,7 +49,7 @@ abbrev pub takes_to : Option BridgeRow → Bool
 takes_to None = false
 takes_to (Some r) = elim r.to [ ToTap p ↦ true | ToRouter r p ↦ true | ToHost h n ↦ false ]
 
-abbrev pub takes_at : HostTables → Frame → Option InwardRow → Bool
+abbrev pub takes_at : TableLists → Frame → Option InwardRow → Bool
 takes_at t frame None = false
 takes_at t (Ip src dst ends ttl part) (Some r) = takes_to (bridge_at t r.tag (AtMac dst))
 takes_at t (NeighbourAsk src ends) (Some r) = is_some (neighbour_at t r.tag (destination ends))

@@ -7,11 +7,11 @@ use Rattle.plane_types.specs.declared.table.BridgeKey.{BridgeKey}
 use Rattle.plane_types.specs.declared.table.BridgeKey.TheVariants.{Dhcp as AtDhcp, Mac as AtMac}
 use Rattle.plane_types.specs.declared.table.BridgeRow.{BridgeRow}
 use Rattle.plane_types.specs.declared.table.NeighbourRow.{NeighbourRow}
-use Rattle.plane_types.specs.declared.tables.HostTables.{HostTables}
+use Rattle.plane_types.specs.declared.lists.TableLists.{TableLists}
 
 pub record Host : Type 0 where
   pub name : List ℕ
-  pub tables : HostTables
+  pub tables : TableLists
   pub entries : List Entry
 
 abbrev pub is_named : List ℕ → Host → Bool

@@ -5,6 +5,7 @@ pub mod Fabric
 pub mod Filter
 pub mod Guard
 pub mod Hosts
+pub mod InwardKeys
 pub mod Keys
 pub mod Meaning
 pub mod Packets
@@ -13,10 +14,12 @@ pub mod Placed
 pub mod Places
 pub mod Realises
 pub mod Routing
+pub mod Runs
 pub mod Spare
 pub mod Synced
 pub mod TableRows
 pub mod TableStep
+pub mod Tables
 pub mod Told
 pub mod Retagged
 pub mod Wired

@@ -8,7 +8,7 @@ use Rattle.plane_types.specs.Placed.{IsPlaced, is_placed}
 use Rattle.plane_types.specs.Realises.{Realises}
 use Rattle.plane_types.specs.declared.entry.Entry.{Entry}
 use Rattle.plane_types.specs.declared.table.TagRow.{TagRow}
-use Rattle.plane_types.specs.declared.tables.HostTables.{HostTables}
+use Rattle.plane_types.specs.declared.lists.TableLists.{TableLists}
 use Rattle.plane_types.specs.Wired.{wired}
 
 pub record Node : Type 0 where
@@ -18,7 +18,7 @@ pub record Node : Type 0 where
   -- the version of the wired rows
   pub version : ℕ
   pub rows : RowLists
-  pub tables : HostTables
+  pub tables : TableLists
   pub entries : List Entry
   -- how many more entries are taken in without memory
   pub spare : ℕ
@@ -41,7 +41,7 @@ abbrev pub started : List ℕ → ℕ → RowLists → ℕ → Node
 started name version rows spare = record { name = name; held = Some version; version = version; rows = rows; tables = wired rows name []; entries = []; spare = spare }
 
 -- given rows and tables: entries without a tap or router in these go
-abbrev pub given : Node → ℕ → RowLists → HostTables → ℕ → Node
+abbrev pub given : Node → ℕ → RowLists → TableLists → ℕ → Node
 given n version rows tables spare = record { name = n.name; held = Some version; version = version; rows = rows; tables = tables; entries = filter (is_placed tables) n.entries; spare = spare }
 
 -- given rows anew: networks keep their tags
@@ -56,7 +56,7 @@ pub record Ready : Type 0 where
   pub name : List ℕ
   pub version : ℕ
   pub rows : RowLists
-  pub tables : HostTables
+  pub tables : TableLists
   pub old : List TagRow
 
 pub record IsReady (r : Ready) : Type 0 where

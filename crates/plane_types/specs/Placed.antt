@@ -15,10 +15,10 @@ use Rattle.plane_types.specs.declared.frame.Key.{Key}
 use Rattle.plane_types.specs.declared.frame.KeyKind.{KeyKind}
 use Rattle.plane_types.specs.declared.table.RouterTable.{RouterTable}
 use Rattle.plane_types.specs.declared.table.TapRow.{TapRow}
-use Rattle.plane_types.specs.declared.tables.HostTables.{HostTables}
+use Rattle.plane_types.specs.declared.lists.TableLists.{TableLists}
 
 -- the entry is of a tap or of a router of these tables
-abbrev pub is_placed : HostTables → Entry → Bool
+abbrev pub is_placed : TableLists → Entry → Bool
 is_placed t (Flow port d k) = list_any (λ (r : TapRow). ident_eq port r.port) t.taps
 is_placed t (Snat router k o p) = list_any (λ (r : RouterTable). ident_eq router r.router) t.routers
 

@@ -9,7 +9,7 @@ use Rattle.api_types.specs.Live.{segment}
 use Rattle.api_types.specs.Wires.{wire_of}
 use Rattle.plane_types.specs.TableRows.{bridge_rows, filter_rows, float_rows, inward_rows, is_tagged, lease_rows, neighbour_rows, route_rows, router_rows, set_rows, tap_rows}
 use Rattle.plane_types.specs.declared.table.TagRow.{TagRow}
-use Rattle.plane_types.specs.declared.tables.HostTables.{HostTables}
+use Rattle.plane_types.specs.declared.lists.TableLists.{TableLists}
 
 pub record TagStands (rows : RowLists) (t : TagRow) : Type 0 where
   pub wire : t.wire ≡ wire_of (segment rows t.network)
@@ -22,7 +22,7 @@ pub record RealisesTags (rows : RowLists) (host : List ℕ) (tags : List TagRow)
   pub stand : Each (TagStands rows) tags
   pub differ : (tag : ℕ) → count_by (λ (t : TagRow). t.tag == tag) tags ≤ 1
 
-pub record Realises (rows : RowLists) (host : List ℕ) (t : HostTables) : Type 0 where
+pub record Realises (rows : RowLists) (host : List ℕ) (t : TableLists) : Type 0 where
   pub tags : RealisesTags rows host t.tags
   pub taps : t.taps ≡ tap_rows rows host t.tags
   pub filters : t.filters ≡ filter_rows rows host

@@ -42,7 +42,7 @@ use Rattle.plane_types.specs.declared.table.SetRow.{SetRow}
 use Rattle.plane_types.specs.declared.table.TagRow.{TagRow}
 use Rattle.plane_types.specs.declared.table.TapRow.{TapRow}
 use Rattle.api_types.specs.declared.wire.Wire.{Wire}
-use Rattle.plane_types.specs.declared.tables.HostTables.{HostTables}
+use Rattle.plane_types.specs.declared.lists.TableLists.{TableLists}
 use Rattle.plane_types.specs.declared.verdict.AskAnswer.TheVariants.{Arp as ArpAnswer, Lease as LeaseAnswer}
 use Rattle.plane_types.specs.declared.verdict.DropCause.{DropCause}
 use Rattle.plane_types.specs.declared.verdict.DropCause.TheVariants.{Dead, Egress as EgressFilter, Ingress as IngressFilter, NoHolder, NoLease, Spoof, Unknown, Unsupported}
@@ -66,16 +66,16 @@ abbrev pub drops : DropCause → Step
 drops c = stops (Dropped c)
 
 -- look-ups
-abbrev pub tap_at : HostTables → Ident → Option TapRow
+abbrev pub tap_at : TableLists → Ident → Option TapRow
 tap_at t port = find (λ (r : TapRow). ident_eq port r.port) t.taps
 
-abbrev pub tag_row : HostTables → ℕ → Option TagRow
+abbrev pub tag_row : TableLists → ℕ → Option TagRow
 tag_row t tag = find (λ (r : TagRow). r.tag == tag) t.tags
 
-abbrev pub neighbour_at : HostTables → ℕ → Addr → Option NeighbourRow
+abbrev pub neighbour_at : TableLists → ℕ → Addr → Option NeighbourRow
 neighbour_at t tag x = find (λ (r : NeighbourRow). (r.tag == tag) && addr_eq r.address x) t.neighbours
 
-abbrev pub bridge_at : HostTables → ℕ → BridgeKey → Option BridgeRow
+abbrev pub bridge_at : TableLists → ℕ → BridgeKey → Option BridgeRow
 bridge_at t tag key = find (λ (r : BridgeRow). (r.tag == tag) && bridge_key_eq r.key key) t.bridge
 
 abbrev pub carrier_eq : Carrier → Carrier → Bool
@@ -84,20 +84,20 @@ carrier_eq (ByTunnel a) (ByTunnel b) = a == b
 carrier_eq (ByWire v) (ByTunnel b) = false
 carrier_eq (ByTunnel a) (ByWire w) = false
 
-abbrev pub inward_at : HostTables → Carrier → Option InwardRow
+abbrev pub inward_at : TableLists → Carrier → Option InwardRow
 inward_at t carrier = find (λ (r : InwardRow). carrier_eq carrier r.carrier) t.inward
 
 -- filters
-abbrev pub in_set : HostTables → Ident → Addr → Bool
+abbrev pub in_set : TableLists → Ident → Addr → Bool
 in_set t group x = list_any (λ (s : SetRow). ident_eq group s.group && contains s.prefix x) t.sets
 
-abbrev pub row_fits : HostTables → Direction → Key → FilterRow → Bool
+abbrev pub row_fits : TableLists → Direction → Key → FilterRow → Bool
 row_fits t direction key r = parts_fit (in_set t) r.direction r.ethertype r.protocol r.low r.high r.remote_prefix r.remote_group direction key
 
-unfoldable pub tables_allow : HostTables → Ident → Direction → Key → Bool
+unfoldable pub tables_allow : TableLists → Ident → Direction → Key → Bool
 tables_allow t port direction key = list_any (λ (r : FilterRow). ident_eq port r.port && row_fits t direction key r) t.filters
 
-abbrev pub tap_passage : HostTables → List Entry → TapRow → Direction → Packet → Passage
+abbrev pub tap_passage : TableLists → List Entry → TapRow → Direction → Packet → Passage
 tap_passage t entries tap direction p = passage tap.secured (tables_allow t tap.port) entries tap.port direction (key_of p)
 
 -- tap in
@@ -113,13 +113,13 @@ tap_guards tap (Other s d y) = true
 abbrev pub tap_filtered : Frame → TapRow → Passage → Stepped
 tap_filtered frame tap y = if y.passes then record { step = Next (Bridge tap.tag frame); made = y.made } else plain (drops EgressFilter)
 
-abbrev pub tap_sends : HostTables → List Entry → TapRow → Frame → Stepped
+abbrev pub tap_sends : TableLists → List Entry → TapRow → Frame → Stepped
 tap_sends t entries tap (Ip src dst ends ttl part) = tap_filtered (Ip src dst ends ttl part) tap (tap_passage t entries tap Egress (packet src dst ends ttl part))
 tap_sends t entries tap (NeighbourAsk src ends) = plain (Next (Bridge tap.tag (NeighbourAsk src ends)))
 tap_sends t entries tap (Dhcp src from) = plain (Next (Bridge tap.tag (Dhcp src from)))
 tap_sends t entries tap (Other s d y) = plain (Next (Bridge tap.tag (Other s d y)))
 
-abbrev pub tap_in : HostTables → List Entry → Frame → Option TapRow → Stepped
+abbrev pub tap_in : TableLists → List Entry → Frame → Option TapRow → Stepped
 tap_in t entries frame None = plain (drops Dead)
 tap_in t entries frame (Some tap) =
     if is_unsupported frame then plain (drops Unsupported)
@@ -159,20 +159,20 @@ abbrev pub asked_at : Bool → TagRow → AddressAsk → Option NeighbourRow →
 asked_at inner row a (Some r) = stops (Answered (ArpAnswer r.address r.mac))
 asked_at inner row a None = wire_or inner row.network row.wire (TowardAddress (destination a.ends)) (ask_frame a) NoHolder
 
-abbrev pub bridge_in : HostTables → Bool → TagRow → Frame → Step
+abbrev pub bridge_in : TableLists → Bool → TagRow → Frame → Step
 bridge_in t inner row (Ip src dst ends ttl part) = bridged_by inner row (TowardMac dst) (Ip src dst ends ttl part) Unknown (bridge_at t row.tag (AtMac dst))
 bridge_in t inner row (NeighbourAsk src ends) = asked_at inner row (address_ask src ends) (neighbour_at t row.tag (destination ends))
 bridge_in t inner row (Dhcp src from) = bridged_by inner row TowardDhcp (Dhcp src from) NoLease (bridge_at t row.tag AtDhcp)
 bridge_in t inner row (Other s d y) = wire_or inner row.network row.wire (TowardMac d) (Other s d y) Unknown
 
-abbrev pub bridge_at_tag : HostTables → Bool → Frame → Option TagRow → Step
+abbrev pub bridge_at_tag : TableLists → Bool → Frame → Option TagRow → Step
 bridge_at_tag t inner frame None = drops Unknown
 bridge_at_tag t inner frame (Some row) = bridge_in t inner row frame
 
-abbrev pub bridge_step : HostTables → Bool → ℕ → Frame → Step
+abbrev pub bridge_step : TableLists → Bool → ℕ → Frame → Step
 bridge_step t inner tag frame = bridge_at_tag t inner frame (tag_row t tag)
 
-abbrev pub inward_step : HostTables → Frame → Option InwardRow → Step
+abbrev pub inward_step : TableLists → Frame → Option InwardRow → Step
 inward_step t frame None = drops Unknown
 inward_step t frame (Some r) = bridge_step t true r.tag frame
 
@@ -189,7 +189,7 @@ ways_at r rows = filter_map (λ (x : RouteRow). if ident_eq r x.router then Some
 abbrev pub floats_at_router : Ident → List FloatRow → List Float
 floats_at_router r rows = filter_map (λ (x : FloatRow). if ident_eq r x.router then Some (record { floating = x.floating; fixed = x.fixed }) else None) rows
 
-abbrev pub table_view : HostTables → RouterTable → RouterView
+abbrev pub table_view : TableLists → RouterTable → RouterView
 table_view t r = record {
   id = r.router;
   up = r.up;
@@ -200,7 +200,7 @@ table_view t r = record {
   floats = floats_at_router r.router t.floats;
 }
 
-abbrev pub router_at : HostTables → Ident → Option RouterTable
+abbrev pub router_at : TableLists → Ident → Option RouterTable
 router_at t router = find (λ (r : RouterTable). ident_eq router r.router) t.routers
 
 abbrev pub tagged_leg : RouterTable → Ident → Option RouterPort
@@ -210,27 +210,27 @@ abbrev pub unheld : Addr → Packet → Option TagRow → Step
 unheld hop p None = drops Unknown
 unheld hop p (Some row) = elim row.wire [ None ↦ End (Dropped NoHolder) (Some row.network) | Some w ↦ End (Out row.network (TowardAddress hop) (ip_frame (record p { dst = 0 }))) (Some row.network) ]
 
-abbrev pub sent_by : HostTables → ℕ → Addr → Packet → Option NeighbourRow → Step
+abbrev pub sent_by : TableLists → ℕ → Addr → Packet → Option NeighbourRow → Step
 sent_by t tag hop p (Some r) = Next (Bridge tag (ip_frame (record p { dst = r.mac })))
 sent_by t tag hop p None = unheld hop p (tag_row t tag)
 
-abbrev pub sent_at : HostTables → Addr → Packet → Option RouterPort → Step
+abbrev pub sent_at : TableLists → Addr → Packet → Option RouterPort → Step
 sent_at t hop p None = drops Unknown
 sent_at t hop p (Some x) = sent_by t x.tag hop p (neighbour_at t x.tag hop)
 
-abbrev pub table_routed : HostTables → RouterTable → Routed → Stepped
+abbrev pub table_routed : TableLists → RouterTable → Routed → Stepped
 table_routed t r (RouteEnds o) = plain (stops o)
 table_routed t r (RouteSends made out hop p) = record { step = sent_at t hop p (tagged_leg r out.port); made = made }
 
-abbrev pub router_by_leg : HostTables → List Entry → RouterTable → Packet → Option RouterPort → Stepped
+abbrev pub router_by_leg : TableLists → List Entry → RouterTable → Packet → Option RouterPort → Stepped
 router_by_leg t entries r p None = plain (drops Unknown)
 router_by_leg t entries r p (Some x) = table_routed t r (routed (table_view t r) entries (leg_at x) p)
 
-abbrev pub router_by_row : HostTables → List Entry → Ident → Packet → Option RouterTable → Stepped
+abbrev pub router_by_row : TableLists → List Entry → Ident → Packet → Option RouterTable → Stepped
 router_by_row t entries port p None = plain (drops Unknown)
 router_by_row t entries port p (Some r) = router_by_leg t entries r p (tagged_leg r port)
 
-abbrev pub router_in : HostTables → List Entry → Ident → Ident → Frame → Stepped
+abbrev pub router_in : TableLists → List Entry → Ident → Ident → Frame → Stepped
 router_in t entries port router (Ip src dst ends ttl part) = router_by_row t entries port (packet src dst ends ttl part) (router_at t router)
 router_in t entries port router (NeighbourAsk src ends) = plain (drops Unknown)
 router_in t entries port router (Dhcp src from) = plain (drops Unknown)
@@ -247,24 +247,24 @@ source_of (NeighbourAsk src ends) = src
 source_of (Dhcp src from) = src
 source_of (Other s d y) = s
 
-abbrev pub lease_at : HostTables → ℕ → ℕ → Option LeaseRow
+abbrev pub lease_at : TableLists → ℕ → ℕ → Option LeaseRow
 lease_at t tag mac = find (λ (r : LeaseRow). (r.tag == tag) && (r.mac == mac)) t.leases
 
 abbrev pub tap_delivers : Ident → Frame → Passage → Stepped
 tap_delivers port frame y = if y.passes then record { step = stops (Delivered port frame); made = y.made } else plain (drops IngressFilter)
 
-abbrev pub tap_out_by : HostTables → List Entry → Frame → TapRow → Stepped
+abbrev pub tap_out_by : TableLists → List Entry → Frame → TapRow → Stepped
 tap_out_by t entries (Ip src dst ends ttl part) tap = tap_delivers tap.port (Ip src dst ends ttl part) (tap_passage t entries tap Ingress (packet src dst ends ttl part))
 tap_out_by t entries (NeighbourAsk src ends) tap = plain (stops (Delivered tap.port (NeighbourAsk src ends)))
 tap_out_by t entries (Dhcp src from) tap = plain (stops (Delivered tap.port (Dhcp src from)))
 tap_out_by t entries (Other s d y) tap = plain (stops (Delivered tap.port (Other s d y)))
 
-abbrev pub tap_out : HostTables → List Entry → Frame → Option TapRow → Stepped
+abbrev pub tap_out : TableLists → List Entry → Frame → Option TapRow → Stepped
 tap_out t entries frame None = plain (drops Unknown)
 tap_out t entries frame (Some tap) = tap_out_by t entries frame tap
 
 -- the look-up of a place
-abbrev pub table_step : HostTables → List Entry → Place → Stepped
+abbrev pub table_step : TableLists → List Entry → Place → Stepped
 table_step t entries (TapIn port frame) = tap_in t entries frame (tap_at t port)
 table_step t entries (Bridge tag frame) = plain (bridge_step t false tag frame)
 table_step t entries (TunnelIn number frame) = plain (inward_step t frame (inward_at t (ByTunnel number)))

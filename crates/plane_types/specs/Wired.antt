@@ -4,10 +4,10 @@ use Rattle.api_types.specs.RowLists.{RowLists}
 use Rattle.plane_types.specs.Retagged.{retagged}
 use Rattle.plane_types.specs.TableRows.{bridge_rows, filter_rows, float_rows, inward_rows, lease_rows, neighbour_rows, route_rows, router_rows, set_rows, tap_rows}
 use Rattle.plane_types.specs.declared.table.TagRow.{TagRow}
-use Rattle.plane_types.specs.declared.tables.HostTables.{HostTables}
+use Rattle.plane_types.specs.declared.lists.TableLists.{TableLists}
 
 -- for these tags
-abbrev pub wired_for : RowLists → List ℕ → List TagRow → HostTables
+abbrev pub wired_for : RowLists → List ℕ → List TagRow → TableLists
 wired_for rows host tags = record {
   tags = tags;
   taps = tap_rows rows host tags;
@@ -23,5 +23,5 @@ wired_for rows host tags = record {
 }
 
 -- where its tags were these
-unfoldable pub wired : RowLists → List ℕ → List TagRow → HostTables
+unfoldable pub wired : RowLists → List ℕ → List TagRow → TableLists
 wired rows host old = wired_for rows host (retagged rows host old)

@@ -46,6 +46,22 @@ impl<T: Ordered> Ascending<T> {
         })
     }
 
+    /// The items of a `Vec` that ascend.
+    pub(crate) fn of_ascending(items: Vec<T>) -> Ascending<T>
+        requires { IsSortedBy T.before items.items }
+        ensures { result ≡ items.items }
+    {
+        Ascending { items }
+    }
+
+    /// The items as a `Vec`.
+    pub(crate) fn into_vec(self) -> Vec<T>
+        ensures items { result.items ≡ self }
+        ensures ascend { IsSortedBy T.before result.items }
+    {
+        self.items
+    }
+
     /// Puts an item in its place, in front of those that it doesn't come behind, or leaves all as
     /// it is. Its cost grows with the items behind that place.
     pub fn put(&mut self, item: T) -> Result<(), OutOfMemory>
@@ -80,8 +96,8 @@ impl<T: Ordered> Ascending<T> {
     }
 }
 
-// Equal items.
-fn copies<T: Copies>(items: &[T], alloc: Global) -> Result<Vec<T>, OutOfMemory>
+/// Equal items.
+pub(crate) fn copies<T: Copies>(items: &[T], alloc: Global) -> Result<Vec<T>, OutOfMemory>
     ensures { IfOk result (λ v. v.items ≡ items.now) }
 {
     let mut copied = Vec::new(alloc);

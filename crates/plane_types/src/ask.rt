@@ -1,5 +1,5 @@
 use crate::event::Event;
-use crate::tables::HostTables;
+use crate::lists::TableLists;
 use crate::verdict::Verdict;
 use api_types::{Answer, Call, Refusal};
 use net_addr::{Seq, Text};
@@ -67,7 +67,7 @@ pub enum LabAnswer {
     Seen(Verdict),
     Told(Heard),
     Hosts(Seq<HostState>),
-    Tables(HostTables),
+    Tables(TableLists),
 }
 
 impl Drop for LabAnswer {

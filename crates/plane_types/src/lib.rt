@@ -19,12 +19,20 @@ mod filter;
 mod flow;
 mod frame;
 mod key;
+mod keyed;
+mod keys;
+mod lists;
+mod look;
 mod order;
 mod packet;
 mod pairs;
 mod routing;
+mod run;
+mod runs;
+mod spare_vec;
 mod table;
 mod tables;
+mod tag_map;
 mod tags;
 mod translation;
 mod verdict;
@@ -39,17 +47,20 @@ pub use filter::{far_of, in_range, is_protocol};
 pub use flow::{Passage, is_tracked, new_flow, opposite};
 pub use frame::{Frame, Key, KeyKind, KeyPart};
 pub use key::{is_key, is_kind};
+pub use lists::{Leases, TableLists, Tags};
 pub use packet::{Packet, is_unsupported, part_from, part_to};
 pub use pairs::{has_pair_mac, is_allowed};
 pub use routing::{
     Changed, Destined, Sourced, answered_to, by_any, by_float, kept_source, lower, rank_place,
     sourced_at, with_ends,
 };
+pub use spare_vec::SpareVec;
 pub use table::{
     BridgeKey, BridgeRow, BridgeTo, Carrier, FilterRow, FloatRow, InwardRow, LeaseRow,
     NeighbourRow, RouteRow, RouterPort, RouterTable, SetRow, TagRow, TapRow,
 };
-pub use tables::{HostTables, Leases, Tags};
+pub use tables::HostTables;
+pub use tag_map::TagMap;
 pub use tags::tag_of;
 pub use translation::{Use, answers, has_choice, takes, use_of_entry};
 pub use verdict::{AskAnswer, DropCause, Made, Outcome, Toward, TrailItem, Verdict};

@@ -1,12 +1,12 @@
-use crate::add::{add, take_port};
-use crate::rows::{external, group, id, mac, port, project, router, subnet, tagged};
-use crate::store::{INNER, OUTER, held, prefix, store};
+use crate::rows::{default_group, external, tagged, take_port};
+use crate::store::{INNER, OUTER, store};
 use api_check::{Inconsistent, first_broken};
 use api_types::{Gateway, Hop, Kind, Row, Rows, Vif};
 use net_addr::{Addr, Addr4, OutOfMemory, Text};
 use net_settings::default_settings;
 use std::alloc::Global;
 use std::test::Fail;
+use test_rows::{add, held, id, mac, port, prefix, project, router, subnet};
 
 // A port on a network that is not there.
 fn lose_network(alloc: Global, rows: &mut Rows) -> Result<(), OutOfMemory> {
@@ -96,7 +96,7 @@ fn spoil(alloc: Global, rows: &mut Rows, rule: u8) -> Result<(), OutOfMemory> {
         9 => misname_gateway(alloc, rows),
         // without the router's interface
         10 => take_port(alloc, rows, 2),
-        11 => add(alloc, rows, Row::Group(group(alloc, 70, "a")?)),
+        11 => add(alloc, rows, Row::Group(default_group(alloc, 70, "a")?)),
         12 => intrude(alloc, rows),
         13 => add(alloc, rows, Row::Policy(external(alloc, 70, 11)?)),
         14 => lead_nowhere(alloc, rows),

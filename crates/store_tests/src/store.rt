@@ -1,12 +1,11 @@
-ghost use Rattle.std.specs.Prelude.{◌≤◌};
-
-use crate::add::add;
-use crate::rows::{
-    external, floating, group, id, network, port, project, router, rule, service_port, subnet,
-};
-use api_types::{Fixed, Gateway, PortRow, Row, Rows, Segment, Target, Vif};
-use net_addr::{Addr, Addr4, Cidr, OutOfMemory, Prefix, Text};
+use crate::rows::{default_group, external};
+use api_types::{Direction, Gateway, Row, Rows, Segment, Target};
+use net_addr::{Addr4, OutOfMemory, Text};
 use std::alloc::Global;
+use test_rows::{
+    add, bound_port, floating, held, hold, id, network, port, prefix, project, router, rule,
+    service_port, subnet,
+};
 
 /// 10.0.0.0/24, and 203.0.113.0/24.
 pub(crate) const INNER: u32 = 0x0a00_0000;
@@ -16,32 +15,16 @@ pub(crate) const OUTER: u32 = 0xcb00_7100;
 /// The printed id of the router, 40.
 const ROUTER: &str = "00000001-0000-8000-8000-000000000028";
 
-pub(crate) fn prefix(base: u32, len: u8) -> Prefix
-    requires { len ≤ 32 }
-{
-    let addr = Addr::V4(Addr4(base));
-    Cidr { addr, len }.prefix()
-}
-
-pub(crate) fn held(subnet: u8, address: u32) -> Fixed {
-    Fixed {
-        subnet: id(subnet),
-        address: Addr::V4(Addr4(address)),
-    }
-}
-
-fn bind(alloc: Global, port: &mut PortRow) -> Result<(), OutOfMemory> {
-    port.host = Text::of(alloc, "c1")?;
-    port.vif = Vif::Ovs;
-    Ok(())
-}
-
 fn add_projects(alloc: Global, rows: &mut Rows) -> Result<(), OutOfMemory> {
     add(alloc, rows, Row::Project(project(alloc, 1, "a")?))?;
     add(alloc, rows, Row::Project(project(alloc, 2, "b")?))?;
-    add(alloc, rows, Row::Group(group(alloc, 1, "a")?))?;
-    add(alloc, rows, Row::Group(group(alloc, 2, "b")?))?;
-    add(alloc, rows, Row::Rule(rule(alloc, 3, 1)?))
+    add(alloc, rows, Row::Group(default_group(alloc, 1, "a")?))?;
+    add(alloc, rows, Row::Group(default_group(alloc, 2, "b")?))?;
+    add(
+        alloc,
+        rows,
+        Row::Rule(rule(alloc, 3, 1, Direction::Egress)?),
+    )
 }
 
 // An own network with DHCP, and one that is external to all.
@@ -64,35 +47,31 @@ fn add_networks(alloc: Global, rows: &mut Rows) -> Result<(), OutOfMemory> {
 
 // The DHCP port and an instance's port.
 fn add_inner_ports(alloc: Global, rows: &mut Rows) -> Result<(), OutOfMemory> {
-    let mut dhcp = service_port(alloc, 30, 10, "network:dhcp", held(12, INNER + 2))?;
-    bind(alloc, &mut dhcp)?;
+    let dhcp = service_port(alloc, 30, 10, held(12, INNER + 2), "network:dhcp", "")?;
     add(alloc, rows, Row::Port(dhcp))?;
-    let mut instance = port(alloc, 31, 10)?;
-    instance.fixed.push(held(12, INNER + 9))?;
+    let mut instance = bound_port(alloc, 31, 10, "c1", held(12, INNER + 9))?;
     instance.groups.push(id(1))?;
-    bind(alloc, &mut instance)?;
     add(alloc, rows, Row::Port(instance))
 }
 
-// The ports of the router and the floating address's own.
-fn add_outer_ports(alloc: Global, rows: &mut Rows) -> Result<(), OutOfMemory> {
-    let mut inside = service_port(
-        alloc,
-        32,
-        10,
-        "network:router_interface",
-        held(12, INNER + 1),
-    )?;
-    inside.device = Text::of(alloc, ROUTER)?;
-    bind(alloc, &mut inside)?;
+// The ports of the router.
+fn add_router_ports(alloc: Global, rows: &mut Rows) -> Result<(), OutOfMemory> {
+    let owner = "network:router_interface";
+    let inside = service_port(alloc, 32, 10, held(12, INNER + 1), owner, ROUTER)?;
     add(alloc, rows, Row::Port(inside))?;
-    let mut outside = service_port(alloc, 33, 11, "network:router_gateway", held(13, OUTER + 5))?;
+    let owner = "network:router_gateway";
+    let mut outside = service_port(alloc, 33, 11, held(13, OUTER + 5), owner, ROUTER)?;
     outside.project = Text::new(alloc);
-    outside.device = Text::of(alloc, ROUTER)?;
-    bind(alloc, &mut outside)?;
-    add(alloc, rows, Row::Port(outside))?;
-    let mut own = service_port(alloc, 34, 11, "network:floatingip", held(13, OUTER + 7))?;
+    add(alloc, rows, Row::Port(outside))
+}
+
+// The floating address's own port, on no host.
+fn add_own_port(alloc: Global, rows: &mut Rows) -> Result<(), OutOfMemory> {
+    let mut own = port(alloc, 34, 11)?;
+    hold(&mut own, held(13, OUTER + 7))?;
     own.project = Text::new(alloc);
+    own.owner = Text::of(alloc, "network:floatingip")?;
+    own.secured = false;
     add(alloc, rows, Row::Port(own))
 }
 
@@ -123,7 +102,8 @@ pub(crate) fn store(alloc: Global) -> Result<Rows, OutOfMemory> {
     add_projects(alloc, &mut rows)?;
     add_networks(alloc, &mut rows)?;
     add_inner_ports(alloc, &mut rows)?;
-    add_outer_ports(alloc, &mut rows)?;
+    add_router_ports(alloc, &mut rows)?;
+    add_own_port(alloc, &mut rows)?;
     add_router(alloc, &mut rows)?;
     add_floating(alloc, &mut rows)?;
     Ok(rows)

@@ -12,18 +12,18 @@ use Rattle.host_plane.proofs.router.routed_by.Goals as goal
 pub returns-in-Some : goal.returns-in-Some
 returns-in-Some c =
     let r = c.args.router.now in
-    let v = table_view c.args.tables.now r in
+    let v = table_view c.args.tables.now.lists r in
     let uses = uses_by r.snat r.gateway r.router (c.args.entries.now ++ c.args.fresh.now) in
     c.send_on.ensures
-    ∙ ap (table_routed c.args.tables.now r)
+    ∙ ap (table_routed c.args.tables.now.lists r)
     (out_found v uses (leg_at c.args.port.now) (changed_of c.args.destined.now.by) (packet_of c.args.destined.now.packet) c.next_hop-hop.result _ _ (leg_at c.in-Some.out.now) (option_map sourced_of c.find_source-source.result) (sent (leg_at c.in-Some.out.now) c.next_hop-hop.result (option_map sourced_of c.find_source-source.result))
     (leg_among c.args.row.now.port r.ports ∙ ap (option_map leg_at) (sym c.port_of.ensures ∙ ap option_copied c.in-Some.is)) c.next_hop-hop.ensures c.find_source-source.ensures refl)
 
 pub returns-in-None : goal.returns-in-None
 returns-in-None c =
     let r = c.args.router.now in
-    let v = table_view c.args.tables.now r in
+    let v = table_view c.args.tables.now.lists r in
     let uses = uses_by r.snat r.gateway r.router (c.args.entries.now ++ c.args.fresh.now) in
     c.dropped.ensures
-    ∙ ap (table_routed c.args.tables.now r)
+    ∙ ap (table_routed c.args.tables.now.lists r)
     (sym (ap (routed_out v uses (leg_at c.args.port.now) (changed_of c.args.destined.now.by) (packet_of c.args.destined.now.packet) (unwrap_or c.args.row.now.next (destination c.args.destined.now.packet.ends))) (leg_among c.args.row.now.port r.ports ∙ ap (option_map leg_at) (sym c.port_of.ensures ∙ ap option_copied c.in-None.is))))

@@ -12,5 +12,5 @@ returns-in-Some-with_key c =
     let r = c.args.router.now in
     let entries = c.args.entries.now ++ c.args.fresh.now in
     let uses_are : uses_at r.router c.in-Some.outer entries ≡ uses_by r.snat r.gateway r.router entries = sym (ap (λ b. uses_by b r.gateway r.router entries) c.requires ∙ ap (λ g. uses_by true g r.router entries) c.in-Some.is) in
-    gateway_kept (table_view c.args.tables.now r) (uses_by r.snat r.gateway r.router entries) (packet_of c.args.packet.now) r.gateway c.in-Some.outer c.key.result (option_map use_of c.with_key.result) (use_of c.in-Some-with_key.entry) (packet_of c.sourced_at.result)
+    gateway_kept (table_view c.args.tables.now.lists r) (uses_by r.snat r.gateway r.router entries) (packet_of c.args.packet.now) r.gateway c.in-Some.outer c.key.result (option_map use_of c.with_key.result) (use_of c.in-Some-with_key.entry) (packet_of c.sourced_at.result)
     c.in-Some.is c.key.ensures (c.with_key.ensures ∙ ap (find (λ (u : Use). key_eq u.key c.key.result)) uses_are) (ap (option_map use_of) c.in-Some-with_key.is) c.sourced_at.ensures

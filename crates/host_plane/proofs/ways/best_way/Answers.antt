@@ -1,14 +1,12 @@
-use Rattle.std.proofs.Common.{arith}
-use Rattle.std.specs.Prelude.{option_copied, option_map}
+use Rattle.std.proofs.Common.{◌∙◌, ap}
+use Rattle.api_types.specs.Table.{ident_eq}
+use Rattle.plane_types.specs.Routing.{best_way}
 use Rattle.plane_types.specs.TableStep.{way_at}
-use Rattle.host_plane.proofs.RouteLists.{best_next, best_of_none}
+use Rattle.plane_types.specs.declared.table.RouteRow.{RouteRow}
+use Rattle.plane_types.proofs.RunLemmas.{made_near}
 use Rattle.host_plane.proofs.ways.best_way.Goals as goal
 
-pub loop-left-init : goal.loop-left-init
-loop-left-init c = (omega arith, best_of_none c.args.router c.args.destination.now c.as_slice-rows.result.now)
-
-pub loop-left-preserved : goal.loop-left-preserved
-loop-left-preserved c = (
-  omega (arith, c.loop-left.invariant.0),
-  best_next c.args.router c.args.destination.now c.as_slice-rows.result.now c.loop-left.left c.index-rows-left.result (option_map way_at (option_copied c.loop-left.best)) (option_map way_at (option_copied c.better_for-best.result)) c.loop-left-test.true (omega (arith, c.loop-left.invariant.0, c.loop-left-test.true)) c.index-rows-left.is c.loop-left.invariant.1 c.better_for-best.ensures,
-)
+pub returns : goal.returns
+returns c =
+    c.best_among.ensures
+    ∙ ap (best_way c.args.destination.now) (made_near (λ (r : RouteRow). ident_eq c.args.router r.router) way_at c.routes_near.result.now c.args.tables.now.lists.routes c.routes_near.ensures)

@@ -7,5 +7,5 @@ use Rattle.l2_agent.proofs.sets.set_rows.Goals as goal
 pub returns : goal.returns
 unfolding set_rows
 returns c =
-    let rows = c.args.rows.now in
-    c.in_ok-sets.ensures ∙ (λ j. flat_map (λ (g : GroupRow). set_if rows (c.in_ok-remote.ensures g.id j) g) rows.groups)
+    let rows = c.in_ok-ports.ensures in
+    c.in_ok-sets.ensures ∙ (λ j. flat_map (λ (g : GroupRow). set_if (rows j) (c.in_ok-remote.ensures g.id j) g) (rows j).groups)

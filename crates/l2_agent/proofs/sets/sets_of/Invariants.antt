@@ -8,4 +8,4 @@ use Rattle.l2_agent.proofs.sets.sets_of.Given as goal
 -- the rows are those of the groups so far
 abbrev pub invariant-loop-group : goal.invariant-loop-group
 invariant-loop-group l =
-    l.sets ≡ flat_map (λ (g : GroupRow). set_if l.rows (contains ident_eq l.remote g.id) g) (take l.group-index l.group-items)
+    l.sets ≡ flat_map (λ (g : GroupRow). set_if l.ports (contains ident_eq l.remote g.id) g) (take l.group-index l.group-items)

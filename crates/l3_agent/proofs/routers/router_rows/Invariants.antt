@@ -6,5 +6,5 @@ use Rattle.l3_agent.proofs.routers.router_rows.Given as goal
 -- the rows so far, and those of the routers that are left, are all
 abbrev pub invariant-loop-router : goal.invariant-loop-router
 invariant-loop-router l =
-    l.routers ++ filter_map (λ r. if hosted l.host r then Some (router_row_of l.rows l.tags r) else None) (drop l.router-index l.router-items)
-    ≡ filter_map (λ r. if hosted l.host r then Some (router_row_of l.rows l.tags r) else None) l.rows.routers
+    l.routers ++ filter_map (λ r. if hosted l.host r then Some (router_row_of l.legs l.tags r) else None) (drop l.router-index l.router-items)
+    ≡ filter_map (λ r. if hosted l.host r then Some (router_row_of l.legs l.tags r) else None) l.legs.routers

@@ -7,5 +7,5 @@ use Rattle.l3_agent.proofs.routes.route_rows.Given as goal
 -- the rows so far, and those of the routers that are left, are all
 abbrev pub invariant-loop-router : goal.invariant-loop-router
 invariant-loop-router l =
-    l.routes ++ flat_map (λ r. if hosted l.host r then map (route_row r.id) (ways_of l.rows r) else []) (drop l.router-index l.router-items)
-    ≡ flat_map (λ r. if hosted l.host r then map (route_row r.id) (ways_of l.rows r) else []) l.rows.routers
+    l.routes ++ flat_map (λ r. if hosted l.host r then map (route_row r.id) (ways_of l.legs r) else []) (drop l.router-index l.router-items)
+    ≡ flat_map (λ r. if hosted l.host r then map (route_row r.id) (ways_of l.legs r) else []) l.legs.routers

@@ -12,6 +12,6 @@ use Rattle.plane_rows.proofs.ways.add_connected.Given as goal
 abbrev pub invariant-loop-port : goal.invariant-loop-port
 invariant-loop-port l =
     map way_of l.ways.items
-    ++ flat_map (λ (p : PortRow). filter_map (λ (f : Fixed). connected_by (map (λ q. q.now) l.legs) (subnet_named l.rows f.subnet)) (in_order by_address p.fixed)) (map (λ p. p.now) (drop l.port-index l.legs))
+    ++ flat_map (λ (p : PortRow). filter_map (λ (f : Fixed). connected_by l.exits (subnet_named l.rows f.subnet)) (in_order by_address p.fixed)) (map (λ p. p.now) (drop l.port-index l.legs))
     ≡ map way_of l.fn.ways.items
-    ++ flat_map (λ (p : PortRow). filter_map (λ (f : Fixed). connected_by (map (λ q. q.now) l.legs) (subnet_named l.rows f.subnet)) (in_order by_address p.fixed)) (map (λ p. p.now) l.legs)
+    ++ flat_map (λ (p : PortRow). filter_map (λ (f : Fixed). connected_by l.exits (subnet_named l.rows f.subnet)) (in_order by_address p.fixed)) l.exits

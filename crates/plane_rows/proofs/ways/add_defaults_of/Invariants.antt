@@ -8,5 +8,5 @@ use Rattle.plane_rows.proofs.ways.add_defaults_of.Given as goal
 -- those so far, and the routes by the gateways of the subnets that are left, are all
 abbrev pub invariant-loop-fixed : goal.invariant-loop-fixed
 invariant-loop-fixed l =
-    map way_of l.ways.items ++ flat_map (λ (f : Fixed). default_by (map (λ p. p.now) l.legs) (subnet_named l.rows f.subnet)) (drop l.fixed-index l.fixed-items)
-    ≡ map way_of l.fn.ways.items ++ flat_map (λ (f : Fixed). default_by (map (λ p. p.now) l.legs) (subnet_named l.rows f.subnet)) l.fixed-items
+    map way_of l.ways.items ++ flat_map (λ (f : Fixed). default_by l.exits (subnet_named l.rows f.subnet)) (drop l.fixed-index l.fixed-items)
+    ≡ map way_of l.fn.ways.items ++ flat_map (λ (f : Fixed). default_by l.exits (subnet_named l.rows f.subnet)) l.fixed-items

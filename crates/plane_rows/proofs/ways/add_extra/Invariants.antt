@@ -7,5 +7,5 @@ use Rattle.plane_rows.proofs.ways.add_extra.Given as goal
 -- those so far, and the routes that are left, are all
 abbrev pub invariant-loop-hop : goal.invariant-loop-hop
 invariant-loop-hop l =
-    map way_of l.ways.items ++ filter_map (extra_way l.rows (map (λ p. p.now) l.legs)) (drop l.hop-index l.routes)
-    ≡ map way_of l.fn.ways.items ++ filter_map (extra_way l.rows (map (λ p. p.now) l.legs)) l.routes
+    map way_of l.ways.items ++ filter_map (extra_way l.rows l.exits) (drop l.hop-index l.routes)
+    ≡ map way_of l.fn.ways.items ++ filter_map (extra_way l.rows l.exits) l.routes

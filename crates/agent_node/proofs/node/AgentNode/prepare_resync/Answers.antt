@@ -6,4 +6,4 @@ use Rattle.agent_node.proofs.node.AgentNode.prepare_resync.Goals as goal
 pub make-requires-clause-tags : goal.make-requires-clause-tags
 make-requires-clause-tags c =
     let node = c.self.inside in
-    subst AreTags (sym c.in_ok-old.ensures) (are_tags node.rows node.name node.tables.tags c.self.invariant.realised.tags)
+    subst AreTags (sym c.in_ok-old.ensures) (are_tags node.rows node.name node.tables.lists.tags c.self.invariant.realised.tags)

@@ -13,6 +13,6 @@ invariant_of-self c =
     let same : ready.name ≡ node.name = ap (λ (r : Ready). r.name) c.ready.view_is ∙ c.requires.name ∙ sym (ap (λ (n : Node). n.name) c.self.view_is) in
     record {
       consistent = c.ready.invariant.consistent;
-      realised = subst (λ name. Realises ready.rows name ready.tables) same c.ready.invariant.realised;
-      placed = subst (λ (es : List Entry). IsPlaced (record { name = node.name; tables = ready.tables; entries = es })) (sym c.keep_placed.ensures.items) (stay_placed node.name node.tables ready.tables node.entries.items c.self.invariant.placed);
+      realised = subst (λ name. Realises ready.rows name ready.tables.lists) same c.ready.invariant.realised;
+      placed = subst (λ (es : List Entry). IsPlaced (record { name = node.name; tables = ready.tables.lists; entries = es })) (sym c.keep_placed.ensures.items) (stay_placed node.name node.tables.lists ready.tables.lists node.entries.items c.self.invariant.placed);
     }

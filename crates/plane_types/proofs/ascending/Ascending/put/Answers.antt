@@ -1,4 +1,4 @@
-use Rattle.std.proofs.Common.{◌≡◌, ◌∙◌, List, sym, subst, rules, of_calls}
+use Rattle.std.proofs.Common.{◌≡◌, ◌∙◌, sym, subst, rules, of_calls}
 use Rattle.std.specs.List.Sorted.{IsSortedBy}
 use Rattle.std.proofs.lemmas.List.Sorted.{IsPartitionPoint-from_clause}
 use Rattle.api_types.specs.Ascending.{put_in}
