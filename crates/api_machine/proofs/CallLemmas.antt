@@ -1,51 +1,60 @@
--- A change leads where the step leads.
-use Rattle.std.proofs.Common.{◌≡◌, ℕ, zero, suc, ◌+◌, ◌-◌, ◌<◌, ◌^◌, List, [], ◌∷◌, ◌++◌, Bool, true, false, Option, Some, None, length, refl, ap, sym, subst, ◌∙◌, arith, lit<, lit≤, if◌then◌else◌}
-use Rattle.std.specs.Prelude.{◌==◌, not}
-use Rattle.std.specs.List.{IsDistinct}
-use Rattle.std.proofs.lemmas.Bool.Decides.{nat_tests}
-use Rattle.api_types.specs.Consistent.{IsConsistent}
+-- What accepted calls say of what they looked for, and which rows their edits make.
+use Rattle.std.proofs.Common.{◌≡◌, ◌≤◌, ◌∙◌, ℕ, List, Bool, true, false, Option, Some, None, slice_get, slice_set, refl, ap, sym, arith}
+use Rattle.std.specs.Prelude.{option_and_then, option_map, not, count_by, ◌&&◌, ◌||◌}
 use Rattle.api_types.specs.Ident.{Ident}
-use Rattle.api_types.specs.Lists.{is_empty}
-use Rattle.api_types.specs.Outcome.{Outcome, Moved}
-use Rattle.api_types.specs.Printed.{Reply}
-use Rattle.api_types.specs.Registration.{Drawing, draw_of, drawn_id, ident}
-use Rattle.api_types.specs.Rows.{Fits, FitsItem, after, after_item}
 use Rattle.api_types.specs.RowLists.{RowLists}
-use Rattle.api_types.specs.declared.change.Item.{Item}
-use Rattle.api_types.proofs.ChangeLemmas.{after-push, Fits-push}
-use Rattle.net_settings.specs.Defaults.{default_parts}
-use Rattle.net_settings.specs.Rules.{MeetsRules}
-use Rattle.row_laws.specs.Drawn.{IsDrawing}
-use Rattle.row_laws.proofs.DrawnKept.{draws}
-use Rattle.api_steps.specs.State.{State, drawing_at, is_last}
-use Rattle.api_machine.specs.Plan.{Draws, Leads, LeadsTo}
+use Rattle.api_types.specs.Table.{ident_eq}
+use Rattle.api_types.specs.Consistent.{IsConsistent}
+use Rattle.api_types.specs.declared.port.PortRow.{PortRow}
+use Rattle.api_types.specs.declared.router.RouterRow.{RouterRow}
+use Rattle.api_types.specs.declared.floating.FloatingRow.{FloatingRow}
+use Rattle.api_types.proofs.ListLemmas.{none_some, some_equal}
+use Rattle.api_types.proofs.NameLemmas.{ident_itself}
+use Rattle.api_machine.proofs.OutcomeLemmas.{put_once}
+use Rattle.call_parts.specs.Edits.{put_in}
 
-pub leads_by : (state : State) (outcome : Outcome) (change : List Item) (reply : Reply) (end : RowLists) → LeadsTo state.rows change end → outcome ≡ Moved end reply → IsConsistent end → state.version < 2 ^ 64 - 1
-    → Leads state outcome change reply
-leads_by state outcome change reply end leads moved consistent room = record {
-  fits = leads.fits;
-  moved = moved ∙ ap (λ rows. Moved rows reply) (sym leads.leads);
-  consistent = subst IsConsistent (sym leads.leads) consistent;
-  room = room;
-}
+-- options
 
-pub not_last : (state : State) → state.version < 2 ^ 64 - 1 → is_last state ≡ false
-not_last state room = grind (arith, nat_tests)
+pub unmapped : {X Y : Type 0} (f : X → Y) (o : Option X) → option_map f o ≡ None → o ≡ None
+unmapped f None h = refl
+unmapped f (Some x) h = none_some (f x) _ (sym h)
 
--- one more item
-pub and_then : (rows : RowLists) (change : List Item) (item : Item) → Fits rows change → FitsItem (after rows change) item → LeadsTo rows (change ++ item ∷ []) (after_item (after rows change) item)
-and_then rows change item fits next = record { fits = Fits-push rows change item fits next; leads = after-push rows change item }
+pub mapped : {X Y : Type 0} (f : X → Y) (o : Option X) (y : Y) → option_map f o ≡ Some y → (x : X) × (o ≡ Some x) × (f x ≡ y)
+mapped f None y h = none_some y _ h
+mapped f (Some x) y h = (x, refl, some_equal (f x) y h)
 
--- what was drawn, as the step says it
-abbrev pub drawing : RowLists → List Item → ℕ → ℕ → Drawing
-drawing rows change ordinal first = record { rows = after rows change; ordinal = ordinal; first = first }
+pub thence : {X Y : Type 0} (f : X → Option Y) (o : Option X) (y : Y) → option_and_then f o ≡ Some y → (x : X) × (o ≡ Some x) × (f x ≡ Some y)
+thence f None y h = none_some y _ h
+thence f (Some x) y h = (x, refl, h)
 
-module _ (state : State) (project : List ℕ) (change : List Item) (ordinal first : ℕ) (room : state.version < 2 ^ 64 - 1) (d : Draws state.rows project 1 change ordinal first) where
-  pub drawn_at : drawing_at state project 1 ≡ Some (drawing state.rows change ordinal first)
-  drawn_at = (λ j. if not_last state room j then None else draw_of state.rows project 1) ∙ d.drawn
+-- what is refused of what is there
+pub refused_at : {X Y : Type 0} (f : X → Option Y) (o : Option X) (x : X) → o ≡ Some x → option_and_then f o ≡ None → f x ≡ None
+refused_at f o x is h = sym (ap (option_and_then f) is) ∙ h
 
-  pub drawn_so : IsConsistent state.rows → not (is_empty project) ≡ true → IsDrawing state.rows project 1 (drawing state.rows change ordinal first)
-  drawn_so c named = draws state.rows project 1 (drawing state.rows change ordinal first) c named (lit< tt) d.drawn
+-- a test that fails under a negation, or with one
+pub not_none : (b : Bool) → not b ≡ false → b ≡ true
+not_none true h = refl
+not_none false h = sym h
 
-  pub id_is : ident ordinal first ≡ drawn_id (drawing state.rows change ordinal first) 0
-  id_is = ap (ident ordinal) (omega arith)
+-- who may name another project is an administrator, where nothing else asks for one
+pub none_for_other : (a b admin : Bool) → (a || b) && not admin ≡ false → not admin && b ≡ false
+none_for_other a b true h = refl
+none_for_other true true false h = h
+none_for_other false true false h = h
+none_for_other a false false h = refl
+
+-- rows that are put in by their ids
+
+module _ {R : Type 0} (id_of : R → Ident) where
+  pub put_at : (rows : List R) (k : ℕ) (old new : R) → slice_get rows k ≡ Some old → id_of new ≡ id_of old → count_by (λ r. ident_eq (id_of new) (id_of r)) rows ≤ 1 → put_in id_of new rows ≡ slice_set rows k new
+  put_at rows k old new at same once = put_once (λ r. ident_eq (id_of new) (id_of r)) rows k old new at (ap (ident_eq (id_of new)) (sym same) ∙ ident_itself (id_of new)) once
+
+module _ (rows : RowLists) (c : IsConsistent rows) where
+  pub port_put : (k : ℕ) (old new : PortRow) → slice_get rows.ports k ≡ Some old → new.id ≡ old.id → put_in (λ r. r.id) new rows.ports ≡ slice_set rows.ports k new
+  port_put k old new at same = put_at (λ (r : PortRow). r.id) rows.ports k old new at same (omega (arith, c.numbered.ids new.id))
+
+  pub router_put : (k : ℕ) (old new : RouterRow) → slice_get rows.routers k ≡ Some old → new.id ≡ old.id → put_in (λ r. r.id) new rows.routers ≡ slice_set rows.routers k new
+  router_put k old new at same = put_at (λ (r : RouterRow). r.id) rows.routers k old new at same (omega (arith, c.numbered.ids new.id))
+
+  pub floating_put : (k : ℕ) (old new : FloatingRow) → slice_get rows.floatings k ≡ Some old → new.id ≡ old.id → put_in (λ r. r.id) new rows.floatings ≡ slice_set rows.floatings k new
+  floating_put k old new at same = put_at (λ (r : FloatingRow). r.id) rows.floatings k old new at same (omega (arith, c.numbered.ids new.id))

@@ -1,11 +1,90 @@
-pub mod DrawLemmas
-pub mod ShownAfter
-pub mod DroppedLemmas
-pub mod PlaceLemmas
-pub mod FoundLemmas
-pub mod ReplacedLemmas
-pub mod GroupLemmas
-pub mod CallLemmas
-pub mod NetworkLemmas
-pub mod PortLemmas
-pub mod ApartLemmas
+mod AimLemmas
+mod ApartLemmas
+pub mod BuiltLaws
+mod CallLemmas
+mod CallsKept
+mod CarriedKept
+mod ChoiceLemmas
+mod ChosenLemmas
+mod DeviceAlike
+mod Disassociated
+mod DrawnAlike
+mod DroppedRows
+mod EditLemmas
+mod EditedRows
+mod FixedApart
+mod FixedFits
+mod FloatingCallsApart
+mod FloatingMade
+mod FloatingsKept
+mod FootingLemmas
+mod FoundAlike
+mod FoundTold
+mod GatewayChosen
+mod GatewayStays
+mod GivenLemmas
+mod GroupsApart
+mod HeldAlike
+mod HiddenNetwork
+mod HiddenRows
+mod HiddenUntold
+mod InterfacesApart
+mod InterfacesKept
+mod LeavingLemmas
+mod ListLemmas
+mod ListsApart
+mod NearAlike
+mod NetworkCallsApart
+mod NetworksApart
+mod NetworksKept
+mod NoService
+mod OldAddresses
+mod OpenNeeds
+mod OpenPolicies
+mod OutcomeLemmas
+mod Own
+mod OwnAlike
+mod OwnChecks
+mod OwnFloatings
+mod OwnGroups
+mod OwnInterfaces
+mod OwnNetworks
+mod OwnPolicies
+mod OwnPorts
+pub mod OwnRefusals
+mod OwnRouters
+mod OwnSubnets
+mod PlanLemmas
+mod PoliciesApart
+mod PolicyKept
+mod PolicyPermits
+mod PoolHosts
+mod PortBodies
+mod PortCallsApart
+mod PortCreated
+mod PortDeleted
+mod PortUpdated
+mod PortsApart
+mod ReachAlike
+mod ReadsApart
+mod RoomLeft
+mod RouteLemmas
+mod RouterCallsApart
+mod RouterChanges
+mod RouterLeaves
+mod RoutersKept
+mod RulesKept
+mod ServedAlike
+mod ServiceMade
+mod ServingBegins
+mod ServingEnds
+mod ShownAlike
+mod SubnetCreated
+mod SubnetDeleted
+mod SubnetForms
+mod SubnetUpdated
+mod SubnetsApart
+mod TypedKept
+mod TypedRows
+mod WholeStepApart
+mod WiderLaw

@@ -1,12 +1,24 @@
 -- Two states that a tenant can't tell apart: another one with consistent rows, in which it has the same footing.
-use Rattle.std.specs.Prelude.{◌≡◌, false}
+use Rattle.std.specs.Prelude.{◌≡◌, false, not, true}
 use Rattle.api_types.specs.Consistent.{IsConsistent}
+use Rattle.api_types.specs.Lists.{is_empty}
+use Rattle.api_types.specs.Outcome.{Outcome}
+use Rattle.api_types.specs.Refusing.{told}
+use Rattle.api_types.specs.declared.call.Call.{Call}
 use Rattle.api_types.specs.declared.call.Caller.{Caller}
-use Rattle.net_settings.specs.Defaults.{default_parts}
-use Rattle.api_steps.specs.Footing.{footing}
-use Rattle.api_steps.specs.State.{State}
+use Rattle.net_settings.specs.Settings.{SettingsParts}
+use Rattle.api_machine.specs.Footing.{footing}
+use Rattle.call_parts.specs.State.{State}
 
-pub record AreAlike (caller : Caller) (now other : State) : Type 0 where
+pub record AreAlike (settings : SettingsParts) (caller : Caller) (now other : State) : Type 0 where
   pub tenant : caller.admin ≡ false
   pub consistent : IsConsistent other.rows
-  pub same : footing default_parts now caller ≡ footing default_parts other caller
+  pub same : footing settings now caller ≡ footing settings other caller
+
+-- a tenant, whose project has a name, is told the same of each call at any two consistent states in which it has the same footing
+abbrev pub KeepsApart : {F : Type 0} → (State → Caller → F) → (State → Caller → Call → Outcome) → Type 0
+KeepsApart footing_of step =
+    (caller : Caller) (s t : State)
+    → caller.admin ≡ false → not (is_empty caller.project) ≡ true → IsConsistent s.rows → IsConsistent t.rows
+    → footing_of s caller ≡ footing_of t caller
+    → (call : Call) → told (step s caller call) ≡ told (step t caller call)

@@ -1,5 +1,9 @@
 pub mod Alike
-pub mod Groups
-pub mod Items
-pub mod Open
+pub mod BuiltStep
+pub mod Footing
+pub mod Kept
+pub mod Machine
 pub mod Plan
+pub mod Reads
+pub mod WholeStep
+pub mod WiderFooting

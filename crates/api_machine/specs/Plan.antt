@@ -1,50 +1,47 @@
 -- What a plan says: it answers as the machine's step does, and its change leads where the step leads.
-use Rattle.std.specs.Prelude.{◌≡◌, ◌⊎◌, ℕ, ◌-◌, ◌^◌, ◌<◌, List, Option, Some, None, Result, Ok, Err, slice_get}
-use Rattle.api_types.specs.Consistent.{IsConsistent}
-use Rattle.api_types.specs.Outcome.{Outcome, Refused, Told, Moved}
+use Rattle.std.specs.Prelude.{◌≡◌, ◌-◌, ◌^◌, ◌<◌, List, Option, Some, None}
+use Rattle.api_types.specs.Outcome.{Moved, Outcome, Told}
 use Rattle.api_types.specs.Printed.{Reply, reply_of}
-use Rattle.api_types.specs.Registration.{draw_of}
-use Rattle.api_types.specs.Rows.{after, Fits}
-use Rattle.api_types.specs.RowLists.{RowLists}
+use Rattle.api_types.specs.Rows.{Fits, after}
 use Rattle.api_types.specs.declared.change.Item.{Item}
 use Rattle.api_types.specs.declared.refusal.Refusal.{Refusal}
-use Rattle.api_types.specs.declared.refusal.Refusal.TheVariants.{OutOfMemory}
-use Rattle.api_steps.specs.State.{State}
-use Rattle.api_machine.specs.declared.machine.Planned.{Planned}
+use Rattle.net_settings.specs.Settings.{SettingsParts}
+use Rattle.api_machine.specs.Kept.{AreKept}
+use Rattle.api_machine.specs.declared.planned.Planned.{Planned}
+use Rattle.call_parts.specs.Drafts.{DraftParts, LeadsTo}
+use Rattle.call_parts.specs.State.{State}
 
--- the change fits the rows, and draws so many ids for the project with this name, from this one on
-pub record Draws (rows : RowLists) (name : List ℕ) (many : ℕ) (change : List Item) (ordinal first : ℕ) : Type 0 where
-  pub fits : Fits rows change
-  pub drawn : draw_of rows name many ≡ Some (record { rows = after rows change; ordinal = ordinal; first = first })
+-- the change leads from the draft's first rows to its last ones, and the answer is this reply
+abbrev pub IsDraftedAs : DraftParts → Reply → Option (List Item) → Reply → Type 0
+IsDraftedAs draft reply None told = ⊥
+IsDraftedAs draft reply (Some change) told = LeadsTo draft.start change draft.rows × (told ≡ reply)
 
--- the change fits the rows, and leads to these
-pub record LeadsTo (rows : RowLists) (change : List Item) (end : RowLists) : Type 0 where
-  pub fits : Fits rows change
-  pub leads : after rows change ≡ end
+abbrev pub IsDrafted : DraftParts → Reply → Planned → Type 0
+IsDrafted draft reply planned = IsDraftedAs draft reply planned.change (reply_of planned.answer)
 
-abbrev pub StandsIn : {R : Type 0} → List R → R → Type 0
-StandsIn rows r = (k : ℕ) × (slice_get rows k ≡ Some r)
-
--- the change fits the rows and leads where the step leads, with the step's answer; the rows after it are consistent, and the version can rise
-pub record Leads (state : State) (outcome : Outcome) (change : List Item) (reply : Reply) : Type 0 where
+-- the change fits the rows and leads where the step leads, with the step's answer
+pub record MovesBy (state : State) (outcome : Outcome) (change : List Item) (reply : Reply) : Type 0 where
   pub fits : Fits state.rows change
   pub moved : outcome ≡ Moved (after state.rows change) reply
-  pub consistent : IsConsistent (after state.rows change)
+
+-- without a change it tells the step's answer
+abbrev pub AnswersAs : State → Outcome → Option (List Item) → Reply → Type 0
+AnswersAs state outcome None reply = outcome ≡ Told reply
+AnswersAs state outcome (Some change) reply = MovesBy state outcome change reply
+
+abbrev pub Answers : State → Outcome → Planned → Type 0
+Answers state outcome planned = AnswersAs state outcome planned.change (reply_of planned.answer)
+
+-- moreover the rows after the change are as sound as those before, and the version can rise
+pub record Leads (settings : SettingsParts) (state : State) (outcome : Outcome) (change : List Item) (reply : Reply) : Type 0 where
+  pub fits : Fits state.rows change
+  pub moved : outcome ≡ Moved (after state.rows change) reply
+  pub kept : AreKept settings state.rows (after state.rows change)
   pub room : state.version < 2 ^ 64 - 1
 
--- the refusal is the step's, or memory could not be had
-abbrev pub IsRefusalOf : Outcome → Refusal → Type 0
-IsRefusalOf outcome refusal = (refusal ≡ OutOfMemory) ⊎ (outcome ≡ Refused refusal)
+abbrev pub PlansAs : SettingsParts → State → Outcome → Option (List Item) → Reply → Type 0
+PlansAs settings state outcome None reply = outcome ≡ Told reply
+PlansAs settings state outcome (Some change) reply = Leads settings state outcome change reply
 
--- a plan without a change tells the step's answer
-abbrev pub PlansAs : State → Outcome → Option (List Item) → Reply → Type 0
-PlansAs state outcome None reply = outcome ≡ Told reply
-PlansAs state outcome (Some change) reply = Leads state outcome change reply
-
-abbrev pub Plans : State → Outcome → Planned → Type 0
-Plans state outcome planned = PlansAs state outcome planned.change (reply_of planned.answer)
-
--- a check passes where there is no refusal, and else answers it
-abbrev pub Passes : Option Refusal → Result (Unit {0}) Refusal → Type 0
-Passes refusal (Ok passed) = refusal ≡ None
-Passes refusal (Err e) = (e ≡ OutOfMemory) ⊎ (refusal ≡ Some e)
+abbrev pub Plans : SettingsParts → State → Outcome → Planned → Type 0
+Plans settings state outcome planned = PlansAs settings state outcome planned.change (reply_of planned.answer)

@@ -1,43 +1,95 @@
-ghost use Rattle.std.specs.Prelude.{◌≡◌, ◌||◌, [], codes};
-ghost use Rattle.std.specs.Str.{bytes_eq};
-ghost use Rattle.api_types.specs.Lists.{is_empty};
-ghost use Rattle.api_types.specs.Given.{value_or};
-ghost use Rattle.api_steps.specs.NotBuilt.{is_network_ahead as is_network_ahead_of, is_port_ahead as is_port_ahead_of};
+//! What isn't built yet.
+ghost use Rattle.std.specs.Prelude.{◌≡◌};
+ghost use Rattle.api_machine.specs.BuiltStep.{is_ahead as ahead_of, is_creation_ahead as creation_ahead_of, is_deletion_ahead as deletion_ahead_of, is_kind_ahead as kind_ahead_of, is_port_ahead as port_ahead_of, is_update_ahead as update_ahead_of};
+ghost use Rattle.plan_ports.specs.Built.{has_own_parts as own_parts_of, has_subnet as subnet_of};
 
-use crate::given::is_given;
-use api_types::{Given, NetworkForm, PortForm};
-use net_addr::Text;
+use api_policy::network_seen;
+use api_types::{Call, Caller, Form, Kind, NetworkRow, PortForm, Rows};
+use call_parts::{is_given, value_of};
 
-/// Whether the body of a network gives attributes that aren't built yet.
-pub fn is_network_ahead(form: &NetworkForm) -> bool
-    ensures { result ≡ is_network_ahead_of form.now }
+fn is_kind_ahead(kind: Kind) -> bool
+    ensures { result ≡ kind_ahead_of kind }
 {
-    is_given(&form.shared)
-        || is_given(&form.router_external)
-        || is_given(&form.provider_network_type)
-        || is_given(&form.provider_physical_network)
-        || is_given(&form.provider_segmentation_id)
-}
-
-// Whether no host is named, or c1.
-fn is_near_host(host: &Given<Text>) -> bool
-    ensures { result
-        ≡ is_empty (value_or [] host.now) || bytes_eq (value_or [] host.now) (codes "c1") }
-{
-    match host {
-        Given::Is(host) => host.is_empty() || host.as_str() == "c1",
+    match kind {
+        Kind::Network | Kind::Port | Kind::Policy => false,
         _ => true,
     }
 }
 
-/// Whether the body of a port needs what isn't built yet: a MAC address that is generated,
-/// addresses, pairs or groups of its own, or a host other than c1.
-pub fn is_port_ahead(form: &PortForm) -> bool
-    ensures { result ≡ is_port_ahead_of form.now }
+fn has_own_parts(form: &PortForm) -> bool
+    ensures { result ≡ own_parts_of form.now }
 {
     !is_given(&form.mac_address)
         || is_given(&form.fixed_ips)
         || is_given(&form.allowed_address_pairs)
         || is_given(&form.security_groups)
-        || !is_near_host(&form.binding_host_id)
+}
+
+fn has_subnet(rows: &Rows, network: &NetworkRow) -> bool
+    ensures { result ≡ subnet_of rows.now network.now }
+{
+    let id = network.id;
+    rows.subnets()
+        .rows()
+        .iter()
+        .any(|subnet| id == subnet.network)
+}
+
+fn is_port_ahead(rows: &Rows, caller: &Caller, form: &PortForm) -> bool
+    ensures { result ≡ port_ahead_of rows.now caller.now form.now }
+{
+    if has_own_parts(form) {
+        return true;
+    }
+    match network_seen(rows, caller, value_of(&form.network_id)) {
+        Some(network) => has_subnet(rows, network),
+        None => false,
+    }
+}
+
+fn is_creation_ahead(rows: &Rows, caller: &Caller, form: &Form) -> bool
+    ensures { result ≡ creation_ahead_of rows.now caller.now form.now }
+{
+    match form {
+        Form::Network(_) | Form::Policy(_) => false,
+        Form::Port(form) => is_port_ahead(rows, caller, form),
+        _ => true,
+    }
+}
+
+fn is_update_ahead(form: &Form) -> bool
+    ensures { result ≡ update_ahead_of form.now }
+{
+    match form {
+        Form::Network(_) | Form::Policy(_) => false,
+        _ => true,
+    }
+}
+
+fn is_deletion_ahead(kind: Kind) -> bool
+    ensures { result ≡ deletion_ahead_of kind }
+{
+    match kind {
+        Kind::Network | Kind::Policy => false,
+        _ => true,
+    }
+}
+
+/// Whether the call isn't built yet. The cost is that of a look at the subnets, at most.
+pub fn is_ahead(rows: &Rows, caller: &Caller, call: &Call) -> bool
+    ensures { result ≡ ahead_of rows.now caller.now call.now }
+{
+    match call {
+        Call::List { kind, query: _ } => is_kind_ahead(*kind),
+        Call::Show {
+            kind,
+            name: _,
+            fields: _,
+        } => is_kind_ahead(*kind),
+        Call::Create { form } => is_creation_ahead(rows, caller, form),
+        Call::Update { name: _, form } => is_update_ahead(form),
+        Call::Delete { kind, name: _ } => is_deletion_ahead(*kind),
+        Call::AddInterface { router: _, by: _ } => true,
+        Call::RemoveInterface { router: _, by: _ } => true,
+    }
 }

@@ -1,18 +1,27 @@
-//! The machine of the Networking API: rows with a version, and what each call makes of them.
+//! The machine of the Networking API: rows with a version, under settings, and what each call makes
+//! of them.
 //!
-//! What a call comes to is defined by `api_step` of `api_steps`, a function of rows, version,
-//! caller and call. `plan` answers as that definition does and tells the change that leads there,
-//! `prepare` makes the rows after it, and `accept` puts them in place, which can't fail.
+//! It stands on the rows of `api_types`, on the planning of each kind in its `plan_` crate, and on
+//! `api_shown` for what is printed. What a call comes to is defined by `api_step`, a function of
+//! settings, rows, version, caller and call; `built_step` refuses in front of it what isn't built
+//! yet. `Machine::open` takes rows that `api_check` finds consistent. `plan` answers as `built_step`
+//! does and tells the change that leads there, `prepare` makes the rows after it, and `accept` puts
+//! them in place, which can't fail. `calls_keep` and `tenants_stay_apart` are laws: functions that
+//! do nothing, whose contracts say that accepted calls keep rows sound and that what a tenant is
+//! told depends on its footing alone.
 #![tactic(auto)]
 
 mod ahead;
-mod draw;
-mod given;
-mod items;
+mod calls;
+mod laws;
 mod machine;
-mod named;
-mod network;
-mod port;
+mod networks;
+mod planned;
+mod policies;
+mod ports;
 mod reads;
+mod typed;
 
-pub use machine::{Machine, Planned, Ready};
+pub use laws::{calls_keep, tenants_stay_apart};
+pub use machine::{Machine, Ready};
+pub use planned::Planned;

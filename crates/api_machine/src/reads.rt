@@ -1,13 +1,14 @@
+//! What shows and lists come to.
 ghost use Rattle.std.specs.Prelude.{◌≡◌, IfOk, IfErr, filter};
 ghost use Rattle.api_types.specs.Outcome.{Told};
 ghost use Rattle.api_types.specs.Printed.{reply_of};
-ghost use Rattle.api_steps.specs.Reads.{row_told, rows_listed};
-ghost use Rattle.api_machine.specs.Plan.{IsRefusalOf};
+ghost use Rattle.api_machine.specs.Reads.{row_told, rows_listed};
+ghost use Rattle.call_parts.specs.Answers.{IsRefusalOf};
 
-use crate::named::{named, not_found};
-use api_policy::Visible;
+use api_policy::{Visible, named};
 use api_shown::{ListRefusal, Shows, listed, shown_of};
 use api_types::{Answer, Caller, IdText, Kind, Query, Refusal, Rows, Table};
+use call_parts::not_found;
 use net_addr::Names;
 use std::alloc::Global;
 
@@ -30,7 +31,7 @@ pub fn show<R: Shows + Visible>(
         fields.now (filter (R.seen rows.now caller.now) table.now))) }
 {
     let Some(row) = named(rows, caller, table, name.id) else {
-        return Err(not_found(alloc, kind, &name.text)?);
+        return Err(not_found(alloc, kind, &name.text));
     };
     Ok(Answer::One(shown_of(alloc, rows, caller, kind, row, fields)?))
 }
@@ -49,7 +50,7 @@ pub fn list(
 {
     match listed(alloc, rows, caller, kind, query) {
         Ok(rows) => Ok(Answer::Many { kind, rows }),
-        Err(ListRefusal::NoMarker(text)) => Err(not_found(alloc, kind, &text)?),
+        Err(ListRefusal::NoMarker(text)) => Err(not_found(alloc, kind, &text)),
         Err(ListRefusal::OutOfMemory) => Err(Refusal::OutOfMemory),
     }
 }

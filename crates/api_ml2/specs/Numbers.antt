@@ -1,5 +1,5 @@
 -- Which vxlan number a new network takes (RFC 7348; the range is Neutron's `vni_ranges`).
-use Rattle.std.specs.Prelude.{ℕ, zero, suc, ◌+◌, ◌-◌, ◌==◌, not, nat_le, Bool, false, List, [], ◌∷◌, Option, None, find, length, if◌then◌else◌}
+use Rattle.std.specs.Prelude.{ℕ, zero, suc, ◌+◌, ◌-◌, not, nat_le, Bool, List, [], ◌∷◌, Option, None, find, length, if◌then◌else◌}
 use Rattle.std.specs.List.{list_any}
 use Rattle.api_types.specs.declared.network.NetworkRow.{NetworkRow}
 use Rattle.api_types.specs.Consistent.Segments.{most_networks, is_vxlan}

@@ -1,34 +1,41 @@
-//! How a port is bound to a host, by the default settings.
+//! How a port is bound to its host.
 
-ghost use Rattle.std.specs.Prelude.{◌≡◌, codes, false, true};
-ghost use Rattle.net_settings.specs.Defaults.{default_host, default_parts};
-ghost use Rattle.api_ml2.specs.Binding.{bound as bound_of};
-ghost use Rattle.api_ml2.specs.Carrying.{can_carry as can_carry_of};
+ghost use Rattle.std.specs.Prelude.{◌≡◌};
+ghost use Rattle.std.specs.List.{list_any};
+ghost use Rattle.net_settings.specs.Drivers.{is_driver};
+ghost use Rattle.net_settings.specs.declared.settings.Driver.TheVariants.{Openvswitch};
+ghost use Rattle.api_ml2.specs.Binding.{binds as binds_by, bound};
 
+use crate::carrying::carries;
 use api_types::{Segment, Vif};
 use net_addr::Text;
+use net_settings::{Driver, Settings};
 
-// Whether a host of the default settings can carry the segment.
-fn can_carry(segment: &Segment) -> bool
-    ensures first { result ≡ can_carry_of (default_host (codes "c1") true) segment.now }
-    ensures second { result ≡ can_carry_of (default_host (codes "c2") false) segment.now }
+// Whether the driver that binds is among these.
+fn has_openvswitch(drivers: &[Driver]) -> bool
+    ensures { result ≡ list_any (is_driver Openvswitch) drivers.now }
 {
-    match segment {
-        Segment::Local | Segment::Vxlan { number: _ } => true,
-        Segment::Flat { physical } => physical.as_str() == "physnet1",
-        Segment::Vlan { physical, tag: _ } => physical.as_str() == "physnet1",
-    }
+    drivers
+        .iter()
+        .any(|driver| matches!(driver, Driver::Openvswitch))
 }
 
-/// How a port is bound to a host by the default settings.
-pub fn bound(segment: &Segment, host: &Text) -> Vif
-    ensures { result ≡ bound_of default_parts segment.now host.now }
+fn binds(settings: &Settings, segment: &Segment, host: &Text) -> bool
+    ensures { result ≡ binds_by settings.now segment.now host.now }
+{
+    has_openvswitch(settings.drivers()) && carries(settings.hosts(), host, segment)
+}
+
+/// How a port of a network with this segment is bound to the host (Neutron's
+/// `binding:vif_type`): not where it has none, and else by the drivers of the settings, or in
+/// vain. Its cost grows with the hosts and the physical networks to which one is wired.
+pub fn bind(settings: &Settings, segment: &Segment, host: &Text) -> Vif
+    ensures { result ≡ bound settings.now segment.now host.now }
 {
     if host.is_empty() {
         return Vif::Unbound;
     }
-    let is_there = host.as_str() == "c1" || host.as_str() == "c2";
-    if is_there && can_carry(segment) {
+    if binds(settings, segment, host) {
         Vif::Ovs
     } else {
         Vif::Failed

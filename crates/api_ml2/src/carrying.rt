@@ -9,7 +9,8 @@ use api_types::Segment;
 use net_addr::Text;
 use net_settings::Host;
 
-fn is_wired(host: &Host, physical: &Text) -> bool
+/// Whether the host is wired to the physical network.
+pub fn is_on(host: &Host, physical: &Text) -> bool
     ensures { result ≡ list_any (bytes_eq physical.now) host.now.physical }
 {
     host.physical
@@ -18,13 +19,13 @@ fn is_wired(host: &Host, physical: &Text) -> bool
         .any(|other| physical == other)
 }
 
-fn can_carry(host: &Host, segment: &Segment) -> bool
+pub(crate) fn can_carry(host: &Host, segment: &Segment) -> bool
     ensures { result ≡ carried_by host.now segment.now }
 {
     match segment {
         Segment::Local => true,
-        Segment::Flat { physical } => is_wired(host, physical),
-        Segment::Vlan { physical, tag: _ } => is_wired(host, physical),
+        Segment::Flat { physical } => is_on(host, physical),
+        Segment::Vlan { physical, tag: _ } => is_on(host, physical),
         Segment::Vxlan { number: _ } => host.vxlan,
     }
 }

@@ -1,3 +1,4 @@
+pub mod Checks
 pub mod Visibility
 pub mod Trees
 pub mod Networks
@@ -6,7 +7,19 @@ pub mod Ports
 pub mod Groups
 pub mod Routers
 pub mod Floatings
+pub mod NeededPolicy
 pub mod Policies
 pub mod Shown
 pub mod Filtered
 pub mod Listed
+pub mod Marked
+pub mod May
+pub mod OtherFloatings
+pub mod Permits
+pub mod PolicyNeeds
+pub mod Quotas
+pub mod Reserved
+pub mod Seen
+pub mod Served
+pub mod Standing
+pub mod Uses

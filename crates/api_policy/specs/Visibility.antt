@@ -1,5 +1,5 @@
 -- Which rows a caller sees. Projects are told apart by name; administrators see all.
-use Rattle.std.specs.Prelude.{ℕ, ◌&&◌, ◌||◌, Bool, true, false, List, filter}
+use Rattle.std.specs.Prelude.{ℕ, ◌||◌, Bool, false, List, filter}
 use Rattle.std.specs.Str.{bytes_eq}
 use Rattle.api_types.specs.Ident.{Ident}
 use Rattle.api_types.specs.Lists.{stands_so}

@@ -20,14 +20,14 @@ pub trait Visible: Keyed {
 }
 
 // Whether the caller is an administrator or of this project.
-fn is_own(caller: &Caller, project: &Text) -> bool
+pub(crate) fn is_own(caller: &Caller, project: &Text) -> bool
     ensures { result ≡ is_own_of caller.now project.now }
 {
     caller.admin || *project == caller.project
 }
 
 // Whether the network is there and is the project's.
-fn owns_network(rows: &Rows, project: &Text, network: Id) -> bool
+pub(crate) fn owns_network(rows: &Rows, project: &Text, network: Id) -> bool
     ensures { result ≡ owns_network_of rows.now project.now network }
 {
     let networks = rows.networks();
@@ -39,7 +39,7 @@ fn owns_network(rows: &Rows, project: &Text, network: Id) -> bool
 }
 
 // Whether the network is there and is the project's or shared with it.
-fn uses_network(rows: &Rows, project: &Text, network: Id) -> bool
+pub(crate) fn uses_network(rows: &Rows, project: &Text, network: Id) -> bool
     ensures { result ≡ uses_network_of rows.now project.now network }
 {
     let networks = rows.networks();

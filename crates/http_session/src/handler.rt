@@ -26,7 +26,7 @@ pub enum Answer {
 }
 
 /// What answers requests.
-pub trait Handler {
+pub trait Handler: Drop {
     /// What requests read and move.
     type World;
 
@@ -39,9 +39,13 @@ pub trait Handler {
     // the rows that the keeper is to keep
     ghost rows: { Self.World → RowLists };
 
+    /// A handler with what it needs at hand for all requests of a session.
+    fn make(alloc: Global) -> Result<Self, OutOfMemory>;
+
     /// Answers the request that the bytes begin with, and keeps what it changes. Where the store
     /// fails or memory is wanting, nothing changes.
     fn answer<K: Keeper>(
+        &self,
         world: &mut Self::World,
         alloc: Global,
         keeper: &mut K,

@@ -13,7 +13,7 @@ use std::alloc::Global;
 /// Answers the requests of the input, one after the other, and says why it ended.
 ///
 /// At most `limit` bytes are read. The buffer of 81,920 bytes, which the longest request fills, is
-/// taken first, and no other memory is taken here. Each reply is flushed before more is read. Bytes
+/// taken first, then the handler is made, and no other memory is taken here. Each reply is flushed before more is read. Bytes
 /// that are refused have their reply, and a reply that closes the connection is the last one.
 ///
 /// A request's cost grows with its bytes and its reply, in whatever pieces either goes: each byte
@@ -43,10 +43,14 @@ pub fn session<H: Handler, K: Keeper, I: Source, O: Sink>(
     let Ok(mut buffer) = Buffer::make(alloc) else {
         return SessionEnd::OutOfMemory;
     };
+    let Ok(handler) = H::make(alloc) else {
+        return SessionEnd::OutOfMemory;
+    };
     let mut taken = 0;
     'turns: loop {
         match take_turn::<H, K, I, O>(
             alloc,
+            &handler,
             world,
             keeper,
             input,

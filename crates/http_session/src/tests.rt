@@ -90,7 +90,12 @@ impl Handler for Echo {
 
     ghost rows = { λ _. no_rows };
 
+    fn make(_alloc: Global) -> Result<Echo, OutOfMemory> {
+        Ok(Echo::make())
+    }
+
     fn answer<K: Keeper>(
+        &self,
         world: &mut Echo,
         alloc: Global,
         keeper: &mut K,

@@ -47,6 +47,7 @@ fn sent<O: Sink>(output: &mut O, reply: &[u8], close: bool) -> Turn
 // Answers the request that the bytes begin with.
 fn answered<H: Handler, K: Keeper, O: Sink>(
     alloc: Global,
+    handler: &H,
     world: &mut H::World,
     keeper: &mut K,
     bytes: &[u8],
@@ -64,7 +65,7 @@ fn answered<H: Handler, K: Keeper, O: Sink>(
         → RoseBy 1 (O.faults output.old) (O.faults output.new) }
 {
     let close = request.close;
-    match H::answer(world, alloc, keeper, bytes, request) {
+    match handler.answer(world, alloc, keeper, bytes, request) {
         Answer::Reply(reply) => sent(output, reply.as_slice(), close),
         Answer::StoreFault(reply) => sent(output, reply.as_slice(), close),
         Answer::NoMemory => sent(output, H::no_memory(close), close),
@@ -90,6 +91,7 @@ fn refused<H: Handler, O: Sink>(alloc: Global, output: &mut O, number: u8) -> Tu
 // Waits for one request and answers it.
 pub(crate) fn take_turn<H: Handler, K: Keeper, I: Source, O: Sink>(
     alloc: Global,
+    handler: &H,
     world: &mut H::World,
     keeper: &mut K,
     input: &mut I,
@@ -116,6 +118,7 @@ pub(crate) fn take_turn<H: Handler, K: Keeper, I: Source, O: Sink>(
         Awaited::Found(request) => {
             let turn = answered::<H, K, O>(
                 alloc,
+                handler,
                 world,
                 keeper,
                 buffer.as_slice(),

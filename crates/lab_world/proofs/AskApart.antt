@@ -1,5 +1,5 @@
 -- What a tenant is told of an ask depends on its footing alone.
-use Rattle.std.proofs.Common.{◌≡◌, ◌∙◌, List, [], ◌∷◌, Bool, true, false, true≢false, not, cond, Option, None, Some, is_some, refl, ap, sym}
+use Rattle.std.proofs.Common.{◌≡◌, ◌∙◌, List, [], ◌∷◌, Bool, true, false, true≢false, not, cond, Option, None, Some, is_some, refl, ap, subst, sym}
 use Rattle.std.specs.Prelude.{◌&&◌, ◌||◌, codes}
 use Rattle.std.specs.List.{filter, list_any}
 use Rattle.api_types.specs.Consistent.{IsConsistent}
@@ -7,17 +7,19 @@ use Rattle.api_types.specs.Ident.{Ident, ident_text}
 use Rattle.api_types.specs.Lists.{is_empty, stands_so}
 use Rattle.api_types.specs.RowLists.{RowLists}
 use Rattle.api_types.specs.Table.{ident_eq}
+use Rattle.api_types.specs.declared.call.Call.{Call}
 use Rattle.api_types.specs.declared.call.Caller.{Caller}
 use Rattle.api_types.specs.declared.kind.Kind.TheVariants.{Port as PortKind}
 use Rattle.api_types.specs.declared.port.PortRow.{PortRow}
 use Rattle.api_types.specs.declared.refusal.PolicyRule.TheVariants.{AdminOnly}
 use Rattle.api_types.specs.declared.refusal.Refusal.{Refusal}
 use Rattle.api_types.specs.declared.refusal.Refusal.TheVariants.{Forbidden, Invalid}
-use Rattle.net_settings.specs.Defaults.{default_parts}
-use Rattle.api_policy.specs.Visibility.{seen_ports, sees_port, sees_row}
-use Rattle.api_steps.specs.Footing.{Footing, footing}
-use Rattle.api_types.specs.Refusing.{first_refusal, not_found, when}
-use Rattle.api_steps.proofs.StepApart.{step_apart}
+use Rattle.net_settings.specs.Settings.{SettingsParts}
+use Rattle.api_policy.specs.Visibility.{sees_port, sees_row}
+use Rattle.api_machine.specs.Footing.{Footing, footing}
+use Rattle.api_machine.specs.BuiltStep.{built_step}
+use Rattle.api_types.specs.Refusing.{first_refusal, not_found, told, when}
+use Rattle.api_machine.proofs.BuiltLaws.{built_apart}
 use Rattle.api_types.specs.Wires.{network_on}
 use Rattle.plane_types.specs.declared.ask.Ask.{Ask}
 use Rattle.plane_types.specs.declared.ask.Ask.TheVariants.{Api, Lab}
@@ -43,7 +45,7 @@ seen_there i sees (p ∷ ps) = go (ident_eq i p.id) refl (sees p) refl (seen_the
     go false e true f rest = rest ∙ sym (ap (λ t. t || list_any (λ (q : PortRow). ident_eq i q.id) kept) e)
     go false e false f rest = rest
 
-module _ (caller : Caller) (v w : WorldState) (tenant : caller.admin ≡ false) (same : footing default_parts v.state caller ≡ footing default_parts w.state caller) where
+module _ (caller : Caller) (v w : WorldState) (tenant : caller.admin ≡ false) (same : footing v.settings v.state caller ≡ footing w.settings w.state caller) where
   port_alike : (i : Ident) → sees_row v.state.rows caller PortKind i ≡ sees_row w.state.rows caller PortKind i
   port_alike i =
       seen_there i (sees_port v.state.rows caller) v.state.rows.ports
@@ -85,7 +87,18 @@ module _ (caller : Caller) (v w : WorldState) (tenant : caller.admin ≡ false) 
   lab_apart (Forget host) = refl
   lab_apart Settle = refl
 
-pub ask_apart : (caller : Caller) (v w : WorldState) → caller.admin ≡ false → not (is_empty caller.project) ≡ true → IsConsistent v.state.rows → IsConsistent w.state.rows → footing default_parts v.state caller ≡ footing default_parts w.state caller
-    → (ask : Ask) → told_of (ask_outcome v caller ask) ≡ told_of (ask_outcome w caller ask)
-ask_apart caller v w tenant named c d same (Api call) = ap ByMachine (step_apart default_parts caller v.state w.state tenant named c d same call)
-ask_apart caller v w tenant named c d same (Lab call) = ap (λ o. told_of (ByLab o)) (lab_apart caller v w tenant same call)
+-- a call, at states under one and the same settings
+call_apart : (caller : Caller) (v w : WorldState) → caller.admin ≡ false → not (is_empty caller.project) ≡ true → IsConsistent v.state.rows → IsConsistent w.state.rows → v.settings ≡ w.settings
+    → footing v.settings v.state caller ≡ footing w.settings w.state caller → (call : Call) → told (built_step v.settings v.state caller call) ≡ told (built_step w.settings w.state caller call)
+call_apart caller v w tenant named c d one same call = subst At one here same
+  where
+    At : SettingsParts → Type 0
+    At settings = footing v.settings v.state caller ≡ footing settings w.state caller → told (built_step v.settings v.state caller call) ≡ told (built_step settings w.state caller call)
+
+    here : footing v.settings v.state caller ≡ footing v.settings w.state caller → told (built_step v.settings v.state caller call) ≡ told (built_step v.settings w.state caller call)
+    here alike = built_apart v.settings caller v.state w.state alike tenant named c d call
+
+pub ask_apart : (caller : Caller) (v w : WorldState) → caller.admin ≡ false → not (is_empty caller.project) ≡ true → IsConsistent v.state.rows → IsConsistent w.state.rows → v.settings ≡ w.settings
+    → footing v.settings v.state caller ≡ footing w.settings w.state caller → (ask : Ask) → told_of (ask_outcome v caller ask) ≡ told_of (ask_outcome w caller ask)
+ask_apart caller v w tenant named c d one same (Api call) = ap ByMachine (call_apart caller v w tenant named c d one same call)
+ask_apart caller v w tenant named c d one same (Lab call) = ap (λ o. told_of (ByLab o)) (lab_apart caller v w tenant same call)

@@ -1,7 +1,7 @@
 -- What is done with all hosts of a server, as frames see them; they hold the machine's rows still.
-use Rattle.std.proofs.Common.{◌≡◌, ℕ, zero, suc, ◌+◌, ◌<◌, ◌≤◌, List, [], ◌∷◌, ◌++◌, Bool, true, false, cond, Option, None, Some, refl, ap, sym, subst, ◌∙◌, arith, map, slice_get, length, lit<, lit≤}
-use Rattle.std.specs.Prelude.{◌&&◌, ◌||◌, ◌^◌, codes, count_by, find, flat_map, not, sum_by}
-use Rattle.std.specs.List.{filter, filter_map, list_any}
+use Rattle.std.proofs.Common.{◌≡◌, ℕ, zero, suc, ◌+◌, ◌≤◌, List, [], ◌∷◌, ◌++◌, Bool, true, false, cond, Option, None, Some, refl, ap, sym, subst, ◌∙◌, arith, map, slice_get, length, lit≤}
+use Rattle.std.specs.Prelude.{◌&&◌, ◌||◌, count_by, find, flat_map, not}
+use Rattle.std.specs.List.{AllByRecursion, IsDistinct, filter_map, list_any}
 use Rattle.std.specs.Str.{bytes_eq}
 use Rattle.std.specs.Option.{option_map}
 use Rattle.std.proofs.lemmas.List.Sums.{sum_by-cons}
@@ -9,22 +9,24 @@ use Rattle.std.proofs.lemmas.Option.{slice_get-map}
 use Rattle.api_types.specs.Consistent.{IsConsistent}
 use Rattle.api_types.specs.Lists.{Each}
 use Rattle.api_types.specs.RowLists.{RowLists}
-use Rattle.api_types.specs.Rows.{after, no_rows}
+use Rattle.api_types.specs.Rows.{after}
 use Rattle.api_types.specs.declared.call.Caller.{Caller}
 use Rattle.api_types.specs.declared.network.Segment.{Segment}
 use Rattle.api_types.specs.declared.refusal.Refusal.{Refusal}
 use Rattle.api_types.specs.declared.refusal.Refusal.TheVariants.{Forbidden, NoHost}
 use Rattle.api_types.specs.declared.refusal.PolicyRule.TheVariants.{AdminOnly}
 use Rattle.api_types.specs.declared.change.Item.{Item}
-use Rattle.net_settings.specs.Defaults.{default_hosts}
+use Rattle.net_settings.specs.Rules.{MeetsRules}
+use Rattle.net_settings.specs.Settings.{SettingsParts}
 use Rattle.net_settings.specs.declared.settings.Host.{Host as Carrier}
 use Rattle.api_types.proofs.ListLemmas.{false_true, none_some, or_true, some_equal}
 use Rattle.api_types.proofs.NameLemmas.{bytes_itself, bytes_same}
 use Rattle.api_ml2.specs.Carrying.{can_carry, carries}
-use Rattle.api_steps.specs.Holdable.{AreHoldable}
+use Rattle.api_machine.specs.Kept.{HostsCarry}
 use Rattle.api_types.specs.Refusing.{when}
 use Rattle.keeper_core.specs.Counts.{Tells}
-use Rattle.api_steps.specs.State.{State}
+use Rattle.call_parts.specs.State.{State}
+use Rattle.call_parts.specs.Typed.{AreTyped}
 use Rattle.plane_types.specs.Crossing.{CrossesAtRouters}
 use Rattle.plane_types.specs.Hosts.{Host, all_entries, is_named}
 use Rattle.plane_types.specs.Placed.{IsPlaced}
@@ -40,7 +42,6 @@ use Rattle.plane_types.specs.declared.lists.TableLists.{TableLists}
 use Rattle.plane_types.specs.declared.verdict.Made.{Made}
 use Rattle.plane_types.specs.declared.verdict.Verdict.{Verdict}
 use Rattle.plane_laws.specs.Bounds.{HasEightBits}
-use Rattle.plane_laws.specs.Held.{HoldRows}
 use Rattle.plane_laws.proofs.BoundsTables.{bounded-by_tables}
 use Rattle.plane_laws.proofs.CrossingTop.{by-tables}
 use Rattle.plane_laws.proofs.KeptLaw.{stay-placed}
@@ -99,24 +100,29 @@ counted name (n ∷ nodes) =
     ∙ (λ j. cond {A = ℕ} (bytes_eq name n.name) 1 0 + counted name nodes j)
     ∙ sym (sum_by-cons (λ (b : List ℕ). cond {A = ℕ} (bytes_eq name b) 1 0) n.name (map (λ (m : Node). m.name) nodes))
 
-one_of_two : (name : List ℕ) → count_by (bytes_eq name) (codes "c1" ∷ codes "c2" ∷ []) ≤ 1
-one_of_two name = by (bytes_eq name (codes "c1")) refl (bytes_eq name (codes "c2")) refl
+-- a name that one of the names equals stands once among different ones
+none_behind : (name x : List ℕ) → bytes_eq name x ≡ true → (names : List (List ℕ)) → AllByRecursion (λ y. bytes_eq x y ≡ false) names → count_by (bytes_eq name) names ≡ 0
+none_behind name x is [] others = refl
+none_behind name x is (y ∷ names) others =
+    let other : bytes_eq name y ≡ false = ap (λ (n : List ℕ). bytes_eq n y) (bytes_same name x is) ∙ others.0 in
+    sum_by-cons (λ (c : List ℕ). cond {A = ℕ} (bytes_eq name c) 1 0) y names ∙ (λ j. cond {A = ℕ} (other j) 1 0 + none_behind name x is names others.1 j)
+
+one_of : (name : List ℕ) (names : List (List ℕ)) → IsDistinct bytes_eq names → count_by (bytes_eq name) names ≤ 1
+unfolding IsDistinct
+one_of name [] distinct = lit≤ tt
+one_of name (x ∷ names) distinct = by (bytes_eq name x) refl (one_of name names distinct.1)
   where
-    so_many : (m n : ℕ) → cond {A = ℕ} (bytes_eq name (codes "c1")) 1 0 ≡ m → cond {A = ℕ} (bytes_eq name (codes "c2")) 1 0 ≡ n → m + n ≤ 1 → count_by (bytes_eq name) (codes "c1" ∷ codes "c2" ∷ []) ≤ 1
-    so_many m n a b few =
-        let first = sum_by-cons (λ (c : List ℕ). cond {A = ℕ} (bytes_eq name c) 1 0) (codes "c1") (codes "c2" ∷ []) in
-        let second = sum_by-cons (λ (c : List ℕ). cond {A = ℕ} (bytes_eq name c) 1 0) (codes "c2") [] in
-        let none : sum_by (λ (c : List ℕ). cond {A = ℕ} (bytes_eq name c) 1 0) [] ≡ 0 = refl in
-        omega (arith, first, second, none, a, b, few)
+    by : (b : Bool) → bytes_eq name x ≡ b → count_by (bytes_eq name) names ≤ 1 → count_by (bytes_eq name) (x ∷ names) ≤ 1
+    by true is rest =
+        let here : cond {A = ℕ} (bytes_eq name x) 1 0 ≡ 1 = ap (λ b. cond {A = ℕ} b 1 0) is in
+        omega (arith, sum_by-cons (λ (c : List ℕ). cond {A = ℕ} (bytes_eq name c) 1 0) x names, here, none_behind name x is names distinct.0)
+    by false is rest =
+        let here : cond {A = ℕ} (bytes_eq name x) 1 0 ≡ 0 = ap (λ b. cond {A = ℕ} b 1 0) is in
+        omega (arith, sum_by-cons (λ (c : List ℕ). cond {A = ℕ} (bytes_eq name c) 1 0) x names, here, rest)
 
-    by : (x : Bool) → bytes_eq name (codes "c1") ≡ x → (y : Bool) → bytes_eq name (codes "c2") ≡ y → count_by (bytes_eq name) (codes "c1" ∷ codes "c2" ∷ []) ≤ 1
-    by true a true b = let same : codes "c1" ≡ codes "c2" = sym (bytes_same name (codes "c1") a) ∙ bytes_same name (codes "c2") b in false_true _ (ap (bytes_eq (codes "c2")) same)
-    by true a false b = so_many 1 0 (ap (λ x. cond {A = ℕ} x 1 0) a) (ap (λ x. cond {A = ℕ} x 1 0) b) (lit≤ tt)
-    by false a true b = so_many 0 1 (ap (λ x. cond {A = ℕ} x 1 0) a) (ap (λ x. cond {A = ℕ} x 1 0) b) (lit≤ tt)
-    by false a false b = so_many 0 0 (ap (λ x. cond {A = ℕ} x 1 0) a) (ap (λ x. cond {A = ℕ} x 1 0) b) (lit≤ tt)
-
-pub names_differ : (nodes : List Node) → map (λ (n : Node). n.name) nodes ≡ map (λ h. h.name) default_hosts → (name : List ℕ) → count_by (is_named name) (map host_of nodes) ≤ 1
-names_differ nodes names name = subst (λ n. n ≤ 1) (sym (counted name nodes ∙ ap (count_by (bytes_eq name)) names)) (one_of_two name)
+pub names_differ : (settings : SettingsParts) (state : State) (nodes : List Node) → AreHosts settings state nodes → (name : List ℕ) → count_by (is_named name) (map host_of nodes) ≤ 1
+names_differ settings state nodes h name =
+    subst (λ n. n ≤ 1) (sym (counted name nodes ∙ ap (count_by (bytes_eq name)) h.names)) (one_of name (map (λ d. d.name) settings.hosts) h.rules.host_names_differ)
 
 named_by : (name : List ℕ) (nodes : List Node) → list_any (is_named name) (map host_of nodes) ≡ list_any (bytes_eq name) (map (λ (n : Node). n.name) nodes)
 named_by name [] = refl
@@ -139,15 +145,20 @@ carrier_named name s (d ∷ hosts) h = by (bytes_eq d.name name) refl (can_carry
 
 -- ---- hosts that hold the machine's rows
 
-pub hold_rows : (state : State) (nodes : List Node) → IsConsistent state.rows → AreHosts state nodes → HoldRows (carries default_hosts) state.rows (map host_of nodes)
-hold_rows state nodes c h = record {
-  consistent = c;
-  carried = h.holdable;
-  synced = record {
-    realise = each_map host_of (λ (g : Host). Realises state.rows g.name g.tables) nodes (λ k n at. subst (λ rows. Realises rows n.name n.tables) (h.rows k n at) (h.stand k n at).realised);
-    placed = each_map host_of IsPlaced nodes (λ k n at. (h.stand k n at).placed);
-    names = names_differ nodes h.names;
-    complete = λ name s can. named_by name nodes ∙ ap (list_any (bytes_eq name)) h.names ∙ carrier_named name s default_hosts can;
+pub hold_rows : (settings : SettingsParts) (state : State) (nodes : List Node) → IsConsistent state.rows → AreTyped state.rows → HostsCarry settings state.rows → AreHosts settings state nodes
+    → HoldsRows (record { settings = settings; state = state; hosts = map host_of nodes })
+hold_rows settings state nodes c typed carried h = record {
+  rules = h.rules;
+  typed = typed;
+  held = record {
+    consistent = c;
+    carried = carried;
+    synced = record {
+      realise = each_map host_of (λ (g : Host). Realises state.rows g.name g.tables) nodes (λ k n at. subst (λ rows. Realises rows n.name n.tables) (h.rows k n at) (h.stand k n at).realised);
+      placed = each_map host_of IsPlaced nodes (λ k n at. (h.stand k n at).placed);
+      names = names_differ settings state nodes h;
+      complete = λ name s can. named_by name nodes ∙ ap (list_any (bytes_eq name)) h.names ∙ carrier_named name s settings.hosts can;
+    };
   };
 }
 
@@ -188,30 +199,31 @@ put_seen version rows old new put =
     twice [] = refl
     twice (n ∷ nodes) = λ j. rewired rows (host_of n) ∷ twice nodes j
 
-pub put_hosts : (state : State) (version : ℕ) (rows : RowLists) (old new : List Node) → IsConsistent rows → AreHoldable (carries default_hosts) rows → AreHosts state old
-    → ArePut (map (ready_for version rows) old) old new → AreHosts (record { rows = rows; version = version }) new
-put_hosts state version rows old new c holdable h put =
+pub put_hosts : (settings : SettingsParts) (state : State) (version : ℕ) (rows : RowLists) (old new : List Node) → IsConsistent rows → AreHosts settings state old
+    → ArePut (map (ready_for version rows) old) old new → AreHosts settings (record { rows = rows; version = version }) new
+put_hosts settings state version rows old new c h put =
     let given = are_given version rows old new put in
     record {
+      rules = h.rules;
       names = seen (λ (n : Node). n.name) (λ (n : Node). n.name) (λ k n m. IsGiven version rows n m) old new given (λ k n m g. ap (λ (x : Node). x.name) g) ∙ h.names;
       stand = kept_of Stands Stands (λ k n m. IsGiven version rows n m) old new given (λ k n m g s. subst Stands (sym g) (resynced_stands n version rows m.spare c s)) h.stand;
       rows = kept_of Stands (λ (n : Node). n.rows ≡ rows) (λ k n m. IsGiven version rows n m) old new given (λ k n m g s. ap (λ (x : Node). x.rows) g) h.stand;
       held = kept_of Stands (λ (n : Node). n.held ≡ Some version) (λ k n m. IsGiven version rows n m) old new given (λ k n m g s. ap (λ (x : Node). x.held) g) h.stand;
-      holdable = holdable;
     }
 
 -- ---- other entries
 
-pub entries_hosts : (state : State) (old new : List Node) → AreHosts state old → Stepwise (λ k n m. m ≡ with_entries n m.entries m.spare) old new → Each IsPlaced (map host_of new) → AreHosts state new
-entries_hosts state old new h same placed =
+pub entries_hosts : (settings : SettingsParts) (state : State) (old new : List Node) → AreHosts settings state old → Stepwise (λ k n m. m ≡ with_entries n m.entries m.spare) old new
+    → Each IsPlaced (map host_of new) → AreHosts settings state new
+entries_hosts settings state old new h same placed =
     let stands = kept_of Stands (λ (m : Node). IsPlaced (host_of m) → Stands m) (λ k n m. m ≡ with_entries n m.entries m.spare) old new same
     (λ k n m g s here. subst Stands (sym g) (record { consistent = s.consistent; realised = s.realised; placed = subst (λ x. IsPlaced (host_of x)) g here })) h.stand in
     record {
+      rules = h.rules;
       names = seen (λ (n : Node). n.name) (λ (n : Node). n.name) (λ k n m. m ≡ with_entries n m.entries m.spare) old new same (λ k n m g. ap (λ (x : Node). x.name) g) ∙ h.names;
       stand = λ k m at. stands k m at (map_each host_of IsPlaced new placed k m at);
       rows = kept_of (λ (n : Node). n.rows ≡ state.rows) (λ (n : Node). n.rows ≡ state.rows) (λ k n m. m ≡ with_entries n m.entries m.spare) old new same (λ k n m g s. ap (λ (x : Node). x.rows) g ∙ s) h.rows;
       held = kept_of (λ (n : Node). n.held ≡ Some state.version) (λ (n : Node). n.held ≡ Some state.version) (λ k n m. m ≡ with_entries n m.entries m.spare) old new same (λ k n m g s. ap (λ (x : Node). x.held) g ∙ s) h.held;
-      holdable = h.holdable;
     }
 
 -- each host with what it made
@@ -269,33 +281,38 @@ started_stands name rows c = record {
 each_started : (P : Node → Type 0) (rows : RowLists) → ((name : List ℕ) → P (started name 0 rows 0)) → (hosts : List Carrier) → Each P (map (λ d. started d.name 0 rows 0) hosts)
 each_started P rows holds hosts = each_map (λ (d : Carrier). started d.name 0 rows 0) P hosts (λ k d at. holds d.name)
 
-pub first_hosts : (rows : RowLists) (nodes : List Node) → map (λ (n : Node). record n { spare = 0 }) nodes ≡ map (λ d. started d.name 0 rows 0) default_hosts → IsConsistent rows
-    → AreHoldable (carries default_hosts) rows → AreHosts (record { rows = rows; version = 0 }) nodes
-first_hosts rows nodes same c holdable = record {
-  names = named nodes ∙ ap (map (λ (n : Node). n.name)) same;
+pub first_hosts : (settings : SettingsParts) (rows : RowLists) (nodes : List Node) → map (λ (n : Node). record n { spare = 0 }) nodes ≡ map (λ d. started d.name 0 rows 0) settings.hosts
+    → MeetsRules settings → IsConsistent rows → AreHosts settings (record { rows = rows; version = 0 }) nodes
+first_hosts settings rows nodes same rules c = record {
+  rules = rules;
+  names = named nodes ∙ ap (map (λ (n : Node). n.name)) same ∙ started_names settings.hosts;
   stand = from (λ (n : Node). Stands n) (λ name. started_stands name rows c) (λ n s. record { consistent = s.consistent; realised = s.realised; placed = s.placed });
   rows = from (λ (n : Node). n.rows ≡ rows) (λ name. refl) (λ n s. s);
   held = from (λ (n : Node). n.held ≡ Some 0) (λ name. refl) (λ n s. s);
-  holdable = holdable;
 }
   where
     named : (ns : List Node) → map (λ (n : Node). n.name) ns ≡ map (λ (n : Node). n.name) (map unspared ns)
     named [] = refl
     named (n ∷ ns) = λ j. n.name ∷ named ns j
 
-    from : (P : Node → Type 0) → ((name : List ℕ) → P (started name 0 rows 0)) → ((n : Node) → P (unspared n) → P n) → Each P nodes
-    from P holds back = λ k n at. back n (map_each unspared P nodes (subst (Each P) (sym same) (each_started P rows holds default_hosts)) k n at)
+    started_names : (hosts : List Carrier) → map (λ (n : Node). n.name) (map (λ d. started d.name 0 rows 0) hosts) ≡ map (λ d. d.name) hosts
+    started_names [] = refl
+    started_names (d ∷ hosts) = λ j. d.name ∷ started_names hosts j
 
-pub first_seen : (rows : RowLists) (nodes : List Node) → map (λ (n : Node). record n { spare = 0 }) nodes ≡ map (λ d. started d.name 0 rows 0) default_hosts
-    → map host_of nodes ≡ map (λ h. first_host rows h.name) default_hosts
-first_seen rows nodes same = unseen nodes ∙ ap (map host_of) same
+    from : (P : Node → Type 0) → ((name : List ℕ) → P (started name 0 rows 0)) → ((n : Node) → P (unspared n) → P n) → Each P nodes
+    from P holds back = λ k n at. back n (map_each unspared P nodes (subst (Each P) (sym same) (each_started P rows holds settings.hosts)) k n at)
+
+pub first_seen : (settings : SettingsParts) (rows : RowLists) (nodes : List Node) → map (λ (n : Node). record n { spare = 0 }) nodes ≡ map (λ d. started d.name 0 rows 0) settings.hosts
+    → map host_of nodes ≡ map (λ h. first_host rows h.name) settings.hosts
+first_seen settings rows nodes same = unseen nodes ∙ ap (map host_of) same ∙ started_seen settings.hosts
   where
     unseen : (ns : List Node) → map host_of ns ≡ map host_of (map unspared ns)
     unseen [] = refl
     unseen (n ∷ ns) = λ j. host_of n ∷ unseen ns j
 
-pub no_rows_holdable : AreHoldable (carries default_hosts) no_rows
-no_rows_holdable = record { at_host = λ k p at. none_some p _ at }
+    started_seen : (hosts : List Carrier) → map host_of (map (λ d. started d.name 0 rows 0) hosts) ≡ map (λ d. first_host rows d.name) hosts
+    started_seen [] = refl
+    started_seen (d ∷ hosts) = λ j. first_host rows d.name ∷ started_seen hosts j
 
 -- ---- frames
 
@@ -309,28 +326,28 @@ verdict_is w event verdict hosts (Some refusal) h = cc
 pub frames_mean : (w : WorldState) (caller : Caller) (event : Event) (verdict : Verdict) (hosts : List Host) → HoldsRows w → lab_outcome w caller (Frames event) ≡ Answered (Seen verdict) hosts
     → without_hosts verdict ≡ rows_verdict w.state.rows (all_entries w.hosts) event
 frames_mean w caller event verdict hosts held h =
-    ap without_hosts (sym (verdict_is w event verdict hosts (event_refusal w.state.rows caller event) h)) ∙ tables-mean-rows (carries default_hosts) w.state.rows w.hosts held event
+    ap without_hosts (sym (verdict_is w event verdict hosts (event_refusal w.state.rows caller event) h)) ∙ tables-mean-rows (carries w.settings.hosts) w.state.rows w.hosts held.held event
 
 -- and it crosses between networks at routers alone
 pub frames_cross : (w : WorldState) (caller : Caller) (event : Event) (verdict : Verdict) (hosts : List Host) → HoldsRows w → lab_outcome w caller (Frames event) ≡ Answered (Seen verdict) hosts
     → CrossesAtRouters w.state.rows verdict
 frames_cross w caller event verdict hosts held h =
-    subst (CrossesAtRouters w.state.rows) (verdict_is w event verdict hosts (event_refusal w.state.rows caller event) h) (by-tables (carries default_hosts) w.state.rows w.hosts held event)
+    subst (CrossesAtRouters w.state.rows) (verdict_is w event verdict hosts (event_refusal w.state.rows caller event) h) (by-tables (carries w.settings.hosts) w.state.rows w.hosts held.held event)
 
 -- so it is with events one after the other
 pub events_mean : (w : WorldState) → HoldsRows w → (events : List Event) → map without_hosts (fabric_verdicts w.hosts events) ≡ rows_verdicts w.state.rows (all_entries w.hosts) events
-events_mean w held events = lists-mean-rows (carries default_hosts) w.state.rows w.hosts held events
+events_mean w held events = lists-mean-rows (carries w.settings.hosts) w.state.rows w.hosts held.held events
 
 pub events_cross : (w : WorldState) → HoldsRows w → (events : List Event) → Each (CrossesAtRouters w.state.rows) (fabric_verdicts w.hosts events)
-events_cross w held events = lists-cross (carries default_hosts) w.state.rows w.hosts held events
+events_cross w held events = lists-cross (carries w.settings.hosts) w.state.rows w.hosts held.held events
 
 -- an event makes no more entries than there is room for
 pub fresh_few : (hosts : List Host) (event : Event) → HasEightBits event → length (fabric_verdict hosts event).fresh ≤ 256
 fresh_few hosts event bits = (bounded-by_tables hosts event bits).fresh
 
 -- and its entries are placed where they are kept
-pub fresh_placed : (state : State) (nodes : List Node) (event : Event) → AreHosts state nodes → Each IsPlaced (kept (map host_of nodes) (fabric_verdict (map host_of nodes) event).fresh)
-fresh_placed state nodes event h = stay-placed (map host_of nodes) (names_differ nodes h.names) (each_map host_of IsPlaced nodes (λ k n at. (h.stand k n at).placed)) event
+pub fresh_placed : (settings : SettingsParts) (state : State) (nodes : List Node) (event : Event) → AreHosts settings state nodes → Each IsPlaced (kept (map host_of nodes) (fabric_verdict (map host_of nodes) event).fresh)
+fresh_placed settings state nodes event h = stay-placed (map host_of nodes) (names_differ settings state nodes h) (each_map host_of IsPlaced nodes (λ k n at. (h.stand k n at).placed)) event
 
 -- ---- the parts of calls
 
@@ -344,14 +361,16 @@ like f old new s = record { length = s.length; each = λ k n m at bt. let g = s.
 pub reserved_seen : (old new : List Node) → Stepwise (λ k n m. m ≡ with_entries n n.entries m.spare) old new → map host_of new ≡ map host_of old
 reserved_seen old new s = seen host_of host_of (λ k n m. m ≡ with_entries n n.entries m.spare) old new s (λ k n m g. ap host_of g)
 
-pub reserved_hosts : (state : State) (old new : List Node) → AreHosts state old → Stepwise (λ k n m. m ≡ with_entries n n.entries m.spare) old new → AreHosts state new
-reserved_hosts state old new h s =
-    entries_hosts state old new h (like (λ k n. n.entries) old new s)
+pub reserved_hosts : (settings : SettingsParts) (state : State) (old new : List Node) → AreHosts settings state old → Stepwise (λ k n m. m ≡ with_entries n n.entries m.spare) old new
+    → AreHosts settings state new
+reserved_hosts settings state old new h s =
+    entries_hosts settings state old new h (like (λ k n. n.entries) old new s)
     (subst (Each IsPlaced) (sym (reserved_seen old new s)) (each_map host_of IsPlaced old (λ k n at. (h.stand k n at).placed)))
 
-pub kept_hosts : (state : State) (old new : List Node) (fresh : List Made) → AreHosts state old → Each IsPlaced (kept (map host_of old) fresh) → Stepwise (IsKeptAt fresh) old new → AreHosts state new
-kept_hosts state old new fresh h placed s =
-    entries_hosts state old new h (like (λ k n. n.entries ++ filter_map (made_at k) fresh) old new s) (subst (Each IsPlaced) (sym (added_seen fresh old new s)) placed)
+pub kept_hosts : (settings : SettingsParts) (state : State) (old new : List Node) (fresh : List Made) → AreHosts settings state old → Each IsPlaced (kept (map host_of old) fresh)
+    → Stepwise (IsKeptAt fresh) old new → AreHosts settings state new
+kept_hosts settings state old new fresh h placed s =
+    entries_hosts settings state old new h (like (λ k n. n.entries ++ filter_map (made_at k) fresh) old new s) (subst (Each IsPlaced) (sym (added_seen fresh old new s)) placed)
 
 pub frames_handled : (w : WorldState) (caller : Caller) (event : Event) (verdict : Verdict) (hosts : List Host) → event_refusal w.state.rows caller event ≡ None → verdict ≡ fabric_verdict w.hosts event
     → hosts ≡ kept w.hosts verdict.fresh → IsHandled (ByLab (lab_outcome w caller (Frames event))) w (record w { hosts = hosts }) (LabDone (Seen verdict))

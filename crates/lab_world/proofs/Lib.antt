@@ -1,6 +1,5 @@
 pub mod AskApart
 pub mod HostLaws
-mod OwnRefusals
-mod SoFar
-mod Placing
+pub mod Placing
+pub mod SoFar
 pub mod WorldLaws

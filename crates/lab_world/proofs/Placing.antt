@@ -1,5 +1,5 @@
 -- A front of placed entries is placed, and what a list holds at a place.
-use Rattle.std.proofs.Common.{rules, ◌≡◌, ℕ, zero, suc, ◌+◌, ◌<◌, ◌≤◌, List, [], ◌∷◌, ◌++◌, Bool, true, cond, Option, None, Some, refl, ap, sym, subst, ◌∙◌, arith, drop, length, map, slice_get, slice_index_or}
+use Rattle.std.proofs.Common.{rules, ◌≡◌, ℕ, zero, suc, ◌+◌, ◌<◌, ◌≤◌, List, [], ◌∷◌, ◌++◌, Bool, cond, Option, Some, refl, ap, sym, subst, ◌∙◌, arith, drop, length, map, slice_get, slice_index_or}
 use Rattle.std.specs.Prelude.{count_by}
 use Rattle.std.specs.List.{filter_map}
 use Rattle.std.specs.Option.{option_map}
@@ -10,7 +10,7 @@ use Rattle.std.proofs.lemmas.Option.{slice_get-get_or, slice_get-map}
 use Rattle.api_types.proofs.ListLemmas.{none_some, some_equal}
 use Rattle.api_types.specs.Lists.{Each}
 use Rattle.plane_types.specs.Hosts.{Host}
-use Rattle.plane_types.specs.Placed.{IsPlaced, is_placed, meets, translates}
+use Rattle.plane_types.specs.Placed.{IsPlaced, meets, translates}
 use Rattle.plane_types.specs.Told.{kept, kept_from, made_at}
 use Rattle.plane_types.specs.declared.entry.Entry.{Entry}
 use Rattle.plane_types.specs.declared.lists.TableLists.{TableLists}

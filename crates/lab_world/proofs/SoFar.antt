@@ -1,9 +1,9 @@
 -- A list that is being put in the place of another, from its front on.
-use Rattle.std.proofs.Common.{inl, inr, ◌⊎◌, ◌≡◌, ℕ, zero, suc, ◌+◌, ◌<◌, ◌≤◌, List, [], ◌∷◌, Option, None, Some, refl, ap, sym, subst, ◌∙◌, arith, length, slice_get, slice_set}
+use Rattle.std.proofs.Common.{inl, inr, ◌⊎◌, ◌≡◌, ℕ, zero, suc, ◌+◌, ◌<◌, ◌≤◌, List, [], ◌∷◌, Some, refl, ap, sym, subst, ◌∙◌, arith, length, slice_get, slice_set}
 use Rattle.std.proofs.lemmas.Bool.{cases_order}
 use Rattle.std.proofs.lemmas.List.{length-set}
 use Rattle.std.proofs.lemmas.Option.{slice_get_within}
-use Rattle.api_types.proofs.ListLemmas.{none_some, some_equal}
+use Rattle.api_types.proofs.ListLemmas.{some_equal}
 use Rattle.lab_world.specs.Steps.{Stepwise}
 
 -- the items in front of a place come of those at their places, and the others are as they were

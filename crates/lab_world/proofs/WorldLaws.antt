@@ -1,28 +1,29 @@
 -- Worlds hold their rows: the first one, and each that an ask leaves of one that does.
-use Rattle.std.proofs.Common.{◌≡◌, ℕ, ◌+◌, ◌≤◌, List, [], ◌∷◌, Bool, true, false, cond, Option, None, Some, refl, ap, sym, subst, ◌∙◌, map}
-use Rattle.std.specs.Prelude.{◌||◌, count_by, find, not, sum_by}
+use Rattle.std.proofs.Common.{◌≡◌, ℕ, ◌+◌, ◌≤◌, List, [], ◌∷◌, cond, Option, None, Some, refl, sym, subst, ◌∙◌, map}
+use Rattle.std.specs.Prelude.{◌||◌, count_by, find, not}
 use Rattle.std.specs.List.{list_any}
 use Rattle.std.proofs.lemmas.List.Sums.{sum_by-cons}
 use Rattle.api_types.specs.Consistent.{IsConsistent}
 use Rattle.api_types.specs.Outcome.{Outcome, Moved, Told, Refused as RefusedWith}
 use Rattle.api_types.specs.RowLists.{RowLists}
-use Rattle.api_types.specs.Rows.{no_rows}
 use Rattle.api_types.specs.declared.call.Caller.{Caller}
 use Rattle.api_types.specs.declared.refusal.PolicyRule.TheVariants.{AdminOnly}
 use Rattle.api_types.specs.declared.refusal.Refusal.{Refusal}
 use Rattle.api_types.specs.declared.refusal.Refusal.TheVariants.{Forbidden}
-use Rattle.net_settings.specs.Defaults.{default_hosts, default_parts}
+use Rattle.net_settings.specs.Rules.{MeetsRules}
+use Rattle.net_settings.specs.Settings.{SettingsParts}
 use Rattle.net_settings.specs.declared.settings.Host.{Host as Carrier}
-use Rattle.net_settings.proofs.DefaultRules.{default_rules}
+use Rattle.api_types.specs.Rows.{no_rows}
+use Rattle.api_types.proofs.ListLemmas.{none_some}
 use Rattle.row_laws.proofs.NoRows.{no_rows_consistent}
 use Rattle.api_ml2.specs.Carrying.{carries}
-use Rattle.api_steps.specs.Holdable.{AreHoldable}
+use Rattle.api_machine.specs.Kept.{AreKept, HostsCarry}
 use Rattle.api_types.specs.Refusing.{when}
-use Rattle.api_steps.specs.Step.{api_step}
-use Rattle.api_steps.proofs.StepHeld.{step_held}
-use Rattle.api_steps.proofs.StepKept.{step_kept}
+use Rattle.api_machine.specs.BuiltStep.{built_step}
+use Rattle.api_machine.proofs.BuiltLaws.{built_kept}
+use Rattle.call_parts.specs.Typed.{AreTyped}
 use Rattle.plane_types.specs.Hosts.{Host, is_named}
-use Rattle.plane_types.specs.Node.{Node, host_of, started}
+use Rattle.plane_types.specs.Node.{Node, started}
 use Rattle.plane_types.specs.Placed.{IsPlaced}
 use Rattle.plane_types.specs.Realises.{Realises}
 use Rattle.plane_types.specs.Told.{fabric_verdict, hosts_after}
@@ -33,27 +34,31 @@ use Rattle.plane_types.specs.declared.ask.LabAnswer.{LabAnswer}
 use Rattle.plane_types.specs.declared.ask.LabAnswer.TheVariants.{Seen}
 use Rattle.plane_types.specs.declared.ask.LabCall.{LabCall}
 use Rattle.plane_types.specs.declared.ask.LabCall.TheVariants as call
-use Rattle.plane_types.specs.declared.event.Event.{Event}
 use Rattle.plane_types.proofs.PlacedLemmas.{stay_placed}
 use Rattle.plane_types.proofs.RealisedTags.{are_tags}
 use Rattle.plane_laws.specs.Held.{HoldRows}
 use Rattle.plane_laws.proofs.ListLaw.{held-after}
-use Rattle.lab_world.proofs.HostLaws.{each_map, first_hosts, first_seen, hold_rows, no_rows_holdable, realised_tables, unspared}
-use Rattle.lab_world.specs.Lab.{Answered, Barred, LabOutcome, WorldState, event_refusal, lab_outcome, tables_told, unless_barred}
-use Rattle.lab_world.specs.World.{ByLab, ByMachine, HoldsRows, IsAskInForm, ask_outcome, first_host, fresh_world, moved, rewired, world_after}
+use Rattle.lab_world.proofs.HostLaws.{each_map, first_hosts, first_seen, hold_rows, realised_tables, unspared}
+use Rattle.lab_world.specs.Lab.{Answered, WorldState, event_refusal, lab_outcome, tables_told, unless_barred}
+use Rattle.lab_world.specs.World.{ByLab, ByMachine, HoldsRows, IsAskInForm, ask_outcome, moved, opened, rewired, world_after}
 
 -- ---- the first world
 
-started_with : (hosts : List Carrier) → map unspared (map (λ d. started d.name 0 no_rows 0) hosts) ≡ map (λ d. started d.name 0 no_rows 0) hosts
-started_with [] = refl
-started_with (d ∷ hosts) = λ j. started d.name 0 no_rows 0 ∷ started_with hosts j
+started_with : (rows : RowLists) (hosts : List Carrier) → map unspared (map (λ d. started d.name 0 rows 0) hosts) ≡ map (λ d. started d.name 0 rows 0) hosts
+started_with rows [] = refl
+started_with rows (d ∷ hosts) = λ j. started d.name 0 rows 0 ∷ started_with rows hosts j
 
-pub first_holds : HoldsRows fresh_world
-first_holds =
-    let nodes : List Node = map (λ d. started d.name 0 no_rows 0) default_hosts in
-    let same = started_with default_hosts in
-    subst (HoldRows (carries default_hosts) no_rows) (first_seen no_rows nodes same)
-    (hold_rows (record { rows = no_rows; version = 0 }) nodes no_rows_consistent (first_hosts no_rows nodes same no_rows_consistent no_rows_holdable))
+pub first_holds : (settings : SettingsParts) (rows : RowLists) → MeetsRules settings → IsConsistent rows → AreTyped rows → HostsCarry settings rows → HoldsRows (opened settings rows)
+first_holds settings rows rules c typed carried =
+    let nodes : List Node = map (λ d. started d.name 0 rows 0) settings.hosts in
+    let same = started_with rows settings.hosts in
+    subst (λ hosts. HoldsRows (record { settings = settings; state = record { rows = rows; version = 0 }; hosts = hosts })) (first_seen settings rows nodes same)
+    (hold_rows settings (record { rows = rows; version = 0 }) nodes c typed carried (first_hosts settings rows nodes same rules c))
+
+-- where there are no rows, nothing is asked of them
+pub no_rows_hold : (settings : SettingsParts) → MeetsRules settings → HoldsRows (opened settings no_rows)
+no_rows_hold settings rules =
+    first_holds settings no_rows rules no_rows_consistent (record { prefixes = λ k s at. none_some s _ at; macs = λ k p at. none_some p _ at }) (record { at_host = λ k p at. none_some p _ at })
 
 -- ---- new rows at all hosts
 
@@ -68,24 +73,34 @@ named_again : (rows : RowLists) (name : List ℕ) (hosts : List Host) → list_a
 named_again rows name [] = refl
 named_again rows name (h ∷ hosts) = λ j. is_named name h || named_again rows name hosts j
 
-moved_holds : (w : WorldState) (rows : RowLists) → HoldsRows w → IsConsistent rows → AreHoldable (carries default_hosts) rows → HoldsRows (moved w rows)
-moved_holds w rows held consistent holdable = record {
-  consistent = consistent;
-  carried = holdable;
-  synced = record {
-    realise = each_map (rewired rows) (λ (h : Host). Realises rows h.name h.tables) w.hosts (λ k h at. realised_tables rows h.name h.tables.tags (are_tags w.state.rows h.name h.tables.tags (held.synced.realise k h at).tags) consistent);
-    placed = each_map (rewired rows) IsPlaced w.hosts (λ k h at. stay_placed h.name h.tables (wired rows h.name h.tables.tags) h.entries (held.synced.placed k h at));
-    names = λ name. subst (λ n. n ≤ 1) (sym (counted_again rows name w.hosts)) (held.synced.names name);
-    complete = λ name s can. named_again rows name w.hosts ∙ held.synced.complete name s can;
-  };
-}
+moved_holds : (w : WorldState) (rows : RowLists) → HoldsRows w → AreKept w.settings w.state.rows rows → HoldsRows (moved w rows)
+moved_holds w rows h kept =
+    let held = h.held in
+    record {
+      rules = h.rules;
+      typed = kept.typed;
+      held = record {
+        consistent = kept.consistent;
+        carried = kept.carried held.carried;
+        synced = record {
+          realise = each_map (rewired rows) (λ (g : Host). Realises rows g.name g.tables) w.hosts (λ k g at. realised_tables rows g.name g.tables.tags (are_tags w.state.rows g.name g.tables.tags (held.synced.realise k g at).tags) kept.consistent);
+          placed = each_map (rewired rows) IsPlaced w.hosts (λ k g at. stay_placed g.name g.tables (wired rows g.name g.tables.tags) g.entries (held.synced.placed k g at));
+          names = λ name. subst (λ n. n ≤ 1) (sym (counted_again rows name w.hosts)) (held.synced.names name);
+          complete = λ name s can. named_again rows name w.hosts ∙ held.synced.complete name s can;
+        };
+      };
+    }
 
 -- ---- an ask
 
-by_call : (w : WorldState) → HoldsRows w → (o : Outcome) → ((rows : RowLists) (reply : _) → o ≡ Moved rows reply → IsConsistent rows × AreHoldable (carries default_hosts) rows) → HoldsRows (world_after w (ByMachine o))
-by_call w held (RefusedWith refusal) facts = held
-by_call w held (Told reply) facts = held
-by_call w held (Moved rows reply) facts = let f = facts rows reply refl in moved_holds w rows held f.0 f.1
+by_call : (w : WorldState) → HoldsRows w → (o : Outcome) → ((rows : RowLists) (reply : _) → o ≡ Moved rows reply → AreKept w.settings w.state.rows rows) → HoldsRows (world_after w (ByMachine o))
+by_call w held (RefusedWith refusal) kept = held
+by_call w held (Told reply) kept = held
+by_call w held (Moved rows reply) kept = moved_holds w rows held (kept rows reply refl)
+
+-- with other hosts that hold the rows
+at_hosts : (w : WorldState) → HoldsRows w → (hosts : List Host) → HoldRows (carries w.settings.hosts) w.state.rows hosts → HoldsRows (record w { hosts = hosts })
+at_hosts w held hosts h = record { rules = held.rules; typed = held.typed; held = h }
 
 unless_holds : (w : WorldState) → HoldsRows w → (o : Option Refusal) (answer : LabAnswer) (hosts : List Host) → HoldsRows (record w { hosts = hosts }) → HoldsRows (world_after w (ByLab (unless_barred o (Answered answer hosts))))
 unless_holds w held None answer hosts h = h
@@ -97,7 +112,7 @@ by_tables w held None name None = held
 by_tables w held None name (Some h) = held
 
 by_lab : (w : WorldState) → HoldsRows w → (caller : Caller) (c : LabCall) → HoldsRows (world_after w (ByLab (lab_outcome w caller c)))
-by_lab w held caller (call.Frames event) = unless_holds w held (event_refusal w.state.rows caller event) (Seen (fabric_verdict w.hosts event)) (hosts_after w.hosts event) (held-after (carries default_hosts) w.state.rows w.hosts held event)
+by_lab w held caller (call.Frames event) = unless_holds w held (event_refusal w.state.rows caller event) (Seen (fabric_verdict w.hosts event)) (hosts_after w.hosts event) (at_hosts w held (hosts_after w.hosts event) (held-after (carries w.settings.hosts) w.state.rows w.hosts held.held event))
 by_lab w held caller (call.Explain event) = unless_holds w held (event_refusal w.state.rows caller event) _ w.hosts held
 by_lab w held caller call.Hosts = unless_holds w held (when (not caller.admin) (Forbidden AdminOnly)) _ w.hosts held
 by_lab w held caller (call.Tables name) = by_tables w held (when (not caller.admin) (Forbidden AdminOnly)) name (find (is_named name) w.hosts)
@@ -109,6 +124,5 @@ by_lab w held caller call.Settle = held
 
 pub ask_holds : (caller : Caller) (ask : Ask) (w : WorldState) → IsAskInForm caller ask → HoldsRows w → HoldsRows (world_after w (ask_outcome w caller ask))
 ask_holds caller (Api c) w form held =
-    by_call w held (api_step default_parts w.state caller c) (λ rows reply is.
-    (step_kept default_parts w.state caller c rows reply default_rules held.consistent form is, step_held default_parts w.state caller c rows reply held.consistent held.carried is))
+    by_call w held (built_step w.settings w.state caller c) (λ rows reply is. built_kept w.settings held.rules c w.state caller rows reply held.held.consistent held.typed form is)
 ask_holds caller (Lab c) w form held = by_lab w held caller c

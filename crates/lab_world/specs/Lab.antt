@@ -10,7 +10,9 @@ use Rattle.api_types.specs.declared.refusal.Refusal.{Refusal}
 use Rattle.api_types.specs.declared.refusal.Refusal.TheVariants.{Forbidden, Invalid, NoHost, NotBuilt, OutOfMemory}
 use Rattle.api_policy.specs.Visibility.{sees_row}
 use Rattle.api_types.specs.Refusing.{first_refusal, not_found, when}
-use Rattle.api_steps.specs.State.{State}
+use Rattle.api_machine.specs.Machine.{state_at}
+use Rattle.call_parts.specs.State.{State}
+use Rattle.net_settings.specs.Settings.{SettingsParts}
 use Rattle.plane_types.specs.Hosts.{Host, all_entries, is_named}
 use Rattle.api_types.specs.Wires.{network_on}
 use Rattle.plane_types.specs.Told.{fabric_verdict, hosts_after, rows_verdict}
@@ -22,10 +24,15 @@ use Rattle.plane_types.specs.declared.ask.LabCall.TheVariants as call
 use Rattle.plane_types.specs.declared.event.Event.{Event}
 use Rattle.plane_types.specs.declared.event.Event.TheVariants.{FromPort, FromWire}
 
--- a server: the machine's rows with their version, and the hosts that hold them, with their tables and tracked entries
+-- a server: its settings, the machine's rows with their version, and the hosts that hold them, with their tables and tracked entries
 pub record WorldState : Type 0 where
+  pub settings : SettingsParts
   pub state : State
   pub hosts : List Host
+
+-- a server by the machine's parts and its hosts
+abbrev pub world_of : SettingsParts → RowLists → ℕ → List Host → WorldState
+world_of settings rows version hosts = record { settings = settings; state = state_at rows version; hosts = hosts }
 
 -- a call of the lab is refused, or answered, and then the hosts are these
 pub data LabOutcome : Type 0 where

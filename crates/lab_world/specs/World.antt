@@ -4,10 +4,10 @@ use Rattle.std.specs.List.{filter}
 use Rattle.api_types.specs.Outcome.{Outcome, Refused as RefusedWith, Told, Moved}
 use Rattle.api_types.specs.Printed.{reply_of}
 use Rattle.api_types.specs.RowLists.{RowLists}
-use Rattle.api_types.specs.Rows.{no_rows}
 use Rattle.api_types.specs.declared.call.Caller.{Caller}
 use Rattle.api_types.specs.declared.refusal.Refusal.TheVariants.{OutOfMemory, StoreFault}
-use Rattle.net_settings.specs.Defaults.{default_hosts, default_parts}
+use Rattle.net_settings.specs.Rules.{MeetsRules}
+use Rattle.net_settings.specs.Settings.{SettingsParts}
 use Rattle.plane_types.specs.Hosts.{Host}
 use Rattle.plane_types.specs.Placed.{is_placed}
 use Rattle.plane_types.specs.declared.ask.Ask.{Ask}
@@ -15,9 +15,10 @@ use Rattle.plane_types.specs.declared.ask.Ask.TheVariants.{Api, Lab}
 use Rattle.plane_types.specs.declared.ask.Reply.{Reply}
 use Rattle.plane_types.specs.declared.ask.Reply.TheVariants.{Done, LabDone, Refused}
 use Rattle.api_ml2.specs.Carrying.{carries}
-use Rattle.api_steps.specs.InForm.{IsInForm}
+use Rattle.api_machine.specs.BuiltStep.{built_step}
+use Rattle.call_parts.specs.InForm.{IsInForm}
+use Rattle.call_parts.specs.Typed.{AreTyped}
 use Rattle.api_types.specs.Refusing.{told}
-use Rattle.api_steps.specs.Step.{api_step}
 use Rattle.plane_laws.specs.Held.{HoldRows}
 use Rattle.plane_types.specs.Wired.{wired}
 use Rattle.lab_world.specs.Lab.{Answered, Barred, LabOutcome, WorldState, lab_outcome}
@@ -30,18 +31,21 @@ first_host rows name = record { name = name; tables = wired rows name []; entrie
 abbrev pub rewired : RowLists → Host → Host
 rewired rows h = record { name = h.name; tables = wired rows h.name h.tables.tags; entries = filter (is_placed (wired rows h.name h.tables.tags)) h.entries }
 
--- no rows, at version 0, and the hosts of the default settings
-abbrev pub fresh_world : WorldState
-fresh_world = record { state = record { rows = no_rows; version = 0 }; hosts = map (λ h. first_host no_rows h.name) default_hosts }
+-- rows that are put into service, at version 0, and the hosts of the settings, which wire them
+abbrev pub opened : SettingsParts → RowLists → WorldState
+opened settings rows = record {
+  settings = settings;
+  state = record { rows = rows; version = 0 };
+  hosts = map (λ h. first_host rows h.name) settings.hosts;
+}
 
 -- what is asked comes to the outcome of a call of the API, or of the lab
 pub data AskOutcome : Type 0 where
   ByMachine : Outcome → AskOutcome
   ByLab : LabOutcome → AskOutcome
 
--- under the default settings
 abbrev pub ask_outcome : WorldState → Caller → Ask → AskOutcome
-ask_outcome w caller (Api call) = ByMachine (api_step default_parts w.state caller call)
+ask_outcome w caller (Api call) = ByMachine (built_step w.settings w.state caller call)
 ask_outcome w caller (Lab call) = ByLab (lab_outcome w caller call)
 
 -- what the reading of a request has made sure of
@@ -51,7 +55,7 @@ IsAskInForm caller (Lab call) = ⊤
 
 -- where a call moves the rows, the version is the next, and each host wires the new rows
 abbrev pub moved : WorldState → RowLists → WorldState
-moved w rows = record { state = record { rows = rows; version = w.state.version + 1 }; hosts = map (rewired rows) w.hosts }
+moved w rows = record w { state = record { rows = rows; version = w.state.version + 1 }; hosts = map (rewired rows) w.hosts }
 
 abbrev pub world_after : WorldState → AskOutcome → WorldState
 world_after w (ByMachine (RefusedWith refusal)) = w
@@ -95,6 +99,8 @@ IsOutside outcome reply = (reply ≡ Refused OutOfMemory) ⊎ ((reply ≡ Refuse
 abbrev pub Handles : AskOutcome → WorldState → WorldState → Reply → Type 0
 Handles outcome old new reply = IsHandled outcome old new reply ⊎ (IsOutside outcome reply × (new ≡ old))
 
--- each host holds the rows, and can carry its ports: what the laws of frames suppose
-abbrev pub HoldsRows : WorldState → Type 0
-HoldsRows w = HoldRows (carries default_hosts) w.state.rows w.hosts
+-- the settings meet their rules, and each host holds the rows, which are as types say, and can carry its ports: what the laws of calls and of frames suppose
+pub record HoldsRows (w : WorldState) : Type 0 where
+  pub rules : MeetsRules w.settings
+  pub typed : AreTyped w.state.rows
+  pub held : HoldRows (carries w.settings.hosts) w.state.rows w.hosts

@@ -1,6 +1,7 @@
 //! The world of a server: the machine of the Networking API with the keeper of its rows, and the
 //! hosts that carry its frames.
 //!
+//! `World::open` puts rows into service under any settings, where they are consistent.
 //! `World::handle` answers what a caller asks. A change is planned and prepared before the keeper
 //! gets it, for the machine and for each host, and put in place after it, so that nothing can fail
 //! in between: the kept rows are the world's, and each host's tables are those of these rows,
@@ -15,8 +16,10 @@ mod each;
 mod hosts;
 mod lab;
 mod laws;
+mod opening;
 mod world;
 
 pub use hosts::Hosts;
 pub use laws::{frames_mean_what_rows_say, tenants_stay_apart, worlds_hold_their_rows};
+pub use opening::OpenRefusal;
 pub use world::World;

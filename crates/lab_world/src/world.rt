@@ -1,8 +1,10 @@
-ghost use Rattle.std.specs.Prelude.{◌≡◌, ◌⊎◌, ◌-◌, ◌^◌, ◌<◌, ◌≤◌, IfOk, IfErr, OnOk, OnErr, map, true};
+ghost use Rattle.std.specs.Prelude.{◌≡◌, ◌⊎◌, ◌-◌, ◌^◌, ◌<◌, ◌≤◌, IfOk, IfErr, OnOk, OnErr, false, map, true};
 ghost use Rattle.api_types.specs.Consistent.{IsConsistent};
 ghost use Rattle.api_types.specs.Outcome.{Refused as RefusedWith};
 ghost use Rattle.api_types.specs.Rows.{Fits, after};
-ghost use Rattle.net_settings.specs.Defaults.{default_hosts, default_parts};
+ghost use Rattle.api_check.specs.FirstBroken.{first_broken_of};
+ghost use Rattle.net_settings.specs.declared.settings.Host.{Host as Carrier};
+ghost use Rattle.net_settings.specs.Rules.{MeetsRules};
 ghost use Rattle.plane_types.specs.Crossing.{CrossesAtRouters};
 ghost use Rattle.plane_types.specs.Hosts.{all_entries};
 ghost use Rattle.plane_types.specs.Meaning.{life_of};
@@ -14,23 +16,24 @@ ghost use Rattle.plane_types.specs.declared.event.Event.{Event as TheEvent};
 ghost use Rattle.plane_types.specs.declared.verdict.Verdict.{Verdict as TheVerdict};
 ghost use Rattle.plane_laws.specs.Bounds.{HasEightBits};
 ghost use Rattle.plane_types.specs.Node.{Node, started};
-ghost use Rattle.api_ml2.specs.Carrying.{carries};
-ghost use Rattle.api_steps.specs.Holdable.{AreHoldable};
-ghost use Rattle.api_steps.specs.InForm.{IsInForm};
-ghost use Rattle.api_steps.specs.Step.{api_step};
+ghost use Rattle.api_machine.specs.BuiltStep.{built_step};
+ghost use Rattle.api_machine.specs.Kept.{AreKept};
+ghost use Rattle.call_parts.specs.InForm.{IsInForm};
 ghost use Rattle.keeper_core.specs.Counts.{RoseBy, Tells};
 ghost use Rattle.lab_world.specs.Lab.{Answered, IsBarred, lab_outcome};
-ghost use Rattle.lab_world.specs.World.{Handles, HoldsRows, IsAskInForm, IsHandled, ByLab, ByMachine, ask_outcome, fresh_world, is_change, moved};
+ghost use Rattle.lab_world.specs.World.{Handles, HoldsRows, IsAskInForm, IsHandled, ByLab, ByMachine, ask_outcome, is_change, moved, opened};
+ghost use Rattle.lab_world.specs.Opening.{IsOpenRefusal};
 
 use crate::hosts::Hosts;
 use crate::lab::{bar_event, bar_tenant, tables_of};
+use crate::opening::OpenRefusal;
 use api_machine::{Machine, Planned};
 use api_types::{Answer, Call, Caller, Change, Refusal, Rows};
 use fabric_run::send;
 use keeper_core::{Keeper, KeeperRefusal};
 use net_addr::{Copies, OutOfMemory, Text};
 use net_meaning::explain;
-use net_settings::default_settings;
+use net_settings::{Host, Settings};
 use plane_types::{Ask, Event, Frame, LabAnswer, LabCall, Reply};
 use std::alloc::Global;
 use std::marker::Model;
@@ -48,22 +51,37 @@ impl Model for World {
     ghost use Rattle.std.specs.Prelude.{map};
     ghost use Rattle.plane_types.specs.Node.{host_of};
     ghost use Rattle.lab_world.specs.Hosts.{AreHosts};
-    ghost use Rattle.lab_world.specs.Lab.{WorldState};
+    ghost use Rattle.api_machine.specs.Machine.{state_at};
+    ghost use Rattle.lab_world.specs.Lab.{WorldState, world_of};
 
     ghost Value = { WorldState };
 
-    ghost view = { λ w. record { state = w.machine; hosts = map host_of w.hosts } };
+    ghost view = { λ w.
+        world_of w.machine.settings w.machine.rows w.machine.version (map host_of w.hosts) };
 
-    ghost invariant = { λ w. AreHosts w.machine w.hosts };
+    ghost invariant = { λ w.
+        AreHosts w.machine.settings (state_at w.machine.rows w.machine.version) w.hosts };
 }
 
 impl World {
-    /// A world without rows, at version 0, with the hosts of the default settings.
-    pub fn fresh(alloc: Global) -> Result<World, OutOfMemory>
-        ensures { IfOk result (λ w. w ≡ fresh_world) }
+    /// Puts rows into service under the settings, at version 0, with the hosts of the settings, each
+    /// of which wires them. `manual` is for messages to hosts, which aren't built yet. It is refused
+    /// where the rows break a clause of consistency, with the first one, or for want of memory; rows
+    /// and settings are dropped then. Its cost grows with the square of the rows, and with the hosts
+    /// times the rows.
+    pub fn open(
+        alloc: Global,
+        rows: Rows,
+        settings: Settings,
+        manual: bool,
+    ) -> Result<World, OpenRefusal>
+        requires at_once { manual ≡ false }
+        ensures ok { IfOk result (λ w. w ≡ opened settings rows) }
+        ensures sound { OnOk result (first_broken_of settings.hosts rows ≡ None) }
+        ensures err { IfErr result (IsOpenRefusal (first_broken_of settings.hosts rows)) }
     {
-        let machine = Machine::fresh(alloc)?;
-        let hosts = first_hosts(alloc, machine.rows())?;
+        let machine = Machine::open(rows, settings)?;
+        let hosts = first_hosts(alloc, machine.rows(), machine.settings().hosts())?;
         Ok(World { machine, hosts })
     }
 
@@ -74,6 +92,14 @@ impl World {
         ensures held { HoldsRows self.now }
     {
         self.machine.rows()
+    }
+
+    /// The settings.
+    pub fn settings(&self) -> &Settings
+        ensures value { result.now ≡ self.now.settings }
+        ensures rules { MeetsRules self.now.settings }
+    {
+        self.machine.settings()
     }
 
     /// How many changes were accepted.
@@ -224,7 +250,7 @@ impl World {
         requires in_form { IsInForm caller.now call.now }
         ensures ok { IfOk result
             (λ answer.
-            IsHandled (ByMachine (api_step default_parts self.old.state caller.now call.now))
+            IsHandled (ByMachine (built_step self.old.settings self.old.state caller.now call.now))
             self.old self.new (Reply.Done answer)) }
         ensures err { IfErr result
             (λ refusal. (self.new ≡ self.old)
@@ -232,14 +258,14 @@ impl World {
             ⊎ (((refusal ≡ Refusal.StoreFault)
             × (is_change
             (ByMachine
-            (api_step default_parts self.old.state
+            (built_step self.old.settings self.old.state
             caller.now call.now)) ≡ true))
-            ⊎ (api_step default_parts self.old.state caller.now call.now
+            ⊎ (built_step self.old.settings self.old.state caller.now call.now
             ≡ RefusedWith refusal)))) }
         ensures store_fault { IfErr result
             (λ refusal. refusal ≡ Refusal.StoreFault
             → (is_change (ByMachine
-            (api_step default_parts self.old.state caller.now call.now))
+            (built_step self.old.settings self.old.state caller.now call.now))
             ≡ true) × RoseBy 1 (K.faults keeper.old) (K.faults keeper.new)) }
         ensures later { K.faults keeper.old ≤ K.faults keeper.new }
         ensures kept { Tells (K.kept keeper.new) self.new.state.rows }
@@ -261,8 +287,7 @@ impl World {
     ) -> Result<(), Refusal>
         requires kept { Tells (K.kept keeper.old) self.old.state.rows }
         requires fits { Fits self.old.state.rows change.now }
-        requires consistent { IsConsistent (after self.old.state.rows change.now) }
-        requires holdable { AreHoldable (carries default_hosts)
+        requires sound { AreKept self.old.settings self.old.state.rows
             (after self.old.state.rows change.now) }
         requires room { self.old.state.version < 2 ^ 64 - 1 }
         ensures ok { OnOk result
@@ -290,17 +315,16 @@ impl World {
     }
 }
 
-// The hosts of the default settings, which are given their first rows.
-fn first_hosts(alloc: Global, rows: &Rows) -> Result<Hosts, OutOfMemory>
+// The hosts of the settings, which are given their first rows.
+fn first_hosts(alloc: Global, rows: &Rows, carriers: &[Host]) -> Result<Hosts, OutOfMemory>
     requires { IsConsistent rows.now }
     ensures { IfOk result
         (λ h. map (λ (n : Node). record n { spare = 0 }) h
-        ≡ map (λ d. started d.name 0 rows.now 0) default_hosts) }
+        ≡ map (λ (d : Carrier). started d.name 0 rows.now 0) carriers.now) }
 {
-    let settings = default_settings(alloc)?;
     let mut hosts = Hosts::new(alloc);
-    for host in settings.hosts() {
-        hosts.add(alloc, host.name.copy(alloc)?, rows, 0)?;
+    for carrier in carriers {
+        hosts.add(alloc, carrier.name.copy(alloc)?, rows, 0)?;
     }
     Ok(hosts)
 }

@@ -15,7 +15,7 @@ pub use fault::{Fault, fault_of};
 pub use http_heads::{HEAD_LIMIT, HeadParts, HeadRead, Part, head_laws, read_head, read_number};
 pub use query::{BodyRefusal, read_query};
 pub use reply::{Extra, no_memory_reply, written};
-pub use route::{Method, Route, RoutePath, RouteRefusal, find_route};
+pub use route::{Method, Route, RoutePath, RouteRefusal, Routes, find_route};
 
 #[cfg(test)]
 mod tests;

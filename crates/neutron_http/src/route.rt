@@ -8,6 +8,7 @@ use api_types::Kind;
 use matchit::Router;
 use net_addr::{Names, OutOfMemory, Seq, Text};
 use std::alloc::Global;
+use std::marker::Model;
 use std::str;
 
 /// The methods of requests that routes have.
@@ -166,26 +167,6 @@ fn add_all(router: &mut Router<RoutePath>, paths: &[RoutePath]) -> Result<(), Ou
     Ok(())
 }
 
-// The router of the API's paths.
-fn router(alloc: Global) -> Result<Router<RoutePath>, OutOfMemory>
-    ensures { IfOk result (λ r. r ≡ routes) }
-{
-    let mut router = Router::new(alloc);
-    add_all(&mut router, &PATHS)?;
-    Ok(router)
-}
-
-// The path of the API that a text is.
-fn find_path(alloc: Global, path: &str) -> Result<Option<RoutePath>, OutOfMemory>
-    ensures { IfOk result (λ p. p ≡ path_at path.now) }
-{
-    let router = router(alloc)?;
-    match router.at(path) {
-        Ok(found) => Ok(Some(*found.value)),
-        Err(_) => Ok(None),
-    }
-}
-
 // The methods of a path, in the order of their names.
 fn methods(path: RoutePath) -> &'static [Method]
     ensures { result.now ≡ methods_of path }
@@ -275,28 +256,74 @@ fn parameters(alloc: Global, template: &str, path: &str) -> Result<Names, OutOfM
     named_parts(alloc, names.as_slice(), parts.as_slice())
 }
 
-/// The route of a path with a method, both compared byte for byte.
-///
-/// A path that isn't UTF-8 has none. The router is built in each call: the cost is that of adding
-/// 27 routes and of one search, which grows with the path.
+/// The routes of the API, ready to be searched.
+#[derive(Drop)]
+pub struct Routes {
+    router: Router<RoutePath>,
+}
+
+impl Model for Routes {
+    ghost use Rattle.std.specs.Prelude.{◌≡◌};
+    ghost use Rattle.matchit.specs.Router.{RouteOf};
+    ghost use Rattle.matchit.specs.Rows.{RowsOf};
+    ghost use Rattle.neutron_http.specs.Paths.{routes};
+    ghost use Rattle.neutron_http.specs.declared.route.RoutePath.{RoutePath as ThePath};
+
+    ghost Value = { RowsOf (RouteOf ThePath) };
+
+    ghost view = { λ r. r.router };
+
+    ghost invariant = { λ r. r.router ≡ routes };
+}
+
+impl Routes {
+    /// All routes. It takes memory for 27 of them.
+    pub fn make(alloc: Global) -> Result<Routes, OutOfMemory> {
+        let mut router = Router::new(alloc);
+        add_all(&mut router, &PATHS)?;
+        Ok(Routes { router })
+    }
+
+    // The path of the API that a text is.
+    fn find_path(&self, path: &str) -> Option<RoutePath>
+        ensures { result ≡ path_at path.now }
+    {
+        match self.router.at(path) {
+            Ok(found) => Some(*found.value),
+            Err(_) => None,
+        }
+    }
+
+    /// The route of a path with a method, both compared byte for byte. A path that isn't UTF-8 has
+    /// none. The cost grows with the path.
+    pub fn find(&self, alloc: Global, method: &[u8], path: &[u8]) -> Result<Route, RouteRefusal>
+        ensures route { Answers result (route_of method.now path.now) }
+        ensures allowed { AllowsValue result }
+    {
+        let Ok(text) = str::from_utf8(path) else {
+            return Err(RouteRefusal::NoRoute);
+        };
+        let Some(place) = self.find_path(text) else {
+            return Err(RouteRefusal::NoRoute);
+        };
+        let Some(method) = find_method(methods(place), method) else {
+            let allowed = Text::of(alloc, allowed(place))?;
+            return Err(RouteRefusal::NoMethod { allowed });
+        };
+        let parameters = parameters(alloc, template(place), text)?;
+        Ok(Route {
+            path: place,
+            method,
+            parameters,
+        })
+    }
+}
+
+/// The route of a path with a method, among `Routes` that are made for this one search: the cost is
+/// that of adding 27 routes too.
 pub fn find_route(alloc: Global, method: &[u8], path: &[u8]) -> Result<Route, RouteRefusal>
     ensures route { Answers result (route_of method.now path.now) }
     ensures allowed { AllowsValue result }
 {
-    let Ok(text) = str::from_utf8(path) else {
-        return Err(RouteRefusal::NoRoute);
-    };
-    let Some(place) = find_path(alloc, text)? else {
-        return Err(RouteRefusal::NoRoute);
-    };
-    let Some(method) = find_method(methods(place), method) else {
-        let allowed = Text::of(alloc, allowed(place))?;
-        return Err(RouteRefusal::NoMethod { allowed });
-    };
-    let parameters = parameters(alloc, template(place), text)?;
-    Ok(Route {
-        path: place,
-        method,
-        parameters,
-    })
+    Routes::make(alloc)?.find(alloc, method, path)
 }

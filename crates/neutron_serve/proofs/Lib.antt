@@ -1,5 +1,8 @@
 pub mod Asking
+pub mod FormsGiven
+pub mod GoodMembers
 pub mod InForm
 pub mod Naming
 pub mod Promising
 pub mod Replying
+pub mod SaidValues

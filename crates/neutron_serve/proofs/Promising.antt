@@ -1,20 +1,17 @@
 -- A session keeps its promises: what steps it makes of hosts that hold the rows.
-use Rattle.std.proofs.Common.{◌≡◌, ◌∙◌, ◌⊎◌, inl, inr, ℕ, Bool, true, false, not, cond, List, [], ◌∷◌, Option, None, Some, refl, ap, sym, subst}
+use Rattle.std.proofs.Common.{◌≡◌, ◌∙◌, inl, inr, ℕ, Bool, true, false, not, cond, List, [], ◌∷◌, Option, None, Some, refl, ap, sym, subst}
 use Rattle.std.specs.Prelude.{Result, Ok, Err}
 use Rattle.std.proofs.lemmas.Option.{same_Some}
 use Rattle.api_types.specs.Consistent.{IsConsistent}
 use Rattle.api_types.specs.Lists.{is_empty}
-use Rattle.api_types.specs.Outcome.{Moved, Outcome, Refused, Told as ToldReply}
+use Rattle.api_types.specs.Outcome.{Moved, Refused, Told as ToldReply}
 use Rattle.api_types.specs.declared.call.Caller.{Caller}
 use Rattle.api_types.specs.declared.refusal.Refusal.{Refusal}
-use Rattle.net_settings.specs.Defaults.{default_parts}
-use Rattle.api_steps.specs.Footing.{footing}
+use Rattle.api_machine.specs.Footing.{footing}
 use Rattle.json_values.specs.Grammars.{is_project_name}
-use Rattle.plane_types.specs.Hosts.{Host}
 use Rattle.plane_types.specs.Told.{fabric_verdict, hosts_after}
 use Rattle.plane_types.specs.declared.ask.Ask.{Ask}
 use Rattle.plane_types.specs.declared.ask.Ask.TheVariants.{Lab}
-use Rattle.plane_types.specs.declared.ask.LabAnswer.{LabAnswer}
 use Rattle.plane_types.specs.declared.ask.LabAnswer.TheVariants.{Seen}
 use Rattle.plane_types.specs.declared.ask.LabCall.TheVariants.{Frames}
 use Rattle.plane_types.specs.declared.event.Event.{Event}
@@ -31,8 +28,8 @@ use Rattle.http_session.specs.Told.{Moves, NoMemory, StoreFailed, Told, Answered
 use Rattle.http_session.specs.declared.session_end.SessionEnd.{SessionEnd}
 use Rattle.http_session.specs.declared.session_end.SessionEnd.TheVariants.{Budget, Done, OutOfMemory, ReadFault, WriteFault}
 use Rattle.neutron_serve.specs.Promises.{FrameTold, Promised, Promises, is_refusal}
-use Rattle.neutron_serve.specs.Replies.{lab_bytes, outcome_bytes}
-use Rattle.neutron_serve.specs.Requests.{asked_by, by_caller, caller_named, caller_of, request_of}
+use Rattle.neutron_serve.specs.Replies.{outcome_bytes}
+use Rattle.neutron_serve.specs.Requests.{asked_by, by_caller, caller_of, request_of}
 use Rattle.neutron_serve.specs.Steps.{Steps, fixed_replies, request_outcome}
 use Rattle.neutron_serve.proofs.InForm.{asked_in_form, caller_named_asks}
 use Rattle.neutron_serve.proofs.Naming.{name_there}
@@ -107,10 +104,10 @@ bytes_told close (ByLab (Barred refusal)) = refl
 bytes_told close (ByLab (Answered answer hosts)) = refl
 
 told_apart : (old other : WorldState) (caller : Caller) (ask : Ask) (close : Bool) → not (is_empty caller.project) ≡ true → HoldsRows old → caller.admin ≡ false → IsConsistent other.state.rows
-    → footing default_parts other.state caller ≡ footing default_parts old.state caller → outcome_bytes close (ask_outcome old caller ask) ≡ outcome_bytes close (ask_outcome other caller ask)
-told_apart old other caller ask close named held tenant consistent same =
+    → other.settings ≡ old.settings → footing other.settings other.state caller ≡ footing old.settings old.state caller → outcome_bytes close (ask_outcome old caller ask) ≡ outcome_bytes close (ask_outcome other caller ask)
+told_apart old other caller ask close named held tenant consistent one same =
     bytes_told close (ask_outcome old caller ask)
-    ∙ ap (outcome_bytes close) (ask_apart caller old other tenant named held.consistent consistent (sym same) ask)
+    ∙ ap (outcome_bytes close) (ask_apart caller old other tenant named held.held.consistent consistent (sym one) (sym same) ask)
     ∙ sym (bytes_told close (ask_outcome other caller ask))
 
 stays : (old new : WorldState) (o : AskOutcome) → new ≡ world_after old o → is_refusal o ≡ true → new ≡ old
@@ -125,9 +122,9 @@ step_promised old new asked reply held s = record {
   steps = s;
   holds = held;
   frames = λ caller event is none. frame_told old caller event (closes asked.head) reply held none (s.replies ∙ ap (λ r. outcome_bytes (closes asked.head) (request_outcome old r)) is);
-  apart = λ caller ask is tenant other consistent same.
+  apart = λ caller ask is tenant other consistent one same.
       s.replies ∙ ap (λ r. outcome_bytes (closes asked.head) (request_outcome old r)) is
-      ∙ told_apart old other caller ask (closes asked.head) (formed asked caller ask is).named held tenant consistent same;
+      ∙ told_apart old other caller ask (closes asked.head) (formed asked caller ask is).named held tenant consistent one same;
   refused = stays old new (request_outcome old (request_of asked)) s.moves;
 }
 

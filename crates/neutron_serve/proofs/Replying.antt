@@ -1,6 +1,6 @@
 -- What a handled ask says of the step and its reply.
-use Rattle.std.proofs.Common.{inl, inr, ◌≡◌, ℕ, ◌+◌, List, [], ◌∷◌, ◌++◌, Bool, true, false, Option, None, Some, Result, Ok, Err, refl, ap, sym, subst, ◌∙◌, arith, find}
-use Rattle.std.specs.Prelude.{◌&&◌, ◌==◌, if◌then◌else◌, not, map, suc, ⊤}
+use Rattle.std.proofs.Common.{inl, inr, ◌≡◌, ℕ, ◌+◌, List, [], ◌∷◌, Bool, true, false, Option, None, Some, Result, Ok, Err, refl, ap, sym, subst, ◌∙◌, arith, find}
+use Rattle.std.specs.Prelude.{◌&&◌, ◌==◌, if◌then◌else◌, not, suc, ⊤}
 use Rattle.std.proofs.lemmas.Bool.Decides.{nat_tests}
 use Rattle.std.proofs.lemmas.List.{append-nil}
 use Rattle.api_types.specs.Lists.{is_empty}
@@ -9,13 +9,13 @@ use Rattle.api_types.specs.Outcome as outcomes
 use Rattle.api_types.specs.declared.call.Caller.{Caller}
 use Rattle.api_types.specs.declared.refusal.PolicyRule.TheVariants.{AdminOnly}
 use Rattle.api_types.specs.declared.refusal.Refusal.{Refusal}
-use Rattle.api_types.specs.declared.refusal.Refusal.TheVariants.{Forbidden, NoHost, OutOfMemory, StoreFault}
+use Rattle.api_types.specs.declared.refusal.Refusal.TheVariants.{Forbidden, OutOfMemory, StoreFault}
 use Rattle.api_types.specs.Refusing.{when}
 use Rattle.http_heads.specs.Fields.{closes}
 use Rattle.http_heads.specs.Heads.{Asked}
 use Rattle.lab_world.specs.Lab.{Barred, LabOutcome, WorldState, event_refusal, host_told, lab_outcome, tables_told, unless_barred}
 use Rattle.lab_world.specs.Lab as lab
-use Rattle.lab_world.specs.World.{AskOutcome, ByLab, ByMachine, Handles, IsHandled, IsTold, ask_outcome, world_after, is_change}
+use Rattle.lab_world.specs.World.{AskOutcome, ByLab, ByMachine, Handles, IsHandled, IsTold, world_after, is_change}
 use Rattle.http_session.specs.Told.{Answered, Moves, StoreFailed}
 use Rattle.neutron_serve.specs.Replies.{outcome_bytes, refusal_bytes, reply_written}
 use Rattle.neutron_serve.specs.Causes.{cause_in, tells_entries, tells_in}
@@ -26,12 +26,10 @@ use Rattle.api_types.proofs.ListLemmas.{and_both}
 use Rattle.api_types.proofs.NameLemmas.{not_true}
 use Rattle.neutron_serve.specs.Steps.{Steps, fixed_replies, request_outcome}
 use Rattle.neutron_serve.specs.declared.api.Cause.TheVariants.{NoMemory, Step, StoreFault as CauseOfStore}
-use Rattle.plane_types.specs.Hosts.{Host, all_entries, is_named}
-use Rattle.plane_types.specs.Told.{fabric_verdict, hosts_after, kept, kept_from, rows_verdict}
+use Rattle.plane_types.specs.Hosts.{Host, is_named}
+use Rattle.plane_types.specs.Told.{fabric_verdict, kept, kept_from}
 use Rattle.plane_types.specs.declared.ask.Ask.{Ask}
 use Rattle.plane_types.specs.declared.ask.Ask.TheVariants.{Api, Lab}
-use Rattle.plane_types.specs.declared.ask.LabAnswer.{LabAnswer}
-use Rattle.plane_types.specs.declared.ask.LabAnswer.TheVariants.{Hosts, Seen, Tables}
 use Rattle.plane_types.specs.declared.ask.LabCall.{LabCall}
 use Rattle.plane_types.specs.declared.ask.LabCall.TheVariants as call
 use Rattle.plane_types.specs.declared.verdict.Made.{Made}

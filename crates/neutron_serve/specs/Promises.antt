@@ -7,8 +7,7 @@ use Rattle.std.specs.Prelude.{◌≡◌, ℕ, Bool, true, false, List, Ok, None}
 use Rattle.api_types.specs.Consistent.{IsConsistent}
 use Rattle.api_types.specs.Outcome.{Moved, Refused, Told}
 use Rattle.api_types.specs.declared.call.Caller.{Caller}
-use Rattle.net_settings.specs.Defaults.{default_parts}
-use Rattle.api_steps.specs.Footing.{footing}
+use Rattle.api_machine.specs.Footing.{footing}
 use Rattle.plane_types.specs.Crossing.{CrossesAtRouters}
 use Rattle.plane_types.specs.Hosts.{all_entries}
 use Rattle.plane_types.specs.Told.{rows_verdict, without_hosts}
@@ -52,9 +51,9 @@ pub record Promised (old : WorldState) (asked : Asked) (reply : List ℕ) (new :
   -- a frame that it sends goes by those tables, and comes to what the rows say
   pub frames : (caller : Caller) (event : Event) → request_of asked ≡ Ok (caller, Lab (Frames event)) → event_refusal old.state.rows caller event ≡ None
       → FrameTold old event (closes asked.head) reply
-  -- a tenant is told what it would be told at any server with consistent rows in which it has the same footing
+  -- a tenant is told what it would be told at any server of these settings with consistent rows in which it has the same footing
   pub apart : (caller : Caller) (ask : Ask) → request_of asked ≡ Ok (caller, ask) → caller.admin ≡ false
-      → (other : WorldState) → IsConsistent other.state.rows → footing default_parts other.state caller ≡ footing default_parts old.state caller
+      → (other : WorldState) → IsConsistent other.state.rows → other.settings ≡ old.settings → footing other.settings other.state caller ≡ footing old.settings old.state caller
       → reply ≡ outcome_bytes (closes asked.head) (ask_outcome other caller ask)
   -- a refusal leaves all as it was
   pub refused : is_refusal (request_outcome old (request_of asked)) ≡ true → new ≡ old

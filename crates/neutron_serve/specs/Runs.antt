@@ -5,7 +5,9 @@ use Rattle.http_session.specs.Serves.{moment}
 use Rattle.http_session.specs.declared.session_end.SessionEnd.{SessionEnd}
 use Rattle.http_session.specs.declared.session_end.SessionEnd.TheVariants.{Done, ReadFault, WriteFault, Budget, OutOfMemory}
 use Rattle.lab_world.specs.Lab.{WorldState}
-use Rattle.lab_world.specs.World.{fresh_world}
+use Rattle.lab_world.specs.World.{opened}
+use Rattle.net_settings.specs.Defaults.{default_parts}
+use Rattle.api_types.specs.Rows.{no_rows}
 use Rattle.neutron_serve.specs.Promises.{Promises}
 
 -- the words are the one word `session`
@@ -28,8 +30,8 @@ pub record Ends : Type 0 where
   pub written : Option (List ℕ)
   pub flushed : Option ℕ
 
--- a session from no rows on, over a store that never fails, of at most 2^40 bytes
+-- a session under the default settings, from no rows on, over a store that never fails, of at most 2^40 bytes
 abbrev pub RunsSession : Ends → Ends → SessionEnd → Type 0
 RunsSession old new end = (world : WorldState) × (buffer : List ℕ) × (taken : ℕ) × (taken ≤ 2 ^ 40) × Promises (2 ^ 40)
-    (moment fresh_world [] old.left old.written old.flushed 0 0)
+    (moment (opened default_parts no_rows) [] old.left old.written old.flushed 0 0)
     (moment world buffer new.left new.written new.flushed 0 taken) end

@@ -16,12 +16,13 @@ use http_session::{Answer, Handler, Request};
 use keeper_core::Keeper;
 use lab_world::World;
 use net_addr::{Bytes, OutOfMemory};
-use neutron_http::no_memory_reply;
+use neutron_http::{Routes, no_memory_reply};
 use plane_types::{LabAnswer, Reply};
 use std::alloc::Global;
 
 // What a request that the bytes begin with is answered.
 fn reply_to<K: Keeper>(
+    routes: &Routes,
     world: &mut World,
     alloc: Global,
     keeper: &mut K,
@@ -40,7 +41,7 @@ fn reply_to<K: Keeper>(
     ensures later { K.faults keeper.old ≤ K.faults keeper.new }
     ensures kept { Tells (K.kept keeper.new) world.new.state.rows }
 {
-    match read_request(alloc, bytes, request) {
+    match read_request(alloc, routes, bytes, request) {
         Ok((caller, ask)) => world.handle(alloc, keeper, &caller, &ask),
         Err(refusal) => Reply::Refused(refusal),
     }
@@ -107,7 +108,10 @@ fn refusal_numbered(number: u8) -> Refusal
 }
 
 /// The Networking API, over a world.
-pub(crate) struct Api;
+#[derive(Drop)]
+pub(crate) struct Api {
+    routes: Routes,
+}
 
 impl Handler for Api {
     type World = World;
@@ -120,7 +124,14 @@ impl Handler for Api {
 
     ghost rows = { λ world. world.state.rows };
 
+    fn make(alloc: Global) -> Result<Api, OutOfMemory> {
+        Ok(Api {
+            routes: Routes::make(alloc)?,
+        })
+    }
+
     fn answer<K: Keeper>(
+        &self,
         world: &mut World,
         alloc: Global,
         keeper: &mut K,
@@ -128,7 +139,7 @@ impl Handler for Api {
         request: Request,
     ) -> Answer {
         let before = world.version();
-        let reply = reply_to(world, alloc, keeper, bytes, &request);
+        let reply = reply_to(&self.routes, world, alloc, keeper, bytes, &request);
         match cause_of(&reply) {
             Cause::NoMemory => Answer::NoMemory,
             Cause::StoreFault => match write(alloc, request.close, &reply) {

@@ -7,19 +7,19 @@ ghost use Rattle.neutron_serve.specs.Reading.{refusal_by, IsUnread};
 ghost use Rattle.neutron_serve.specs.Requests.{asked_by, by_body, by_query, by_route};
 
 use api_types::{Query, Refusal};
-use neutron_http::{BodyRefusal, Route, RouteRefusal, find_route, read_query};
+use neutron_http::{BodyRefusal, Route, RouteRefusal, Routes, read_query};
 use neutron_json::read_ask;
 use plane_types::Ask;
 use std::alloc::Global;
 
 // The route of a method and a path.
-fn routed(alloc: Global, method: &[u8], path: &[u8]) -> Result<Route, Refusal>
+fn routed(alloc: Global, routes: &Routes, method: &[u8], path: &[u8]) -> Result<Route, Refusal>
     ensures ok { IfOk result
         (λ route. route_of method.now path.now ≡ To route.path route.method route.parameters) }
     ensures err { (query body : List ℕ)
         → IfErr result (IsUnread (by_route query body (route_of method.now path.now))) }
 {
-    match find_route(alloc, method, path) {
+    match routes.find(alloc, method, path) {
         Ok(route) => Ok(route),
         Err(RouteRefusal::NoRoute) => Err(Refusal::NoRoute),
         Err(RouteRefusal::NoMethod { allowed }) => Err(Refusal::NoMethod { allowed }),
@@ -71,6 +71,7 @@ fn bodied(alloc: Global, route: &Route, query: &Query, body: &[u8]) -> Result<As
 /// wrong with it, in this order, refuses it.
 pub(crate) fn read_asked(
     alloc: Global,
+    routes: &Routes,
     method: &[u8],
     path: &[u8],
     query: &[u8],
@@ -79,7 +80,7 @@ pub(crate) fn read_asked(
     ensures ok { IfOk result (λ ask. asked_by method.now path.now query.now body.now ≡ Ok ask) }
     ensures err { IfErr result (IsUnread (asked_by method.now path.now query.now body.now)) }
 {
-    let route = routed(alloc, method, path)?;
+    let route = routed(alloc, routes, method, path)?;
     let query = queried(alloc, &route, query)?;
     bodied(alloc, &route, &query, body)
 }

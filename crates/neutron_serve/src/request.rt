@@ -12,7 +12,7 @@ use crate::ask::read_asked;
 use crate::caller::read_caller;
 use api_types::{Caller, Refusal};
 use http_session::Request;
-use neutron_http::Part;
+use neutron_http::{Part, Routes};
 use plane_types::Ask;
 use std::alloc::Global;
 
@@ -44,6 +44,7 @@ fn caller(alloc: Global, bytes: &[u8], request: &Request) -> Result<Caller, Refu
 /// Who asks what.
 pub(crate) fn read_request(
     alloc: Global,
+    routes: &Routes,
     bytes: &[u8],
     request: &Request,
 ) -> Result<(Caller, Ask), Refusal>
@@ -58,6 +59,7 @@ pub(crate) fn read_request(
     let parts = &request.parts;
     let ask = read_asked(
         alloc,
+        routes,
         text(bytes, parts.method),
         text(bytes, parts.path),
         text(bytes, parts.query),

@@ -10,6 +10,7 @@ use http_session::SessionEnd;
 use keeper_core::{Desk, Sink, Source, SureKeeper};
 use lab_world::World;
 use net_addr::Text;
+use net_settings::default_settings;
 use std::alloc::Global;
 
 // The most bytes that a session reads: 2^40.
@@ -36,7 +37,7 @@ fn status(end: SessionEnd) -> u8
     }
 }
 
-// A session from no rows on, which are kept in memory alone.
+// A session under the default settings, from no rows on, which are kept in memory alone.
 fn run_session<I: Source, O: Sink>(alloc: Global, input: &mut I, output: &mut O) -> SessionEnd
     ensures runs { RunsSession (record { left = I.left input.old; written = O.written output.old; flushed = O.flushed output.old })
         (record { left = I.left input.new; written = O.written output.new; flushed = O.flushed output.new }) result }
@@ -45,18 +46,25 @@ fn run_session<I: Source, O: Sink>(alloc: Global, input: &mut I, output: &mut O)
     ensures write_fault { result ≡ SessionEnd.WriteFault
         → RoseBy 1 (O.faults output.old) (O.faults output.new) }
 {
-    let Ok(mut world) = World::fresh(alloc) else {
+    let Ok(settings) = default_settings(alloc) else {
         return SessionEnd::OutOfMemory;
     };
     let Ok(rows) = Rows::empty(alloc) else {
         return SessionEnd::OutOfMemory;
     };
-    let mut keeper = SureKeeper::make(rows);
+    let Ok(kept) = Rows::empty(alloc) else {
+        return SessionEnd::OutOfMemory;
+    };
+    let Ok(mut world) = World::open(alloc, rows, settings, false) else {
+        return SessionEnd::OutOfMemory;
+    };
+    let mut keeper = SureKeeper::make(kept);
     session(alloc, &mut world, &mut keeper, input, output, BUDGET)
 }
 
 /// Runs the command that the words behind the program's name give, which is `session`: answers the
-/// requests of `input` on `output`, from no rows on. The desk isn't asked for anything yet.
+/// requests of `input` on `output`, under the default settings and from no rows on. The desk isn't
+/// asked for anything yet.
 ///
 /// The status is 0 where the input was read to its end or to a request that ends the session, 1
 /// exactly where the words are something else, 2 where a read failed, 3 where a write or a flush

@@ -1,7 +1,8 @@
 ghost use Rattle.std.specs.Prelude.{◌≡◌, IfOk, not, true};
 ghost use Rattle.api_types.specs.Lists.{is_empty};
 ghost use Rattle.api_types.specs.Rows.{Fits, no_rows};
-ghost use Rattle.api_steps.specs.InForm.{IsBody};
+ghost use Rattle.api_types.specs.declared.call.Caller.{Caller as TheCaller};
+ghost use Rattle.call_parts.specs.InForm.{IsInForm};
 
 use api_machine::Machine;
 use api_types::{
@@ -9,8 +10,20 @@ use api_types::{
     Segment,
 };
 use net_addr::{OutOfMemory, Seq, Text};
+use net_settings::default_settings;
 use std::alloc::Global;
 use std::test::Fail;
+
+/// A machine without rows, under the default settings.
+pub(crate) fn fresh(alloc: Global) -> Result<Machine, OutOfMemory>
+    ensures { IfOk result (λ m. m.rows ≡ no_rows) }
+{
+    let settings = default_settings(alloc)?;
+    match Machine::open(Rows::empty(alloc)?, settings) {
+        Ok(machine) => Ok(machine),
+        Err(_) => Err(OutOfMemory), // never: no row breaks a clause
+    }
+}
 
 // A tenant of a project that has a name.
 fn caller(alloc: Global, project: &str) -> Result<Caller, OutOfMemory>
@@ -24,7 +37,9 @@ fn caller(alloc: Global, project: &str) -> Result<Caller, OutOfMemory>
 }
 
 fn creation(alloc: Global, name: &str) -> Result<Call, OutOfMemory>
-    ensures { IfOk result IsBody }
+    ensures { IfOk result
+        (λ call. (caller : TheCaller) → not (is_empty caller.project) ≡ true
+        → IsInForm caller call) }
 {
     Ok(Call::Create {
         form: Form::Network(NetworkForm {
@@ -43,7 +58,9 @@ fn creation(alloc: Global, name: &str) -> Result<Call, OutOfMemory>
 }
 
 fn showing(alloc: Global, id: &str) -> Result<Call, OutOfMemory>
-    ensures { IfOk result IsBody }
+    ensures { IfOk result
+        (λ call. (caller : TheCaller) → not (is_empty caller.project) ≡ true
+        → IsInForm caller call) }
 {
     Ok(Call::Show {
         kind: Kind::Network,
@@ -84,7 +101,7 @@ fn put_in_and_taken_back(alloc: Global, change: &Change) -> Result<(usize, usize
 #[test]
 fn networks_are_numbered(rt: HostRuntime) -> Result<(), Fail> {
     let alloc = rt.alloc();
-    let mut machine = Machine::fresh(alloc)?;
+    let mut machine = fresh(alloc)?;
     assert!(rt; create(alloc, &mut machine, "a").is_ok());
     assert!(rt; create(alloc, &mut machine, "a").is_ok());
     assert!(rt; create(alloc, &mut machine, "b").is_ok());
@@ -105,7 +122,7 @@ fn networks_are_numbered(rt: HostRuntime) -> Result<(), Fail> {
 #[test]
 fn a_foreign_network_is_not_found(rt: HostRuntime) -> Result<(), Fail> {
     let alloc = rt.alloc();
-    let mut machine = Machine::fresh(alloc)?;
+    let mut machine = fresh(alloc)?;
     assert!(rt; create(alloc, &mut machine, "a").is_ok());
     let call = showing(alloc, "00000001-0000-8000-8000-000000000006")?;
     let own = machine.plan(alloc, &caller(alloc, "a")?, &call);
@@ -118,7 +135,7 @@ fn a_foreign_network_is_not_found(rt: HostRuntime) -> Result<(), Fail> {
 #[test]
 fn a_change_is_undone(rt: HostRuntime) -> Result<(), Fail> {
     let alloc = rt.alloc();
-    let machine = Machine::fresh(alloc)?;
+    let machine = fresh(alloc)?;
     let planned = machine.plan(alloc, &caller(alloc, "a")?, &creation(alloc, "n")?);
     let Ok(planned) = planned else {
         return Ok(assert!(rt; false, "no plan"));

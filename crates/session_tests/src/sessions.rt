@@ -1,5 +1,6 @@
 //! Worked requests as bytes, on sessions over memory.
 ghost use Rattle.std.specs.Prelude.{◌≡◌, ◌<◌, IfOk};
+ghost use Rattle.api_types.specs.Rows.{no_rows};
 
 use api_types::Rows;
 use keeper_core::{
@@ -7,6 +8,7 @@ use keeper_core::{
 };
 use lab_world::World;
 use net_addr::{Bytes, Numbers, OutOfMemory, Seq, Text};
+use net_settings::default_settings;
 use neutron_serve::{SessionEnd, run, session};
 use std::alloc::Global;
 use std::test::Fail;
@@ -131,6 +133,17 @@ const THREE_CREATIONS: Exchange = (
     b"HTTP/1.1 201 Created\r\nContent-Type: application/json\r\nContent-Length: 211\r\n\r\n{\"network\":{\"admin_state_up\":true,\"description\":\"\",\"id\":\"00000001-0000-8000-8000-000000000006\",\"name\":\"n1\",\"project_id\":\"a\",\"router:external\":false,\"shared\":false,\"status\":\"ACTIVE\",\"subnets\":[],\"tenant_id\":\"a\"}}HTTP/1.1 503 Service Unavailable\r\nContent-Type: application/json\r\nContent-Length: 96\r\n\r\n{\"NeutronError\":{\"detail\":\"\",\"message\":\"The store failed in this request.\",\"type\":\"StoreFault\"}}HTTP/1.1 201 Created\r\nContent-Type: application/json\r\nContent-Length: 211\r\n\r\n{\"network\":{\"admin_state_up\":true,\"description\":\"\",\"id\":\"00000001-0000-8000-8000-000000000007\",\"name\":\"n1\",\"project_id\":\"a\",\"router:external\":false,\"shared\":false,\"status\":\"ACTIVE\",\"subnets\":[],\"tenant_id\":\"a\"}}",
 );
 
+// A world without rows, under the default settings.
+fn fresh(alloc: Global) -> Result<World, OutOfMemory>
+    ensures { IfOk result (λ w. w.state.rows ≡ no_rows) }
+{
+    let settings = default_settings(alloc)?;
+    match World::open(alloc, Rows::empty(alloc)?, settings, false) {
+        Ok(world) => Ok(world),
+        Err(_) => Err(OutOfMemory), // nothing else: no row breaks a clause
+    }
+}
+
 fn source(alloc: Global, input: &[u8], piece: usize) -> Result<SureSource, OutOfMemory>
     requires { 0 < piece }
 {
@@ -143,7 +156,7 @@ fn source(alloc: Global, input: &[u8], piece: usize) -> Result<SureSource, OutOf
 fn writes(alloc: Global, input: &[u8], piece: usize, wanted: &[u8]) -> Result<bool, OutOfMemory>
     requires { 0 < piece }
 {
-    let mut world = World::fresh(alloc)?;
+    let mut world = fresh(alloc)?;
     let mut keeper = SureKeeper::make(Rows::empty(alloc)?);
     let mut input = source(alloc, input, piece)?;
     let mut output = SureSink::make(alloc);
@@ -209,7 +222,7 @@ fn numbers(alloc: Global, numbers: &[u64]) -> Result<Numbers, OutOfMemory> {
 #[test]
 fn a_failing_store(rt: HostRuntime) -> Result<(), Fail> {
     let alloc = rt.alloc();
-    let mut world = World::fresh(alloc)?;
+    let mut world = fresh(alloc)?;
     let mut keeper = MemoryKeeper::make(alloc, Rows::empty(alloc)?, numbers(alloc, &[2])?)?;
     let mut input = source(alloc, THREE_CREATIONS.0, 100_000)?;
     let mut output = SureSink::make(alloc);
@@ -236,7 +249,7 @@ fn fails(
     end: SessionEnd,
 ) -> Result<bool, OutOfMemory> {
     let (request, _) = REQUESTS[0];
-    let mut world = World::fresh(alloc)?;
+    let mut world = fresh(alloc)?;
     let mut keeper = SureKeeper::make(Rows::empty(alloc)?);
     let bytes = Bytes::from_vec(Vec::from_slice(alloc, request)?);
     let mut input = MemorySource::make(bytes, 100_000, numbers(alloc, reads)?);

@@ -1,5 +1,4 @@
-use crate::machine::create;
-use api_machine::Machine;
+use crate::machine::{create, fresh};
 use api_shown::shown_of;
 use api_types::{Caller, Id, Kind, PortRow, Printed, Vif};
 use net_addr::{Mac, OutOfMemory, Seq, Text};
@@ -64,7 +63,7 @@ fn is_right(member: &(Text, Printed)) -> bool {
 
 /// How many members of the port are as in the table, of how many that are shown.
 fn port_shown(alloc: Global, mac: Mac, admin: bool) -> Result<Option<(usize, usize)>, OutOfMemory> {
-    let mut machine = Machine::fresh(alloc)?;
+    let mut machine = fresh(alloc)?;
     if create(alloc, &mut machine, "a").is_err() {
         return Ok(None);
     }

@@ -1,5 +1,5 @@
-use Rattle.std.proofs.Common.{◌≡◌, ℕ, suc, ◌+◌, ◌<◌, Bool, false, true, Some, length, take, ap, sym, subst, ◌∙◌, get_or, arith}
-use Rattle.std.specs.Prelude.{slice_get, ◌||◌, ◌++◌, ◌∷◌, []}
+use Rattle.std.proofs.Common.{◌≡◌, suc, ◌+◌, ◌<◌, Bool, false, Some, length, take, ap, sym, ◌∙◌, get_or, arith}
+use Rattle.std.specs.Prelude.{◌||◌, ◌++◌, ◌∷◌, []}
 use Rattle.std.proofs.Math.Seq.{take-suc}
 use Rattle.std.proofs.lemmas.Option.{slice_get-get_or}
 use Rattle.api_types.specs.Consistent.Segments.{is_vxlan}
@@ -14,6 +14,7 @@ same_Some a b e = cc
 pub loop-network-preserved : goal.loop-network-preserved
 loop-network-preserved c =
     let networks = c.args.networks.now in
+    let first = c.args.first in
     let i = c.loop-network.network-index in
     let network = c.network-item.result in
     let old = c.loop-network.marks.items in
@@ -23,10 +24,10 @@ loop-network-preserved c =
       many = c.mark.ensures.length ∙ c.loop-network.invariant.many;
       marked = λ k within.
           let inside : k < length old = omega (arith, c.mark.ensures.length, within) in
-          let was : get_or old k false ≡ is_taken (take i networks) (k + 1) =
+          let was : get_or old k false ≡ is_taken (take i networks) (first + k) =
           same_Some _ _ (sym (slice_get-get_or old k false inside) ∙ c.loop-network.invariant.marked k inside) in
           c.mark.ensures.marked k inside
-          ∙ ap (λ b. Some (b || is_vxlan (k + 1) c.deref.result.now.segment)) was
-          ∙ ap (λ (n : NetworkRow). Some (is_taken (take i networks) (k + 1) || is_vxlan (k + 1) n.segment)) c.deref.ensures
-          ∙ ap Some (sym (taken-push (take i networks) network (k + 1)) ∙ ap (λ ns. is_taken ns (k + 1)) (sym step));
+          ∙ ap (λ b. Some (b || is_vxlan (first + k) c.deref.result.now.segment)) was
+          ∙ ap (λ (n : NetworkRow). Some (is_taken (take i networks) (first + k) || is_vxlan (first + k) n.segment)) c.deref.ensures
+          ∙ ap Some (sym (taken-push (take i networks) network (first + k)) ∙ ap (λ ns. is_taken ns (first + k)) (sym step));
     }

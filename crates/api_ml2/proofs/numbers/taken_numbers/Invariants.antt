@@ -6,5 +6,5 @@ use Rattle.api_ml2.proofs.numbers.taken_numbers.Given as goal
 abbrev pub invariant-loop-network : goal.invariant-loop-network
 invariant-loop-network l = record {
   many : length l.marks.items ≡ l.many;
-  marked : AreMarked (take l.network-index l.networks) l.marks.items;
+  marked : AreMarked (take l.network-index l.networks) l.first l.marks.items;
 }

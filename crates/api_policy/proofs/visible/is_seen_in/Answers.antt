@@ -1,4 +1,3 @@
-use Rattle.std.proofs.Common.{◌≡◌}
 use Rattle.api_policy.proofs.FoundLemmas.{found_some, found_none}
 use Rattle.api_policy.proofs.visible.is_seen_in.Goals as goal
 

@@ -1,8 +1,6 @@
-use Rattle.std.proofs.Common.{◌≡◌, ◌∙◌, ap, sym, true, false}
-use Rattle.std.specs.Prelude.{◌||◌}
+use Rattle.std.proofs.Common.{◌∙◌, ap}
 use Rattle.std.specs.Str.{bytes_eq}
 use Rattle.api_types.specs.Lists.{stands_so}
-use Rattle.api_types.specs.Sharing.{is_shared_with}
 use Rattle.api_types.specs.declared.network.NetworkRow.{NetworkRow}
 use Rattle.api_policy.proofs.FoundLemmas.{found_some, found_none}
 use Rattle.api_policy.proofs.visible.owns_network.Goals as goal

@@ -1,4 +1,4 @@
-use Rattle.std.proofs.Common.{◌≡◌, ◌<◌, ◌++◌, ◌∙◌, Some, ap, arith, length, slice_get, slice_index_or, subst, sym}
+use Rattle.std.proofs.Common.{◌<◌, ◌++◌, ◌∙◌, Some, ap, arith, length, subst, sym}
 use Rattle.std.specs.List.{filter_map}
 use Rattle.std.proofs.lemmas.Option.{slice_get-get_or}
 use Rattle.plane_types.specs.Node.{Node, host_of, with_entries}

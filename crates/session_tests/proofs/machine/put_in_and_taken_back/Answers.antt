@@ -1,6 +1,6 @@
-use Rattle.std.proofs.Common.{◌≡◌, ◌∙◌, ap}
+use Rattle.std.proofs.Common.{◌∙◌, ap}
 use Rattle.std.specs.List.{IsDistinct}
-use Rattle.api_types.specs.Rows.{AreTables, CameBy, no_rows, after}
+use Rattle.api_types.specs.Rows.{AreTables, no_rows, after}
 use Rattle.session_tests.proofs.machine.put_in_and_taken_back.Goals as goal
 
 none_are_tables : AreTables no_rows

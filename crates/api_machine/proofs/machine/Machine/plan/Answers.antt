@@ -1,22 +1,36 @@
-use Rattle.std.proofs.Common.{◌≡◌, ◌∙◌, ap, sym}
-use Rattle.net_settings.specs.Defaults.{default_parts}
+use Rattle.std.proofs.Common.{◌≡◌, ◌∙◌, IfErr, IfOk, subst, sym}
+use Rattle.std.specs.Prelude.{not}
+use Rattle.api_types.specs.Lists.{is_empty}
 use Rattle.api_types.specs.Printed.{reply_of}
-use Rattle.api_steps.specs.Step.{api_step}
-use Rattle.api_machine.proofs.ApartLemmas.{if_err, if_ok, planned_told, refused_alike, told_alike}
+use Rattle.call_parts.specs.InForm.{is_call}
+use Rattle.api_machine.specs.BuiltStep.{built_step}
+use Rattle.api_machine.specs.Machine.{MachineParts, state_of}
+use Rattle.call_parts.specs.Answers.{IsRefusalOf}
+use Rattle.api_machine.specs.Plan.{Plans}
+use Rattle.api_types.proofs.ListLemmas.{and_both}
+use Rattle.api_machine.proofs.PlanLemmas.{if_err, if_ok, planned_told, refused_alike, told_alike}
 use Rattle.api_machine.proofs.machine.Machine.plan.Goals as goal
+
+pub returns-clause-ok : goal.returns-clause-ok
+returns-clause-ok c =
+    let m : MachineParts = record { settings = c.settings.result.now; rows = c.rows-rows.result.now; version = c.version.result } in
+    let same : m ≡ c.args.self.now = (λ j. record { settings = c.settings.ensures.value j; rows = c.rows-rows.ensures.rows j; version = c.version.ensures j }) in
+    subst (λ (n : MachineParts). IfOk c.plan_call.result (Plans n.settings (state_of n) (built_step n.settings (state_of n) c.args.caller.now c.args.call.now))) same c.plan_call.ensures.ok
+
+pub returns-clause-err : goal.returns-clause-err
+returns-clause-err c =
+    let m : MachineParts = record { settings = c.settings.result.now; rows = c.rows-rows.result.now; version = c.version.result } in
+    let same : m ≡ c.args.self.now = (λ j. record { settings = c.settings.ensures.value j; rows = c.rows-rows.ensures.rows j; version = c.version.ensures j }) in
+    subst (λ (n : MachineParts). IfErr c.plan_call.result (IsRefusalOf (built_step n.settings (state_of n) c.args.caller.now c.args.call.now))) same c.plan_call.ensures.err
 
 pub returns-clause-answer_apart : goal.returns-clause-answer_apart
 returns-clause-answer_apart c other alike =
-    let now = c.args.self.now in
-    let caller = c.args.caller.now in
-    let call = c.args.call.now in
-    let same = told_alike caller now other call c.requires.in_form.named c.rows-consistent.ensures.consistent alike in
-    if_ok _ _ c.planned.result (λ p plans. sym same ∙ planned_told now (api_step default_parts now caller call) p.change (reply_of p.answer) plans) c.planned.ensures.ok
+    let n : MachineParts = c.args.self.now in
+    let same = told_alike n.settings c.args.caller.now (state_of n) other c.args.call.now (and_both (not (is_empty c.args.caller.now.project)) (is_call c.args.call.now) c.requires.in_form.formed).0 c.rows-rows.ensures.consistent alike in
+    if_ok _ _ c.plan_call.result (λ p plans. sym same ∙ planned_told n.settings (state_of n) (built_step n.settings (state_of n) c.args.caller.now c.args.call.now) p.change (reply_of p.answer) plans) (returns-clause-ok c)
 
 pub returns-clause-refusal_apart : goal.returns-clause-refusal_apart
 returns-clause-refusal_apart c other alike =
-    let now = c.args.self.now in
-    let caller = c.args.caller.now in
-    let call = c.args.call.now in
-    let same = told_alike caller now other call c.requires.in_form.named c.rows-consistent.ensures.consistent alike in
-    if_err _ _ c.planned.result (λ e refused. refused_alike (api_step default_parts now caller call) (api_step default_parts other caller call) e same refused) c.planned.ensures.err
+    let n : MachineParts = c.args.self.now in
+    let same = told_alike n.settings c.args.caller.now (state_of n) other c.args.call.now (and_both (not (is_empty c.args.caller.now.project)) (is_call c.args.call.now) c.requires.in_form.formed).0 c.rows-rows.ensures.consistent alike in
+    if_err _ _ c.plan_call.result (λ e refused. refused_alike (built_step n.settings (state_of n) c.args.caller.now c.args.call.now) (built_step n.settings other c.args.caller.now c.args.call.now) e same refused) (returns-clause-err c)

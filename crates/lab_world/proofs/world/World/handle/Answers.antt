@@ -1,4 +1,4 @@
-use Rattle.std.proofs.Common.{rules, ◌∙◌, ◌≡◌, ap, sym}
+use Rattle.std.proofs.Common.{◌∙◌, ◌≡◌, ap, sym}
 use Rattle.plane_types.specs.declared.ask.LabAnswer.TheVariants.{Seen}
 use Rattle.plane_types.specs.declared.ask.LabCall.TheVariants.{Frames}
 use Rattle.lab_world.specs.Lab.{Answered, lab_outcome}

@@ -1,0 +1,85 @@
+-- From the rows that a draft leads to, to what a plan says of the step; and what a tenant is told of it.
+use Rattle.std.proofs.Common.{◌≡◌, ◌∙◌, ◌<◌, ◌-◌, ◌^◌, ap, arith, sym, subst, inl, inr, Bool, true, false, List, Option, Some, None, Result, Ok, Err, IfOk, IfErr, if◌then◌else◌}
+use Rattle.std.specs.Prelude.{not}
+use Rattle.std.proofs.lemmas.Bool.Decides.{nat_tests}
+use Rattle.api_types.specs.Consistent.{IsConsistent}
+use Rattle.api_types.specs.Lists.{is_empty}
+use Rattle.api_types.specs.Outcome.{Outcome, Moved, Refused, Told}
+use Rattle.api_types.specs.Printed.{Reply, ShownRow, reply_of}
+use Rattle.api_types.specs.Refusing.{told}
+use Rattle.api_types.specs.Rows.{Fits, after}
+use Rattle.api_types.specs.declared.call.Call.{Call}
+use Rattle.api_types.specs.declared.call.Caller.{Caller}
+use Rattle.api_types.specs.declared.change.Item.{Item}
+use Rattle.api_types.specs.declared.refusal.Refusal.{Refusal}
+use Rattle.api_types.specs.declared.refusal.Refusal.TheVariants.{NotBuilt}
+use Rattle.net_settings.specs.Rules.{MeetsRules}
+use Rattle.net_settings.specs.Settings.{SettingsParts}
+use Rattle.call_parts.specs.Drafts.{DraftParts}
+use Rattle.call_parts.specs.InForm.{IsInForm}
+use Rattle.call_parts.specs.State.{State, is_last}
+use Rattle.call_parts.specs.Typed.{AreTyped}
+use Rattle.api_machine.specs.Alike.{AreAlike}
+use Rattle.api_machine.specs.BuiltStep.{built_step, is_ahead}
+use Rattle.call_parts.specs.Answers.{IsRefusalOf}
+use Rattle.api_machine.specs.Plan.{Answers, AnswersAs, IsDrafted, IsDraftedAs, PlansAs}
+use Rattle.api_machine.specs.WholeStep.{api_step}
+use Rattle.api_machine.specs.declared.planned.Planned.{Planned}
+use Rattle.api_machine.proofs.BuiltLaws.{built_apart}
+use Rattle.api_machine.proofs.CallsKept.{call_kept}
+use Rattle.api_machine.proofs.RoomLeft.{call_room}
+
+-- a draft from the rows of now, to where the step leads
+pub drafted : (state : State) (outcome : Outcome) (draft : DraftParts) (reply given : Reply) (change : Option (List Item)) → draft.start ≡ state.rows → outcome ≡ Moved draft.rows reply
+    → IsDraftedAs draft reply change given → AnswersAs state outcome change given
+drafted state outcome draft reply given None start moved is = absurd is
+drafted state outcome draft reply given (Some change) start moved is = record {
+  fits = subst (λ rows. Fits rows change) start is.0.fits;
+  moved = moved ∙ (λ j. Moved ((sym is.0.leads ∙ ap (λ rows. after rows change) start) j) (sym is.1 j));
+}
+
+-- and where the answer shows a row as it is then
+pub shown_so : (state : State) (outcome : Outcome) (draft : DraftParts) (reply : ShownRow → Reply) (shown row : ShownRow) (planned : Planned) → draft.start ≡ state.rows
+    → outcome ≡ Moved draft.rows (reply row) → shown ≡ row → IsDrafted draft (reply shown) planned → Answers state outcome planned
+shown_so state outcome draft reply shown row planned start moved is drafts =
+    drafted state outcome draft (reply shown) (reply_of planned.answer) planned.change start (moved ∙ ap (λ s. Moved draft.rows (reply s)) (sym is)) drafts
+
+room_of : (state : State) → state.version < 2 ^ 64 → is_last state ≡ false → state.version < 2 ^ 64 - 1
+room_of state within last = grind (arith, nat_tests)
+
+module _ (settings : SettingsParts) (state : State) (caller : Caller) (call : Call) (built : is_ahead state.rows caller call ≡ false) where
+  pub built_is : built_step settings state caller call ≡ api_step settings state caller call
+  built_is = ap (λ b. if b then Refused NotBuilt else api_step settings state caller call) built
+
+  -- what is answered of a call that is built is planned
+  pub planned_so : MeetsRules settings → IsConsistent state.rows → AreTyped state.rows → IsInForm caller call → state.version < 2 ^ 64
+      → (change : Option (List Item)) (reply : Reply) → AnswersAs state (api_step settings state caller call) change reply → PlansAs settings state (built_step settings state caller call) change reply
+  planned_so rules c typed form within None reply told = built_is ∙ told
+  planned_so rules c typed form within (Some change) reply moves = record {
+    fits = moves.fits;
+    moved = built_is ∙ moves.moved;
+    kept = call_kept settings rules call state caller (after state.rows change) reply c typed form moves.moved;
+    room = room_of state within (call_room settings state caller (after state.rows change) reply call built moves.moved);
+  }
+
+-- what a tenant is told
+
+pub told_alike : (settings : SettingsParts) (caller : Caller) (now other : State) (call : Call) → not (is_empty caller.project) ≡ true → IsConsistent now.rows → AreAlike settings caller now other
+    → told (built_step settings now caller call) ≡ told (built_step settings other caller call)
+told_alike settings caller now other call named c alike = built_apart settings caller now other alike.same alike.tenant named c alike.consistent call
+
+pub planned_told : (settings : SettingsParts) (state : State) (outcome : Outcome) (change : Option (List Item)) (reply : Reply) → PlansAs settings state outcome change reply → told outcome ≡ Told reply
+planned_told settings state outcome None reply plans = ap told plans
+planned_told settings state outcome (Some change) reply plans = ap told plans.moved
+
+pub refused_alike : (outcome other : Outcome) (refusal : Refusal) → told outcome ≡ told other → IsRefusalOf outcome refusal → IsRefusalOf (told other) refusal
+refused_alike outcome other refusal same (inl memory) = inl memory
+refused_alike outcome other refusal same (inr refused) = inr (sym same ∙ ap told refused)
+
+pub if_ok : {T E : Type 0} (P Q : T → Type 0) (r : Result T E) → ((x : T) → P x → Q x) → IfOk r P → IfOk r Q
+if_ok P Q (Ok x) weaker p = weaker x p
+if_ok P Q (Err e) weaker p = p
+
+pub if_err : {T E : Type 0} (P Q : E → Type 0) (r : Result T E) → ((e : E) → P e → Q e) → IfErr r P → IfErr r Q
+if_err P Q (Ok x) weaker p = p
+if_err P Q (Err e) weaker p = weaker e p

@@ -1,0 +1,186 @@
+-- What a tenant's footing tells of what its routers reach, and of the floating addresses that lead by them.
+use Rattle.std.proofs.Common.{◌≡◌, ℕ, suc, List, [], ◌∷◌, Bool, true, false, cond, Option, Some, None, slice_get, refl, ap, sym, ◌∙◌, arith, not}
+use Rattle.std.specs.Prelude.{◌&&◌, ◌||◌, filter, find, option_map, if◌then◌else◌}
+use Rattle.std.specs.List.{list_any}
+use Rattle.std.specs.Str.{bytes_eq}
+use Rattle.net_addr.specs.Prefixes.{contains}
+use Rattle.api_types.specs.HeldAddresses.{is_own_address, subnets_on}
+use Rattle.api_types.specs.RouterWays.{interfaces_of, is_bad_hop, is_lost_hop, router_ports, other_ports}
+use Rattle.api_policy.specs.Seen.{own_rows}
+use Rattle.api_policy.specs.Uses.{told_user, used_by_port}
+use Rattle.api_policy.specs.Visibility.{is_own, sees_port}
+use Rattle.api_machine.specs.Footing.{Near, footing, is_close, is_near}
+use Rattle.call_parts.specs.State.{State}
+use Rattle.api_types.specs.Consistent.{IsConsistent}
+use Rattle.api_types.specs.Consistent.Floating.{is_target_port, is_target_router, leads_to}
+use Rattle.api_types.specs.Ident.{Ident}
+use Rattle.api_types.specs.Lists.{Each, if_some, is_some_so, stands_so}
+use Rattle.api_types.specs.Owners.{holds_in, is_interface, is_port_of}
+use Rattle.api_types.specs.RowLists.{RowLists}
+use Rattle.api_types.specs.Table.{ident_eq}
+use Rattle.api_types.specs.declared.call.Caller.{Caller}
+use Rattle.api_types.specs.declared.floating.FloatingRow.{FloatingRow}
+use Rattle.api_types.specs.declared.floating.Target.{Target}
+use Rattle.api_types.specs.declared.kind.Kind.TheVariants.{Floating as FloatingKind, Port as PortKind, Router as RouterKind}
+use Rattle.api_types.specs.declared.kind.Kind.{Kind}
+use Rattle.api_types.specs.declared.port.PortRow.{PortRow}
+use Rattle.api_types.specs.declared.refusal.Refusal.TheVariants.{InUse}
+use Rattle.api_types.specs.declared.refusal.Refusal.{Refusal}
+use Rattle.api_types.specs.declared.refusal.UseRule.{UseRule}
+use Rattle.api_types.specs.declared.router.Gateway.{Gateway}
+use Rattle.api_types.specs.declared.router.RouterRow.{RouterRow}
+use Rattle.api_types.specs.declared.subnet.Hop.{Hop}
+use Rattle.api_types.specs.declared.subnet.SubnetRow.{SubnetRow}
+use Rattle.net_settings.specs.Settings.{SettingsParts}
+use Rattle.api_types.proofs.ListLemmas.{and_both, any-filter, at-any, at_filter, both_and, false_true}
+use Rattle.api_types.proofs.NameLemmas.{by_test, first_fails, ident_itself, ident_same, ident_sym}
+use Rattle.api_machine.proofs.FootingLemmas.{near_same}
+use Rattle.api_machine.proofs.ListLemmas.{any-each, find-filter, find_here, or_right}
+use Rattle.api_machine.proofs.ApartLemmas.{option_each, stands_there}
+use Rattle.api_machine.proofs.NearAlike.{holder_on}
+use Rattle.api_machine.proofs.OwnAlike.{floatings_alike, owns_alike, sees_there}
+use Rattle.api_machine.proofs.ServedAlike.{interfaces_alike, legs_alike}
+
+pub find-each : {R : Type 0} (p q : R → Bool) (xs : List R) → Each (λ x. p x ≡ q x) xs → find p xs ≡ find q xs
+find-each p q [] e = refl
+find-each p q (x ∷ xs) e = λ j. cond (e 0 x refl j) (Some x) (find-each p q xs (λ k y at. e (suc k) y at) j)
+
+-- a subnet in which a port has an address, and that passes a test
+abbrev pub holds_so : (SubnetRow → Bool) → List SubnetRow → PortRow → Bool
+holds_so test subnets p = list_any (λ (s : SubnetRow). holds_in s.id p && test s) subnets
+
+-- is one of the port's network
+pub holds_on : (rows : RowLists) → IsConsistent rows → (l : ℕ) (p : PortRow) → slice_get rows.ports l ≡ Some p → (test : SubnetRow → Bool) → holds_so test rows.subnets p ≡ holds_so test (subnets_on rows.subnets p.network) p
+holds_on rows c l p at test = sym (any-filter (λ (s : SubnetRow). ident_eq p.network s.network) (λ (s : SubnetRow). holds_in s.id p && test s) rows.subnets
+    (λ k s at_s fails. by_test (holds_in s.id p) (holds_in s.id p && test s ≡ false)
+    (λ holds. false_true _ (sym fails ∙ ident_sym s.network p.network (holder_on rows c k s at_s l p at holds)))
+    (λ none. first_fails _ _ none)))
+
+-- the network of a router's port is near
+pub leg_near : (rows : RowLists) (caller : Caller) (k : ℕ) (r : RouterRow) → slice_get rows.routers k ≡ Some r → bytes_eq r.project caller.project ≡ true → (l : ℕ) (p : PortRow) → slice_get rows.ports l ≡ Some p
+    → is_port_of r p ≡ true → is_near rows caller p.network ≡ true
+leg_near rows caller k r at own l p at_p of = or_right _ _ (at-any (λ (q : PortRow). ident_eq p.network q.network && is_close rows caller.project q) rows.ports l p at_p
+    (both_and _ _ (ident_itself p.network) (or_right _ _ (at-any (λ (q : RouterRow). bytes_eq q.project caller.project && is_port_of q p) rows.routers k r at (both_and _ _ own of)))))
+
+-- a floating address that leads by a router, or to a port, is of its project
+module _ (rows : RowLists) (c : IsConsistent rows) where
+  leads : (l : ℕ) (f : FloatingRow) → slice_get rows.floatings l ≡ Some f → (x : Target) → f.target ≡ Some x → leads_to rows.ports rows.routers f x ≡ true
+  leads l f at x has = sym (ap (if_some (leads_to rows.ports rows.routers f)) has) ∙ c.floatings.targets l f at
+
+  pub router_project : (k : ℕ) (r : RouterRow) → slice_get rows.routers k ≡ Some r → (l : ℕ) (f : FloatingRow) → slice_get rows.floatings l ≡ Some f → (x : Target) → f.target ≡ Some x → ident_eq r.id x.router ≡ true
+      → bytes_eq r.project f.project ≡ true
+  router_project k r at l f at_f x has is =
+      let both = and_both (stands_so (λ (p : PortRow). p.id) x.port (is_target_port rows.ports f x) rows.ports) (stands_so (λ (q : RouterRow). q.id) x.router (is_target_router f) rows.routers) (leads l f at_f x has) in
+      (and_both (bytes_eq r.project f.project) (is_some_so (λ (g : Gateway). ident_eq g.network f.network) r.gateway)
+      (sym (stands_there (λ (q : RouterRow). q.id) (is_target_router f) rows.routers (λ i. omega (arith, c.numbered.ids i)) k r at)
+      ∙ (ap (λ i. stands_so (λ (q : RouterRow). q.id) i (is_target_router f) rows.routers) (ident_same r.id x.router is) ∙ both.1))).0
+
+  pub port_project : (k : ℕ) (p : PortRow) → slice_get rows.ports k ≡ Some p → (l : ℕ) (f : FloatingRow) → slice_get rows.floatings l ≡ Some f → (x : Target) → f.target ≡ Some x → ident_eq p.id x.port ≡ true
+      → bytes_eq p.project f.project ≡ true
+  port_project k p at l f at_f x has is =
+      let both = and_both (stands_so (λ (p : PortRow). p.id) x.port (is_target_port rows.ports f x) rows.ports) (stands_so (λ (q : RouterRow). q.id) x.router (is_target_router f) rows.routers) (leads l f at_f x has) in
+      (and_both (bytes_eq p.project f.project) _
+      (sym (stands_there (λ (q : PortRow). q.id) (is_target_port rows.ports f x) rows.ports (λ i. omega (arith, c.numbered.ids i)) k p at)
+      ∙ (ap (λ i. stands_so (λ (q : PortRow). q.id) i (is_target_port rows.ports f x) rows.ports) (ident_same p.id x.port is) ∙ both.0))).0
+
+-- what a test of a target tells of a floating address
+pub target_there : (test : Target → Bool) (o : Option Target) → is_some_so test o ≡ true → (x : Target) × (o ≡ Some x) × (test x ≡ true)
+target_there test None h = false_true _ h
+target_there test (Some x) h = (x, refl, h)
+
+-- the user is a floating address of the caller's own, which is told
+pub floating_told : (rows : RowLists) (caller : Caller) → IsConsistent rows → (f : FloatingRow) → is_own caller f.project ≡ true → (l : ℕ) → slice_get rows.floatings l ≡ Some f
+    → told_user rows caller (Some (FloatingKind, f.id)) ≡ Some (FloatingKind, f.id)
+floating_told rows caller c f own l at = ap (λ (b : Bool). if b then Some (FloatingKind, f.id) else None)
+    (stands_there (λ (g : FloatingRow). g.id) (λ (g : FloatingRow). is_own caller g.project) rows.floatings (λ i. omega (arith, c.numbered.ids i)) l f at ∙ own)
+
+abbrev pub own_floatings : RowLists → Caller → List FloatingRow
+own_floatings rows caller = own_rows (λ (f : FloatingRow). f.project) caller rows.floatings
+
+pub floating_users : (rows : RowLists) (caller : Caller) → IsConsistent rows → (refusal : Option (Kind × Ident) → Refusal) (test : FloatingRow → Bool) → Each (λ f. test f ≡ true → is_own caller f.project ≡ true) rows.floatings
+    → option_map (λ (f : FloatingRow). refusal (told_user rows caller (Some (FloatingKind, f.id)))) (find test rows.floatings)
+    ≡ option_map (λ (f : FloatingRow). refusal (Some (FloatingKind, f.id))) (find test (own_floatings rows caller))
+floating_users rows caller c refusal test own =
+    ap (option_map (λ (f : FloatingRow). refusal (told_user rows caller (Some (FloatingKind, f.id))))) (sym (find-filter (λ (f : FloatingRow). is_own caller f.project) test rows.floatings own))
+    ∙ option_each (λ (f : FloatingRow). refusal (told_user rows caller (Some (FloatingKind, f.id)))) (λ (f : FloatingRow). refusal (Some (FloatingKind, f.id))) (find test (own_floatings rows caller))
+    (λ f found. let here = find_here test (own_floatings rows caller) f found in
+    let there = at_filter (λ (g : FloatingRow). is_own caller g.project) rows.floatings here.0 f here.1 in
+    ap refusal (floating_told rows caller c f there.2 there.0 there.1))
+
+module _ (settings : SettingsParts) (caller : Caller) (tenant : caller.admin ≡ false) (s t : State) (c : IsConsistent s.rows) (d : IsConsistent t.rows) (same : footing settings s caller ≡ footing settings t caller) where
+  -- a port that stands in both states, on a network that is near, has its addresses in the same subnets
+  pub holds_alike : (k l : ℕ) (p : PortRow) → slice_get s.rows.ports k ≡ Some p → slice_get t.rows.ports l ≡ Some p → is_near s.rows caller p.network ≡ true → (test : SubnetRow → Bool)
+      → holds_so test s.rows.subnets p ≡ holds_so test t.rows.subnets p
+  holds_alike k l p at_s at_t near test = holds_on s.rows c k p at_s test
+      ∙ (ap (λ (z : Near). holds_so test z.subnets p) (near_same settings caller s t same p.network near) ∙ sym (holds_on t.rows d l p at_t test))
+
+  -- whether the caller sees a port that stands in both states
+  pub sees_same : (p : PortRow) → sees_port s.rows caller p ≡ sees_port t.rows caller p
+  sees_same p = ap (λ b. is_own caller p.project || b) (owns_alike settings caller tenant s t same p.network)
+
+  pub port_told : (k l : ℕ) (p : PortRow) → slice_get s.rows.ports k ≡ Some p → slice_get t.rows.ports l ≡ Some p → (rule : UseRule) (kind : Kind) (i : Ident)
+      → used_by_port s.rows caller rule kind i p ≡ used_by_port t.rows caller rule kind i p
+  port_told k l p at_s at_t rule kind i = ap (λ (b : Bool). InUse rule kind i (if b then Some (PortKind, p.id) else None))
+      (sees_there s.rows caller c k p at_s ∙ (sees_same p ∙ sym (sees_there t.rows caller d l p at_t)))
+
+  -- one of the caller's routers
+  module _ (k l : ℕ) (r : RouterRow) (at_s : slice_get s.rows.routers k ≡ Some r) (at_t : slice_get t.rows.routers l ≡ Some r) (own : bytes_eq r.project caller.project ≡ true) where
+    legs : router_ports s.rows.ports r ≡ router_ports t.rows.ports r
+    legs = legs_alike settings caller s t c d same k l r at_s at_t own
+
+    -- each of its ports stands in both states
+    leg_there : (i : ℕ) (p : PortRow) → slice_get (router_ports s.rows.ports r) i ≡ Some p
+        → (m n : ℕ) × (slice_get s.rows.ports m ≡ Some p) × (slice_get t.rows.ports n ≡ Some p) × (is_port_of r p ≡ true)
+    leg_there i p at =
+        let here = at_filter (is_port_of r) s.rows.ports i p at in
+        let there = at_filter (is_port_of r) t.rows.ports i p (ap (λ ps. slice_get ps i) (sym legs) ∙ at) in
+        (here.0, there.0, here.1, there.1, here.2)
+
+    pub leg_holds : (test : SubnetRow → Bool) → Each (λ p. holds_so test s.rows.subnets p ≡ holds_so test t.rows.subnets p) (router_ports s.rows.ports r)
+    leg_holds test i p at = let both = leg_there i p at in holds_alike both.0 both.1 p both.2 both.3 (leg_near s.rows caller k r at_s own both.0 p both.2 both.4) test
+
+    -- of some of its ports, and of its interfaces
+    pub some_hold : (keep : PortRow → Bool) (test : SubnetRow → Bool) → list_any (holds_so test s.rows.subnets) (filter keep (router_ports s.rows.ports r)) ≡ list_any (holds_so test t.rows.subnets) (filter keep (router_ports t.rows.ports r))
+    some_hold keep test = any-each (holds_so test s.rows.subnets) (holds_so test t.rows.subnets) (filter keep (router_ports s.rows.ports r))
+        (λ i p at. let here = at_filter keep (router_ports s.rows.ports r) i p at in leg_holds test here.0 p here.1)
+        ∙ ap (λ ps. list_any (holds_so test t.rows.subnets) (filter keep ps)) legs
+
+    pub all_hold : (test : SubnetRow → Bool) → list_any (holds_so test s.rows.subnets) (router_ports s.rows.ports r) ≡ list_any (holds_so test t.rows.subnets) (router_ports t.rows.ports r)
+    all_hold test = any-each (holds_so test s.rows.subnets) (holds_so test t.rows.subnets) (router_ports s.rows.ports r) (leg_holds test) ∙ ap (list_any (holds_so test t.rows.subnets)) legs
+
+    pub interfaces_hold : (test : SubnetRow → Bool) → list_any (holds_so test s.rows.subnets) (interfaces_of s.rows.ports r) ≡ list_any (holds_so test t.rows.subnets) (interfaces_of t.rows.ports r)
+    interfaces_hold test = any-each (holds_so test s.rows.subnets) (holds_so test t.rows.subnets) (interfaces_of s.rows.ports r)
+        (λ i p at. let here = at_filter (λ (q : PortRow). is_interface q.owner && is_port_of r q) s.rows.ports i p at in
+        let there = at_filter (λ (q : PortRow). is_interface q.owner && is_port_of r q) t.rows.ports i p (ap (λ ps. slice_get ps i) (sym interfaces) ∙ at) in
+        holds_alike here.0 there.0 p here.1 there.1 (leg_near s.rows caller k r at_s own here.0 p here.1 (and_both (is_interface p.owner) (is_port_of r p) here.2).1) test)
+        ∙ ap (list_any (holds_so test t.rows.subnets)) interfaces
+      where
+        interfaces : interfaces_of s.rows.ports r ≡ interfaces_of t.rows.ports r
+        interfaces = interfaces_alike settings caller s t c d same k l r at_s at_t own
+
+    -- next hops
+    pub bad_hop_alike : (hop : Hop) → is_bad_hop s.rows.subnets (router_ports s.rows.ports r) hop ≡ is_bad_hop t.rows.subnets (router_ports t.rows.ports r) hop
+    bad_hop_alike hop = let reach = all_hold (λ (x : SubnetRow). contains x.prefix hop.next) in λ j. list_any (is_own_address hop.next) (legs j) || not (reach j)
+
+    pub lost_hop_alike : (m n : ℕ) (p : PortRow) → slice_get s.rows.ports m ≡ Some p → slice_get t.rows.ports n ≡ Some p → is_port_of r p ≡ true → (hop : Hop)
+        → is_lost_hop s.rows.subnets (other_ports p.id (router_ports s.rows.ports r)) p hop ≡ is_lost_hop t.rows.subnets (other_ports p.id (router_ports t.rows.ports r)) p hop
+    lost_hop_alike m n p at_m at_n of hop =
+        let mine = holds_alike m n p at_m at_n (leg_near s.rows caller k r at_s own m p at_m of) (λ (x : SubnetRow). contains x.prefix hop.next) in
+        let others = some_hold (λ (q : PortRow). not (ident_eq p.id q.id)) (λ (x : SubnetRow). contains x.prefix hop.next) in
+        λ j. mine j && not (others j)
+
+    -- the router is its own user
+    pub router_told : told_user s.rows caller (Some (RouterKind, r.id)) ≡ told_user t.rows caller (Some (RouterKind, r.id))
+    router_told = ap (λ (b : Bool). if b then Some (RouterKind, r.id) else None)
+        (stands_there (λ (q : RouterRow). q.id) (λ (q : RouterRow). is_own caller q.project) s.rows.routers (λ i. omega (arith, c.numbered.ids i)) k r at_s
+        ∙ sym (stands_there (λ (q : RouterRow). q.id) (λ (q : RouterRow). is_own caller q.project) t.rows.routers (λ i. omega (arith, d.numbered.ids i)) l r at_t))
+
+  -- a floating address that uses something of the caller's is its own
+  pub floating_user_alike : (refusal : Option (Kind × Ident) → Refusal) (test test' : FloatingRow → Bool) → Each (λ f. test f ≡ true → is_own caller f.project ≡ true) s.rows.floatings
+      → Each (λ f. test' f ≡ true → is_own caller f.project ≡ true) t.rows.floatings → Each (λ f. test f ≡ test' f) (own_floatings s.rows caller)
+      → option_map (λ (f : FloatingRow). refusal (told_user s.rows caller (Some (FloatingKind, f.id)))) (find test s.rows.floatings)
+      ≡ option_map (λ (f : FloatingRow). refusal (told_user t.rows caller (Some (FloatingKind, f.id)))) (find test' t.rows.floatings)
+  floating_user_alike refusal test test' own own' tests =
+      floating_users s.rows caller c refusal test own
+      ∙ (ap (option_map (λ (f : FloatingRow). refusal (Some (FloatingKind, f.id)))) (find-each test test' (own_floatings s.rows caller) tests ∙ ap (find test') (floatings_alike settings caller tenant s t same))
+      ∙ sym (floating_users t.rows caller d refusal test' own'))

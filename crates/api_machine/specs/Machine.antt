@@ -1,0 +1,28 @@
+-- What the API machine is: consistent rows with their version, under settings.
+use Rattle.std.specs.Prelude.{ℕ}
+use Rattle.api_types.specs.Consistent.{IsConsistent}
+use Rattle.api_types.specs.RowLists.{RowLists}
+use Rattle.net_settings.specs.Rules.{MeetsRules}
+use Rattle.net_settings.specs.Settings.{SettingsParts}
+use Rattle.api_machine.specs.Kept.{HostsCarry}
+use Rattle.call_parts.specs.State.{State}
+use Rattle.call_parts.specs.Typed.{AreTyped}
+
+pub record MachineParts : Type 0 where
+  pub settings : SettingsParts
+  pub rows : RowLists
+  -- how many changes were accepted
+  pub version : ℕ
+
+abbrev pub state_at : RowLists → ℕ → State
+state_at rows version = record { rows = rows; version = version }
+
+abbrev pub state_of : MachineParts → State
+state_of m = state_at m.rows m.version
+
+-- what holds of a machine at any moment
+pub record IsSound (m : MachineParts) : Type 0 where
+  pub rules : MeetsRules m.settings
+  pub consistent : IsConsistent m.rows
+  pub typed : AreTyped m.rows
+  pub carried : HostsCarry m.settings m.rows

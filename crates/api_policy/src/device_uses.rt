@@ -1,0 +1,106 @@
+//! Ports of services, which the row that their device names uses.
+
+ghost use Rattle.std.specs.Prelude.{◌≡◌, find, if◌then◌else◌, None, option_copied};
+ghost use Rattle.api_types.specs.Owners.{device_is as names_id, is_service as service_of};
+ghost use Rattle.api_types.specs.declared.floating.FloatingRow.{FloatingRow as TheFloating};
+ghost use Rattle.api_types.specs.declared.router.RouterRow.{RouterRow as TheRouter};
+ghost use Rattle.api_policy.specs.Checks.{IsAnswerOf};
+ghost use Rattle.api_policy.specs.Uses.{named_by_device as named_by, port_in_use as port_in_use_of, service_in_use as service_in_use_of, told_user as told_user_of};
+
+use crate::empty::is_empty;
+use crate::told::told_user;
+use api_types::{
+    Caller, FloatingRow, Id, Kind, PortRow, Refusal, RouterRow, Rows, Shared, UseRule, device_is,
+    is_service,
+};
+use net_addr::Text;
+
+fn router_named<'r>(
+    routers: &'r [Shared<RouterRow>],
+    device: &Text,
+) -> Option<&'r Shared<RouterRow>>
+    ensures { option_copied result ≡ find (λ (r : TheRouter). names_id device.now r.id) routers.now }
+{
+    routers.iter().find(|router| device_is(device, router.id))
+}
+
+fn floating_named<'r>(
+    floatings: &'r [Shared<FloatingRow>],
+    device: &Text,
+) -> Option<&'r Shared<FloatingRow>>
+    ensures { option_copied result
+        ≡ find (λ (f : TheFloating). names_id device.now f.id) floatings.now }
+{
+    floatings
+        .iter()
+        .find(|floating| device_is(device, floating.id))
+}
+
+// The router, or else the floating address, that a service's port names by its device.
+fn named_by_device(rows: &Rows, device: &Text) -> Option<(Kind, Id)>
+    ensures { result ≡ named_by rows.now device.now }
+{
+    if let Some(router) = router_named(rows.routers().rows(), device) {
+        return Some((Kind::Router, router.id));
+    }
+    match floating_named(rows.floatings().rows(), device) {
+        Some(floating) => Some((Kind::Floating, floating.id)),
+        None => None,
+    }
+}
+
+/// Refuses a service's port that the call touches in more than name and description. Its cost grows
+/// with the routers and the floating addresses.
+pub fn service_in_use(
+    rows: &Rows,
+    caller: &Caller,
+    touched: bool,
+    port: &PortRow,
+) -> Result<(), Refusal>
+    ensures { IsAnswerOf (service_in_use_of rows.now caller.now touched port.now) result }
+{
+    if !(touched && is_service(&port.owner)) {
+        return Ok(());
+    }
+    Err(Refusal::InUse {
+        rule: UseRule::ServicePortInUse,
+        kind: Kind::Port,
+        id: port.id,
+        by: told_user(rows, caller, named_by_device(rows, &port.device)),
+    })
+}
+
+// Of a service's port the row that it names, where the caller sees it.
+fn service_told(rows: &Rows, caller: &Caller, port: &PortRow) -> Option<(Kind, Id)>
+    ensures { result
+        ≡ (if service_of port.now.owner
+        then told_user_of rows.now caller.now (named_by rows.now port.now.device)
+        else None) }
+{
+    if is_service(&port.owner) {
+        told_user(rows, caller, named_by_device(rows, &port.device))
+    } else {
+        None
+    }
+}
+
+/// Refuses a port as the router's, where it has a device already. Its cost grows with the routers
+/// and the floating addresses.
+pub fn port_in_use(
+    rows: &Rows,
+    caller: &Caller,
+    router: &RouterRow,
+    port: &PortRow,
+) -> Result<(), Refusal>
+    ensures { IsAnswerOf (port_in_use_of rows.now caller.now router.now port.now) result }
+{
+    if !(is_service(&port.owner) || !is_empty(&port.device)) {
+        return Ok(());
+    }
+    Err(Refusal::InUse {
+        rule: UseRule::PortInUse,
+        kind: Kind::Router,
+        id: router.id,
+        by: service_told(rows, caller, port),
+    })
+}

@@ -1,0 +1,11 @@
+ghost use Rattle.std.specs.Prelude.{◌≡◌};
+ghost use Rattle.api_types.specs.Lists.{is_empty as is_empty_list};
+
+use net_addr::Text;
+
+#[tactic(auto, using(crate::proofs::EmptyLemmas::empty_by_length))]
+pub(crate) fn is_empty(text: &Text) -> bool
+    ensures { result ≡ is_empty_list text.now }
+{
+    text.len() == 0
+}

@@ -1,0 +1,228 @@
+//! Which ports need which policies.
+
+ghost use Rattle.std.specs.Prelude.{◌≡◌, find, option_copied, option_map};
+ghost use Rattle.api_types.specs.Owners.{is_port_of as is_port_of_router};
+ghost use Rattle.api_types.specs.Table.{ident_eq};
+ghost use Rattle.api_types.specs.declared.floating.FloatingRow.{FloatingRow as TheFloating};
+ghost use Rattle.api_types.specs.declared.router.RouterRow.{RouterRow as TheRouter};
+ghost use Rattle.api_policy.specs.Checks.{IsAnswerOf};
+ghost use Rattle.api_policy.specs.NeededPolicy.{port_in_need as in_need, user_of_policy};
+ghost use Rattle.api_policy.specs.PolicyNeeds.{is_forsaken as forsaken, is_unserved as unserved, is_unshared as unshared, policy_user as user_among};
+ghost use Rattle.api_policy.specs.Served.{held_port, served as served_of};
+ghost use Rattle.api_policy.specs.Standing.{standing_by};
+ghost use Rattle.api_policy.specs.Uses.{needed_policy as needed_of, open_in_use as open_in_use_of, open_policy as open_of, policy_in_use as policy_in_use_of};
+
+use crate::empty::is_empty;
+use crate::standing::{Standing, is_granted, permits_all};
+use crate::told::{unless_used, used_by_port};
+use api_types::{
+    Action, Caller, FloatingRow, Id, Kind, NetworkRow, PolicyRow, PortRow, Refusal, RouterRow,
+    Rows, Shared, UseRule, is_port_of,
+};
+use net_addr::Text;
+
+fn router_of<'r>(routers: &'r [Shared<RouterRow>], port: &PortRow) -> Option<&'r Shared<RouterRow>>
+    ensures { option_copied result
+        ≡ find (λ (r : TheRouter). is_port_of_router r port.now) routers.now }
+{
+    routers.iter().find(|router| is_port_of(router, port))
+}
+
+fn floating_of<'r>(
+    floatings: &'r [Shared<FloatingRow>],
+    port: &PortRow,
+) -> Option<&'r Shared<FloatingRow>>
+    ensures { option_copied result
+        ≡ find (λ (f : TheFloating). ident_eq f.own_port port.now.id) floatings.now }
+{
+    floatings
+        .iter()
+        .find(|floating| floating.own_port == port.id)
+}
+
+// The project of the router or of the floating address that a port serves.
+fn served<'r>(rows: &'r Rows, port: &PortRow) -> Option<&'r Text>
+    ensures { option_copied result ≡ served_of rows.now port.now }
+{
+    if let Some(router) = router_of(rows.routers().rows(), port) {
+        return Some(&router.get().project);
+    }
+    match floating_of(rows.floatings().rows(), port) {
+        Some(floating) => Some(&floating.get().project),
+        None => None,
+    }
+}
+
+// Whether a port is on the network by sharing alone, and it would be shared with it no more.
+fn is_unshared(rows: &Rows, standing: &Standing, network: &NetworkRow, port: &PortRow) -> bool
+    ensures { result
+        ≡ unshared (standing_by standing.now rows.now.policies) network.now
+        (held_port rows.now port.now) }
+{
+    !port.by_admin
+        && !is_empty(&port.project)
+        && port.project != network.project
+        && !is_granted(
+            rows.policies().rows(),
+            standing,
+            Action::Shared,
+            network.id,
+            &port.project,
+        )
+}
+
+// Whether a port of no project serves one to which the network would be external no more.
+fn is_unserved(rows: &Rows, standing: &Standing, network: &NetworkRow, port: &PortRow) -> bool
+    ensures { result
+        ≡ unserved (standing_by standing.now rows.now.policies) network.now
+        (held_port rows.now port.now) }
+{
+    if !is_empty(&port.project) {
+        return false;
+    }
+    match served(rows, port) {
+        Some(project) => !is_granted(
+            rows.policies().rows(),
+            standing,
+            Action::External,
+            network.id,
+            project,
+        ),
+        None => false,
+    }
+}
+
+// Whether a port on the network would lack what it needs.
+fn is_forsaken(rows: &Rows, standing: &Standing, network: &NetworkRow, port: &PortRow) -> bool
+    ensures { result
+        ≡ forsaken rows.now (standing_by standing.now rows.now.policies) network.now port.now }
+{
+    network.id == port.network
+        && (is_unshared(rows, standing, network, port)
+            || is_unserved(rows, standing, network, port))
+}
+
+// The first port on the network that would lack what it needs.
+fn user_on<'r>(
+    rows: &'r Rows,
+    standing: &Standing,
+    network: &NetworkRow,
+) -> Option<&'r Shared<PortRow>>
+    ensures { option_copied result
+        ≡ user_among rows.now (standing_by standing.now rows.now.policies) network.now }
+{
+    rows.ports()
+        .rows()
+        .iter()
+        .find(|port| is_forsaken(rows, standing, network, port))
+}
+
+// The first port on the policy's network that would lack what it needs.
+fn port_in_need<'r>(
+    rows: &'r Rows,
+    standing: &Standing,
+    policy: &PolicyRow,
+) -> Option<&'r Shared<PortRow>>
+    ensures { option_copied result
+        ≡ in_need rows.now policy.now (standing_by standing.now rows.now.policies) }
+{
+    let network = rows.networks().get(policy.object)?;
+    user_on(rows, standing, network)
+}
+
+/// The first port that needs a policy, where the policy would get this target, or go where none is
+/// given. Its cost grows with the ports, and for each on the policy's network with the policies,
+/// the routers and the floating addresses.
+pub fn policy_user(rows: &Rows, policy: Id, target: Option<&Text>) -> Option<(Kind, Id)>
+    ensures { result ≡ user_of_policy rows.now policy (option_copied target.entry) }
+{
+    let policy = rows.policies().get(policy)?;
+    let standing = match target {
+        Some(target) => Standing::Aimed { policy, target },
+        None => Standing::Without { policy: policy.id },
+    };
+    let port = port_in_need(rows, &standing, policy)?;
+    Some((Kind::Port, port.id))
+}
+
+/// Refuses a policy that a port on its network needs, by the policies as they would stand. Its cost
+/// grows as that of `policy_user`.
+pub fn policy_in_use(
+    rows: &Rows,
+    caller: &Caller,
+    standing: &Standing,
+    policy: &PolicyRow,
+) -> Result<(), Refusal>
+    ensures { IsAnswerOf
+        (policy_in_use_of rows.now caller.now (standing_by standing.now rows.now.policies)
+        policy.now) result }
+{
+    unless_used(
+        rows,
+        caller,
+        UseRule::RbacPolicyInUse,
+        Kind::Policy,
+        policy.id,
+        port_in_need(rows, standing, policy),
+    )
+}
+
+// The first policy that permits the action on the network to all.
+fn open_policy(
+    policies: &[Shared<PolicyRow>],
+    network: Id,
+    action: Action,
+) -> Option<&Shared<PolicyRow>>
+    ensures { option_copied result ≡ open_of policies.now network action }
+{
+    policies
+        .iter()
+        .find(|policy| permits_all(policy, action, network))
+}
+
+// Of the policies that would go the one that the port needs.
+fn needed_policy<'r>(
+    rows: &'r Rows,
+    standing: &Standing,
+    network: &NetworkRow,
+    port: &PortRow,
+) -> Option<&'r Shared<PolicyRow>>
+    ensures { option_copied result
+        ≡ needed_of rows.now.policies (standing_by standing.now rows.now.policies) network.now
+        (held_port rows.now port.now) }
+{
+    let policies = rows.policies().rows();
+    if is_unshared(rows, standing, network, port) {
+        open_policy(policies, network.id, Action::Shared)
+    } else {
+        open_policy(policies, network.id, Action::External)
+    }
+}
+
+/// Refuses to close a network, where a port on it needs a policy that would go. Its cost grows as
+/// that of `policy_user`.
+pub fn open_in_use(
+    rows: &Rows,
+    caller: &Caller,
+    standing: &Standing,
+    network: &NetworkRow,
+) -> Result<(), Refusal>
+    ensures { IsAnswerOf
+        (open_in_use_of rows.now caller.now (standing_by standing.now rows.now.policies)
+        network.now) result }
+{
+    let Some(port) = user_on(rows, standing, network) else {
+        return Ok(());
+    };
+    match needed_policy(rows, standing, network, port) {
+        Some(policy) => Err(used_by_port(
+            rows,
+            caller,
+            UseRule::RbacPolicyInUse,
+            Kind::Policy,
+            policy.id,
+            port,
+        )),
+        None => Ok(()),
+    }
+}

@@ -1,9 +1,0 @@
-pub mod State
-pub mod Reads
-pub mod Networks
-pub mod Ports
-pub mod NotBuilt
-pub mod Footing
-pub mod Holdable
-pub mod InForm
-pub mod Step

@@ -1,0 +1,2 @@
+pub mod FloatingCalls
+pub mod FloatingRules

@@ -1,0 +1,3 @@
+//! What calls on floating addresses come to, as definitions alone: specs/FloatingCalls and
+//! FloatingRules.
+#![tactic(auto)]

@@ -1,0 +1,3 @@
+//! What calls on security groups and their rules come to, as definitions alone: specs/GroupCalls and
+//! RuleParts.
+#![tactic(auto)]

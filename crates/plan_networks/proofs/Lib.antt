@@ -1,0 +1,4 @@
+pub mod RefusalLemmas
+pub mod EditLemmas
+pub mod CallLemmas
+pub mod UpdateLemmas

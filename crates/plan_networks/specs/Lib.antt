@@ -1,0 +1,3 @@
+pub mod NetworkCalls
+pub mod NetworkRules
+pub mod Plans

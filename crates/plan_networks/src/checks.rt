@@ -1,0 +1,95 @@
+//! What forbids the creation of a network.
+
+ghost use Rattle.std.specs.Prelude.{◌≡◌, IfErr, IfOk, None, OnOk};
+ghost use Rattle.api_ml2.specs.Segments.{asked_segment as asked_segment_of};
+ghost use Rattle.plan_networks.specs.NetworkCalls.{creation_refusal, is_for_admin as is_for_admin_of};
+ghost use Rattle.call_parts.specs.Answers.{IsRefusalIn, Passes};
+ghost use Rattle.plan_networks.specs.Plans.{body_refusal, rows_refusal};
+
+use crate::rules::is_bare_wire;
+use api_ml2::{AskedSegment, asked_segment, is_bad_number, is_bad_physical, segment_in_use};
+use api_policy::{admin_only, over_quota};
+use api_types::{Caller, Kind, NetworkForm, Refusal, Rows};
+use call_parts::{are_unlike, invalid, is_for_other, is_given};
+use net_addr::Text;
+use net_settings::Settings;
+use std::alloc::Global;
+
+/// Whether the body has what is for administrators alone.
+pub(crate) fn is_for_admin(caller: &Caller, form: &NetworkForm) -> bool
+    ensures { result ≡ is_for_admin_of caller.now form.now }
+{
+    is_given(&form.shared)
+        || is_given(&form.router_external)
+        || is_given(&form.provider_network_type)
+        || is_given(&form.provider_physical_network)
+        || is_given(&form.provider_segmentation_id)
+        || is_for_other(caller, &form.project_id, &form.tenant_id)
+}
+
+// The segment that the body asks for, where the body alone forbids nothing.
+fn check_body(
+    alloc: Global,
+    settings: &Settings,
+    caller: &Caller,
+    form: &NetworkForm,
+) -> Result<AskedSegment, Refusal>
+    ensures asked { IfOk result (λ asked. asked ≡ asked_segment_of form.now) }
+    ensures passes { OnOk result (body_refusal settings.now caller.now form.now ≡ None) }
+    ensures refused { IfErr result
+        (IsRefusalIn (body_refusal settings.now caller.now form.now)) }
+{
+    if is_bad_physical(form) {
+        return Err(invalid(alloc, "provider:physical_network"));
+    }
+    if is_bad_number(form) {
+        return Err(invalid(alloc, "provider:segmentation_id"));
+    }
+    if are_unlike(&form.project_id, &form.tenant_id) {
+        return Err(invalid(alloc, "tenant_id"));
+    }
+    if is_bare_wire(alloc, settings, form) {
+        return Err(invalid(alloc, "provider:physical_network"));
+    }
+    admin_only(caller, is_for_admin(caller, form))?;
+    Ok(asked_segment(alloc, form)?)
+}
+
+// What the rows forbid.
+fn check_rows(
+    alloc: Global,
+    settings: &Settings,
+    rows: &Rows,
+    asked: &AskedSegment,
+    owner: &Text,
+    form: &NetworkForm,
+) -> Result<(), Refusal>
+    requires { asked.now ≡ asked_segment_of form.now }
+    ensures { Passes (rows_refusal settings.now rows.now form.now owner.now) result }
+{
+    if let Some(refusal) = segment_in_use(alloc, rows.networks().rows(), asked)? {
+        return Err(refusal);
+    }
+    over_quota(rows, settings, owner, Kind::Network)
+}
+
+/// The segment that the body asks for, where nothing forbids the creation. Its cost grows with the
+/// networks and the hosts.
+pub(crate) fn check_creation(
+    alloc: Global,
+    settings: &Settings,
+    rows: &Rows,
+    caller: &Caller,
+    form: &NetworkForm,
+    owner: &Text,
+) -> Result<AskedSegment, Refusal>
+    ensures asked { IfOk result (λ asked. asked ≡ asked_segment_of form.now) }
+    ensures passes { OnOk result
+        (creation_refusal settings.now rows.now caller.now form.now owner.now ≡ None) }
+    ensures refused { IfErr result
+        (IsRefusalIn (creation_refusal settings.now rows.now caller.now form.now owner.now)) }
+{
+    let asked = check_body(alloc, settings, caller, form)?;
+    check_rows(alloc, settings, rows, &asked, owner, form)?;
+    Ok(asked)
+}

@@ -1,0 +1,125 @@
+//! The policies that a network's `shared` and `router:external` are.
+
+ghost use Rattle.std.specs.Prelude.{◌≡◌, ◌≤◌, ◌<◌, ◌^◌, IfOk, None, find, option_copied, true};
+ghost use Rattle.api_types.specs.Table.{row_of};
+ghost use Rattle.api_types.specs.Registration.{ident};
+ghost use Rattle.api_policy.specs.Networks.{permits_all as permits_all_of};
+ghost use Rattle.api_policy.specs.Uses.{open_policy as open_policy_of};
+ghost use Rattle.call_parts.specs.Edits.{made};
+ghost use Rattle.plan_networks.specs.NetworkCalls.{closing, is_cleared as is_cleared_of, is_opened as is_opened_of, new_open_policy as new_open_policy_of, one_if as one_if_of, opening as opening_of};
+
+use api_types::{Action, Given, Id, NetworkRow, PolicyRow, Shared};
+use call_parts::{Draft, value_or};
+use net_addr::{Copies, OutOfMemory, Text};
+use std::alloc::Global;
+
+fn permits_all(policy: &PolicyRow, network: Id, action: Action) -> bool
+    ensures { result ≡ permits_all_of network action policy.now }
+{
+    network == policy.object && (action == policy.action && policy.target.as_str() == "*")
+}
+
+// The first policy that permits the action on the network to all.
+fn open_policy(
+    policies: &[Shared<PolicyRow>],
+    network: Id,
+    action: Action,
+) -> Option<&Shared<PolicyRow>>
+    ensures { option_copied result ≡ open_policy_of policies.now network action }
+{
+    policies
+        .iter()
+        .find(|policy| permits_all(policy, network, action))
+}
+
+/// As the next id, after so many.
+pub(crate) fn one_if(holds: bool) -> u64
+    ensures few { result ≤ 1 }
+    ensures value { result ≡ one_if_of holds }
+{
+    if holds { 1 } else { 0 }
+}
+
+/// Whether a form clears the attribute.
+pub(crate) fn is_cleared(asked: &Given<bool>) -> bool
+    ensures { result ≡ is_cleared_of asked.now }
+{
+    !value_or(true, asked)
+}
+
+/// Whether a form sets the attribute and no policy does so yet. Its cost grows with the policies.
+pub(crate) fn is_opened(
+    policies: &[Shared<PolicyRow>],
+    network: Id,
+    action: Action,
+    asked: &Given<bool>,
+) -> bool
+    ensures { result ≡ is_opened_of asked.now (open_policy_of policies.now network action) }
+{
+    value_or(false, asked) && open_policy(policies, network, action).is_none()
+}
+
+fn new_open_policy(
+    alloc: Global,
+    network: &NetworkRow,
+    action: Action,
+    id: Id,
+) -> Result<PolicyRow, OutOfMemory>
+    ensures { IfOk result (λ l. l ≡ new_open_policy_of network.now action id) }
+{
+    Ok(PolicyRow {
+        id,
+        project: network.project.copy(alloc)?,
+        object: network.id,
+        action,
+        target: Text::of(alloc, "*")?,
+    })
+}
+
+/// The draft with a policy that permits the action to all, where one is to be made.
+pub(crate) fn open(
+    alloc: Global,
+    draft: Draft,
+    network: &NetworkRow,
+    action: Action,
+    ordinal: u32,
+    count: u64,
+    opens: bool,
+) -> Result<Draft, OutOfMemory>
+    requires small { opens ≡ true → count < 2 ^ 62 }
+    requires new { opens ≡ true
+        → row_of (λ l. l.id) (ident ordinal count) draft.rows.policies ≡ None }
+    ensures start { IfOk result (λ d. d.start ≡ draft.start) }
+    ensures rows { IfOk result
+        (λ d. d.rows
+        ≡ made draft.rows (opening_of network.now action (ident ordinal count) opens)) }
+{
+    if !opens {
+        return Ok(draft);
+    }
+    let id = Id::make(ordinal, count);
+    draft.add(alloc, new_open_policy(alloc, network, action, id)?)
+}
+
+/// The draft without the policy that permits the action to all, where it is to go.
+pub(crate) fn close(
+    alloc: Global,
+    draft: Draft,
+    policies: &[Shared<PolicyRow>],
+    network: Id,
+    action: Action,
+    cleared: bool,
+) -> Result<Draft, OutOfMemory>
+    ensures start { IfOk result (λ d. d.start ≡ draft.start) }
+    ensures rows { IfOk result
+        (λ d. d.rows
+        ≡ made draft.rows (closing (open_policy_of policies.now network action) cleared)) }
+{
+    if !cleared {
+        return Ok(draft);
+    }
+    match open_policy(policies, network, action) {
+        Some(policy) => draft.drop_row::<PolicyRow>(alloc, policy.id),
+        None => Ok(draft),
+    }
+}

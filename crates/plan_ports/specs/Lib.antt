@@ -1,0 +1,4 @@
+pub mod Built
+pub mod Open
+pub mod PortCalls
+pub mod PortRules

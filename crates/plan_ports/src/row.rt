@@ -1,0 +1,142 @@
+//! The row of a new port.
+
+ghost use Rattle.std.specs.Prelude.{◌≡◌, ◌<◌, ◌^◌, [], IfOk, find, map, option_copied};
+ghost use Rattle.api_types.specs.Consistent.Groups.{is_default_of};
+ghost use Rattle.api_types.specs.Given.{value_or as value_or_of};
+ghost use Rattle.api_types.specs.Registration.{drawn_id};
+ghost use Rattle.call_parts.specs.Answers.{drawing_of};
+ghost use Rattle.plan_ports.specs.PortCalls.{groups_at_first as groups_at_first_of, ids_of, new_port as new_port_of, pair_of as pair_at};
+
+use api_ml2::bind;
+use api_policy::is_marked;
+use api_types::{
+    Caller, Given, GroupRow, Id, NetworkRow, Pair, PairAsked, PortForm, PortRow, Shared,
+};
+use call_parts::{Drawn, text_or, value_or};
+use net_addr::{Copies, Mac, OutOfMemory, Seq, Text};
+use net_settings::Settings;
+use std::alloc::Global;
+
+// A pair without a MAC address has the port's.
+fn pair_of(mac: Mac, asked: &PairAsked) -> Pair
+    ensures { result ≡ pair_at mac asked.now }
+{
+    Pair {
+        mac: asked.mac.unwrap_or(mac),
+        prefix: asked.prefix,
+    }
+}
+
+fn all_pairs(alloc: Global, mac: Mac, asked: &[PairAsked]) -> Result<Seq<Pair>, OutOfMemory>
+    ensures { IfOk result (λ pairs. pairs ≡ map (pair_at mac) asked.now) }
+{
+    let mut pairs = Seq::new(alloc);
+    for one in asked {
+        pairs.push(pair_of(mac, one))?;
+    }
+    Ok(pairs)
+}
+
+fn pairs_of(
+    alloc: Global,
+    mac: Mac,
+    asked: &Given<Seq<PairAsked>>,
+) -> Result<Seq<Pair>, OutOfMemory>
+    ensures { IfOk result (λ pairs. pairs ≡ map (pair_at mac) (value_or_of [] asked.now)) }
+{
+    match asked {
+        Given::Is(asked) => all_pairs(alloc, mac, asked.as_slice()),
+        _ => Ok(Seq::new(alloc)),
+    }
+}
+
+fn default_of<'g>(groups: &'g [Shared<GroupRow>], owner: &Text) -> Option<&'g GroupRow>
+    ensures { option_copied result ≡ find (is_default_of owner.now) groups.now }
+{
+    for group in groups {
+        if group.is_default && group.project == *owner {
+            return Some(group);
+        }
+    }
+    None
+}
+
+fn default_groups(
+    alloc: Global,
+    groups: &[Shared<GroupRow>],
+    owner: &Text,
+) -> Result<Seq<Id>, OutOfMemory>
+    ensures { IfOk result (λ ids. ids ≡ ids_of (find (is_default_of owner.now) groups.now)) }
+{
+    let mut ids = Seq::new(alloc);
+    if let Some(group) = default_of(groups, owner) {
+        ids.push(group.id)?;
+    }
+    Ok(ids)
+}
+
+// The groups that are named, or the default group of a port that is filtered.
+fn groups_at_first(
+    alloc: Global,
+    groups: &[Shared<GroupRow>],
+    owner: &Text,
+    secured: bool,
+    named: &Given<Seq<Id>>,
+) -> Result<Seq<Id>, OutOfMemory>
+    ensures { IfOk result
+        (λ ids. ids ≡ groups_at_first_of groups.now owner.now secured named.now) }
+{
+    match named {
+        Given::Is(ids) => ids.copy(alloc),
+        _ => {
+            if secured {
+                default_groups(alloc, groups, owner)
+            } else {
+                Ok(Seq::new(alloc))
+            }
+        }
+    }
+}
+
+/// The new port, with the first id that was drawn, as it will stand on a network without subnets.
+/// Its cost grows with the groups, the policies and the hosts.
+pub(crate) fn new_port(
+    alloc: Global,
+    settings: &Settings,
+    drawn: &Drawn,
+    caller: &Caller,
+    form: &PortForm,
+    network: &NetworkRow,
+    owner: &Text,
+) -> Result<PortRow, OutOfMemory>
+    requires { drawn.now.first < 2 ^ 62 }
+    ensures { IfOk result
+        (λ p. p
+        ≡ new_port_of settings.now drawn.now.draft.rows caller.now form.now network.now owner.now
+        (drawn_id (drawing_of drawn.now) 0) (value_or_of 0 form.now.mac_address) []) }
+{
+    let rows = drawn.draft.rows();
+    let empty = Text::new(alloc);
+    let host = text_or(alloc, &empty, &form.binding_host_id)?;
+    let mac = value_or(Mac(0), &form.mac_address);
+    let secured = value_or(true, &form.port_security_enabled);
+    let groups = rows.groups().rows();
+    Ok(PortRow {
+        id: drawn.id(0),
+        project: owner.copy(alloc)?,
+        network: network.id,
+        name: text_or(alloc, &empty, &form.name)?,
+        description: text_or(alloc, &empty, &form.description)?,
+        up: value_or(true, &form.admin_state_up),
+        mac,
+        fixed: Seq::new(alloc),
+        pairs: pairs_of(alloc, mac, &form.allowed_address_pairs)?,
+        secured,
+        groups: groups_at_first(alloc, groups, owner, secured, &form.security_groups)?,
+        device: text_or(alloc, &empty, &form.device_id)?,
+        owner: text_or(alloc, &empty, &form.device_owner)?,
+        vif: bind(settings, &network.segment, &host),
+        host,
+        by_admin: is_marked(rows, caller, owner, network),
+    })
+}

@@ -1,0 +1,3 @@
+pub mod InterfaceCalls
+pub mod RouterCalls
+pub mod RouterRules

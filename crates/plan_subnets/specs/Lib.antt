@@ -1,0 +1,3 @@
+pub mod DhcpUpkeep
+pub mod SubnetCalls
+pub mod SubnetRules
