@@ -23,7 +23,8 @@ const HEADS: [Case; 4] = [
         closing: b"",
         times: 63,
         back: b"\r\n",
-        wanted: b"HTTP/1.1 200 OK\r\nContent-Type: application/json\r\nContent-Length: 15\r\n\r\n{\"networks\":[]}",
+        wanted: b"HTTP/1.1 200 OK\r\nContent-Type: application/json\r\nContent-Length: 15\r\n\r\n\
+            {\"networks\":[]}",
     },
     // 65 fields
     Case {
@@ -32,7 +33,11 @@ const HEADS: [Case; 4] = [
         closing: b"",
         times: 64,
         back: b"\r\n",
-        wanted: b"HTTP/1.1 431 Request Header Fields Too Large\r\nContent-Type: application/json\r\nContent-Length: 122\r\nConnection: close\r\n\r\n{\"NeutronError\":{\"detail\":\"\",\"message\":\"The request head is larger than 16384 bytes or 64 fields.\",\"type\":\"HeadTooLarge\"}}",
+        wanted: b"HTTP/1.1 431 Request Header Fields Too Large\r\n\
+            Content-Type: application/json\r\nContent-Length: 122\r\nConnection: close\r\n\r\n\
+            {\"NeutronError\":{\"detail\":\"\",\
+            \"message\":\"The request head is larger than 16384 bytes or 64 fields.\",\
+            \"type\":\"HeadTooLarge\"}}",
     },
     // a head of 16,384 bytes
     Case {
@@ -41,7 +46,8 @@ const HEADS: [Case; 4] = [
         closing: b"",
         times: 16331,
         back: b"\r\n\r\n",
-        wanted: b"HTTP/1.1 200 OK\r\nContent-Type: application/json\r\nContent-Length: 15\r\n\r\n{\"networks\":[]}",
+        wanted: b"HTTP/1.1 200 OK\r\nContent-Type: application/json\r\nContent-Length: 15\r\n\r\n\
+            {\"networks\":[]}",
     },
     // a head of 16,385 bytes
     Case {
@@ -50,46 +56,73 @@ const HEADS: [Case; 4] = [
         closing: b"",
         times: 16332,
         back: b"\r\n\r\n",
-        wanted: b"HTTP/1.1 431 Request Header Fields Too Large\r\nContent-Type: application/json\r\nContent-Length: 122\r\nConnection: close\r\n\r\n{\"NeutronError\":{\"detail\":\"\",\"message\":\"The request head is larger than 16384 bytes or 64 fields.\",\"type\":\"HeadTooLarge\"}}",
+        wanted: b"HTTP/1.1 431 Request Header Fields Too Large\r\n\
+            Content-Type: application/json\r\nContent-Length: 122\r\nConnection: close\r\n\r\n\
+            {\"NeutronError\":{\"detail\":\"\",\
+            \"message\":\"The request head is larger than 16384 bytes or 64 fields.\",\
+            \"type\":\"HeadTooLarge\"}}",
     },
 ];
 
 const BODIES: [Case; 4] = [
     // a body of 65,536 bytes
     Case {
-        front: b"POST /v2.0/networks HTTP/1.1\r\nX-Project-Id: a\r\nContent-Length: 65536\r\n\r\n{\"network\":{\"name\":\"n1\"}}",
+        front: b"POST /v2.0/networks HTTP/1.1\r\nX-Project-Id: a\r\nContent-Length: 65536\r\n\r\n\
+            {\"network\":{\"name\":\"n1\"}}",
         opening: b" ",
         closing: b"",
         times: 65511,
         back: b"",
-        wanted: b"HTTP/1.1 201 Created\r\nContent-Type: application/json\r\nContent-Length: 211\r\n\r\n{\"network\":{\"admin_state_up\":true,\"description\":\"\",\"id\":\"00000001-0000-8000-8000-000000000006\",\"name\":\"n1\",\"project_id\":\"a\",\"router:external\":false,\"shared\":false,\"status\":\"ACTIVE\",\"subnets\":[],\"tenant_id\":\"a\"}}",
+        wanted: b"HTTP/1.1 201 Created\r\nContent-Type: application/json\r\n\
+            Content-Length: 211\r\n\r\n\
+            {\"network\":{\"admin_state_up\":true,\"description\":\"\",\
+            \"id\":\"00000001-0000-8000-8000-000000000006\",\"name\":\"n1\",\
+            \"project_id\":\"a\",\"router:external\":false,\"shared\":false,\
+            \"status\":\"ACTIVE\",\"subnets\":[],\"tenant_id\":\"a\"}}",
     },
     // an array in an array, 125 times
     Case {
-        front: b"POST /v2.0/networks HTTP/1.1\r\nX-Project-Id: a\r\nContent-Length: 271\r\n\r\n{\"network\":{\"name\":",
+        front: b"POST /v2.0/networks HTTP/1.1\r\nX-Project-Id: a\r\nContent-Length: 271\r\n\r\n\
+            {\"network\":{\"name\":",
         opening: b"[",
         closing: b"]",
         times: 125,
         back: b"}}",
-        wanted: b"HTTP/1.1 400 Bad Request\r\nContent-Type: application/json\r\nContent-Length: 88\r\n\r\n{\"NeutronError\":{\"detail\":\"\",\"message\":\"Invalid input for name.\",\"type\":\"InvalidInput\"}}",
+        wanted: b"HTTP/1.1 400 Bad Request\r\nContent-Type: application/json\r\n\
+            Content-Length: 88\r\n\r\n\
+            {\"NeutronError\":{\"detail\":\"\",\"message\":\"Invalid input for name.\",\
+            \"type\":\"InvalidInput\"}}",
     },
     // and once more, which is no JSON: 128 arrays and objects
     Case {
-        front: b"POST /v2.0/networks HTTP/1.1\r\nX-Project-Id: a\r\nContent-Length: 273\r\n\r\n{\"network\":{\"name\":",
+        front: b"POST /v2.0/networks HTTP/1.1\r\nX-Project-Id: a\r\nContent-Length: 273\r\n\r\n\
+            {\"network\":{\"name\":",
         opening: b"[",
         closing: b"]",
         times: 126,
         back: b"}}",
-        wanted: b"HTTP/1.1 400 Bad Request\r\nContent-Type: application/json\r\nContent-Length: 114\r\n\r\n{\"NeutronError\":{\"detail\":\"\",\"message\":\"The body is not an object with the one member network.\",\"type\":\"BadBody\"}}",
+        wanted: b"HTTP/1.1 400 Bad Request\r\nContent-Type: application/json\r\n\
+            Content-Length: 114\r\n\r\n\
+            {\"NeutronError\":{\"detail\":\"\",\
+            \"message\":\"The body is not an object with the one member network.\",\
+            \"type\":\"BadBody\"}}",
     },
     // six fixed addresses
     Case {
-        front: b"POST /v2.0/ports HTTP/1.1\r\nX-Project-Id: a\r\nContent-Length: 232\r\n\r\n{\"port\":{\"fixed_ips\":[{\"ip_address\":\"10.0.0.1\"},{\"ip_address\":\"10.0.0.2\"},{\"ip_address\":\"10.0.0.3\"},{\"ip_address\":\"10.0.0.4\"},{\"ip_address\":\"10.0.0.5\"},{\"ip_address\":\"10.0.0.6\"}],\"network_id\":\"00000001-0000-8000-8000-000000000006\"}}",
+        front: b"POST /v2.0/ports HTTP/1.1\r\nX-Project-Id: a\r\nContent-Length: 232\r\n\r\n\
+            {\"port\":{\"fixed_ips\":[{\"ip_address\":\"10.0.0.1\"},\
+            {\"ip_address\":\"10.0.0.2\"},{\"ip_address\":\"10.0.0.3\"},\
+            {\"ip_address\":\"10.0.0.4\"},{\"ip_address\":\"10.0.0.5\"},\
+            {\"ip_address\":\"10.0.0.6\"}],\
+            \"network_id\":\"00000001-0000-8000-8000-000000000006\"}}",
         opening: b"",
         closing: b"",
         times: 0,
         back: b"",
-        wanted: b"HTTP/1.1 400 Bad Request\r\nContent-Type: application/json\r\nContent-Length: 93\r\n\r\n{\"NeutronError\":{\"detail\":\"\",\"message\":\"Invalid input for fixed_ips.\",\"type\":\"InvalidInput\"}}",
+        wanted: b"HTTP/1.1 400 Bad Request\r\nContent-Type: application/json\r\n\
+            Content-Length: 93\r\n\r\n\
+            {\"NeutronError\":{\"detail\":\"\",\"message\":\"Invalid input for fixed_ips.\",\
+            \"type\":\"InvalidInput\"}}",
     },
 ];
 

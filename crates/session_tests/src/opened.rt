@@ -11,17 +11,26 @@ use std::alloc::Global;
 use std::test::Fail;
 use test_rows::{add, group, id, network, rule};
 
-const MAKE: &[u8] =
-    b"POST /v2.0/networks HTTP/1.1\r\nX-Project-Id: a\r\nContent-Length: 25\r\n\r\n{\"network\":{\"name\":\"n1\"}}";
+const MAKE: &[u8] = b"POST /v2.0/networks HTTP/1.1\r\nX-Project-Id: a\r\nContent-Length: 25\r\n\r\n\
+        {\"network\":{\"name\":\"n1\"}}";
 
 const MADE: &[u8] =
-    b"HTTP/1.1 201 Created\r\nContent-Type: application/json\r\nContent-Length: 211\r\n\r\n{\"network\":{\"admin_state_up\":true,\"description\":\"\",\"id\":\"00000001-0000-8000-8000-000000000006\",\"name\":\"n1\",\"project_id\":\"a\",\"router:external\":false,\"shared\":false,\"status\":\"ACTIVE\",\"subnets\":[],\"tenant_id\":\"a\"}}";
+    b"HTTP/1.1 201 Created\r\nContent-Type: application/json\r\nContent-Length: 211\r\n\r\n\
+        {\"network\":{\"admin_state_up\":true,\"description\":\"\",\
+        \"id\":\"00000001-0000-8000-8000-000000000006\",\"name\":\"n1\",\"project_id\":\"a\",\
+        \"router:external\":false,\"shared\":false,\"status\":\"ACTIVE\",\"subnets\":[],\
+        \"tenant_id\":\"a\"}}";
 
-const NO_NUMBER: &[u8] =
-    b"HTTP/1.1 503 Service Unavailable\r\nContent-Type: application/json\r\nContent-Length: 117\r\n\r\n{\"NeutronError\":{\"detail\":\"\",\"message\":\"No tenant network is available for allocation.\",\"type\":\"NoNetworkAvailable\"}}";
+const NO_NUMBER: &[u8] = b"HTTP/1.1 503 Service Unavailable\r\nContent-Type: application/json\r\n\
+        Content-Length: 117\r\n\r\n\
+        {\"NeutronError\":{\"detail\":\"\",\
+        \"message\":\"No tenant network is available for allocation.\",\
+        \"type\":\"NoNetworkAvailable\"}}";
 
-const NO_COUNT: &[u8] =
-    b"HTTP/1.1 503 Service Unavailable\r\nContent-Type: application/json\r\nContent-Length: 97\r\n\r\n{\"NeutronError\":{\"detail\":\"\",\"message\":\"A counter is at its last value.\",\"type\":\"CountersSpent\"}}";
+const NO_COUNT: &[u8] = b"HTTP/1.1 503 Service Unavailable\r\nContent-Type: application/json\r\n\
+        Content-Length: 97\r\n\r\n\
+        {\"NeutronError\":{\"detail\":\"\",\"message\":\"A counter is at its last value.\",\
+        \"type\":\"CountersSpent\"}}";
 
 // A world with these rows under these settings.
 fn opened(alloc: Global, rows: Rows, settings: Settings) -> Result<World, OutOfMemory>

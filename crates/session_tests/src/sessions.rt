@@ -19,73 +19,150 @@ pub(crate) type Exchange = (&'static [u8], &'static [u8]);
 const REQUESTS: [Exchange; 7] = [
     // A network is made.
     (
-        b"POST /v2.0/networks HTTP/1.1\r\nX-Project-Id: a\r\nContent-Length: 25\r\n\r\n{\"network\":{\"name\":\"n1\"}}",
-        b"HTTP/1.1 201 Created\r\nContent-Type: application/json\r\nContent-Length: 211\r\n\r\n{\"network\":{\"admin_state_up\":true,\"description\":\"\",\"id\":\"00000001-0000-8000-8000-000000000006\",\"name\":\"n1\",\"project_id\":\"a\",\"router:external\":false,\"shared\":false,\"status\":\"ACTIVE\",\"subnets\":[],\"tenant_id\":\"a\"}}",
+        b"POST /v2.0/networks HTTP/1.1\r\nX-Project-Id: a\r\nContent-Length: 25\r\n\r\n\
+            {\"network\":{\"name\":\"n1\"}}",
+        b"HTTP/1.1 201 Created\r\nContent-Type: application/json\r\nContent-Length: 211\r\n\r\n\
+            {\"network\":{\"admin_state_up\":true,\"description\":\"\",\
+            \"id\":\"00000001-0000-8000-8000-000000000006\",\"name\":\"n1\",\
+            \"project_id\":\"a\",\"router:external\":false,\"shared\":false,\
+            \"status\":\"ACTIVE\",\"subnets\":[],\"tenant_id\":\"a\"}}",
     ),
     // No input.
     (b"", b""),
     // An input that ends in a head.
     (
         b"GET /v2.0/net",
-        b"HTTP/1.1 400 Bad Request\r\nContent-Type: application/json\r\nContent-Length: 99\r\nConnection: close\r\n\r\n{\"NeutronError\":{\"detail\":\"\",\"message\":\"The request could not be read.\",\"type\":\"MalformedRequest\"}}",
+        b"HTTP/1.1 400 Bad Request\r\nContent-Type: application/json\r\nContent-Length: 99\r\n\
+            Connection: close\r\n\r\n\
+            {\"NeutronError\":{\"detail\":\"\",\"message\":\"The request could not be read.\",\
+            \"type\":\"MalformedRequest\"}}",
     ),
     // Another project doesn't see the network.
     (
-        b"POST /v2.0/networks HTTP/1.1\r\nX-Project-Id: a\r\nContent-Length: 25\r\n\r\n{\"network\":{\"name\":\"n1\"}}GET /v2.0/networks/00000001-0000-8000-8000-000000000006 HTTP/1.1\r\nX-Project-Id: b\r\n\r\n",
-        b"HTTP/1.1 201 Created\r\nContent-Type: application/json\r\nContent-Length: 211\r\n\r\n{\"network\":{\"admin_state_up\":true,\"description\":\"\",\"id\":\"00000001-0000-8000-8000-000000000006\",\"name\":\"n1\",\"project_id\":\"a\",\"router:external\":false,\"shared\":false,\"status\":\"ACTIVE\",\"subnets\":[],\"tenant_id\":\"a\"}}HTTP/1.1 404 Not Found\r\nContent-Type: application/json\r\nContent-Length: 132\r\n\r\n{\"NeutronError\":{\"detail\":\"\",\"message\":\"Network 00000001-0000-8000-8000-000000000006 could not be found.\",\"type\":\"NetworkNotFound\"}}",
+        b"POST /v2.0/networks HTTP/1.1\r\nX-Project-Id: a\r\nContent-Length: 25\r\n\r\n\
+            {\"network\":{\"name\":\"n1\"}}\
+            GET /v2.0/networks/00000001-0000-8000-8000-000000000006 HTTP/1.1\r\n\
+            X-Project-Id: b\r\n\r\n",
+        b"HTTP/1.1 201 Created\r\nContent-Type: application/json\r\nContent-Length: 211\r\n\r\n\
+            {\"network\":{\"admin_state_up\":true,\"description\":\"\",\
+            \"id\":\"00000001-0000-8000-8000-000000000006\",\"name\":\"n1\",\
+            \"project_id\":\"a\",\"router:external\":false,\"shared\":false,\
+            \"status\":\"ACTIVE\",\"subnets\":[],\"tenant_id\":\"a\"}}\
+            HTTP/1.1 404 Not Found\r\nContent-Type: application/json\r\nContent-Length: 132\r\n\
+            \r\n{\"NeutronError\":{\"detail\":\"\",\
+            \"message\":\"Network 00000001-0000-8000-8000-000000000006 could not be found.\",\
+            \"type\":\"NetworkNotFound\"}}",
     ),
     // Lists, with filters and fields.
     (
-        b"POST /v2.0/networks HTTP/1.1\r\nX-Project-Id: a\r\nContent-Length: 25\r\n\r\n{\"network\":{\"name\":\"n1\"}}GET /v2.0/networks?name=n1&fields=id HTTP/1.1\r\nX-Project-Id: a\r\n\r\nGET /v2.0/networks?name=n2 HTTP/1.1\r\nX-Project-Id: a\r\n\r\n",
-        b"HTTP/1.1 201 Created\r\nContent-Type: application/json\r\nContent-Length: 211\r\n\r\n{\"network\":{\"admin_state_up\":true,\"description\":\"\",\"id\":\"00000001-0000-8000-8000-000000000006\",\"name\":\"n1\",\"project_id\":\"a\",\"router:external\":false,\"shared\":false,\"status\":\"ACTIVE\",\"subnets\":[],\"tenant_id\":\"a\"}}HTTP/1.1 200 OK\r\nContent-Type: application/json\r\nContent-Length: 60\r\n\r\n{\"networks\":[{\"id\":\"00000001-0000-8000-8000-000000000006\"}]}HTTP/1.1 200 OK\r\nContent-Type: application/json\r\nContent-Length: 15\r\n\r\n{\"networks\":[]}",
+        b"POST /v2.0/networks HTTP/1.1\r\nX-Project-Id: a\r\nContent-Length: 25\r\n\r\n\
+            {\"network\":{\"name\":\"n1\"}}\
+            GET /v2.0/networks?name=n1&fields=id HTTP/1.1\r\nX-Project-Id: a\r\n\r\n\
+            GET /v2.0/networks?name=n2 HTTP/1.1\r\nX-Project-Id: a\r\n\r\n",
+        b"HTTP/1.1 201 Created\r\nContent-Type: application/json\r\nContent-Length: 211\r\n\r\n\
+            {\"network\":{\"admin_state_up\":true,\"description\":\"\",\
+            \"id\":\"00000001-0000-8000-8000-000000000006\",\"name\":\"n1\",\
+            \"project_id\":\"a\",\"router:external\":false,\"shared\":false,\
+            \"status\":\"ACTIVE\",\"subnets\":[],\"tenant_id\":\"a\"}}\
+            HTTP/1.1 200 OK\r\nContent-Type: application/json\r\nContent-Length: 60\r\n\r\n\
+            {\"networks\":[{\"id\":\"00000001-0000-8000-8000-000000000006\"}]}\
+            HTTP/1.1 200 OK\r\nContent-Type: application/json\r\nContent-Length: 15\r\n\r\n\
+            {\"networks\":[]}",
     ),
     // A name that filters nothing.
     (
         b"GET /v2.0/networks?colour=n1 HTTP/1.1\r\nX-Project-Id: a\r\n\r\n",
-        b"HTTP/1.1 400 Bad Request\r\nContent-Type: application/json\r\nContent-Length: 90\r\n\r\n{\"NeutronError\":{\"detail\":\"\",\"message\":\"Invalid input for colour.\",\"type\":\"InvalidInput\"}}",
+        b"HTTP/1.1 400 Bad Request\r\nContent-Type: application/json\r\nContent-Length: 90\r\n\
+            \r\n{\"NeutronError\":{\"detail\":\"\",\"message\":\"Invalid input for colour.\",\
+            \"type\":\"InvalidInput\"}}",
     ),
     // A network goes, and is gone.
     (
-        b"POST /v2.0/networks HTTP/1.1\r\nX-Project-Id: a\r\nContent-Length: 25\r\n\r\n{\"network\":{\"name\":\"n1\"}}DELETE /v2.0/networks/00000001-0000-8000-8000-000000000006 HTTP/1.1\r\nX-Project-Id: a\r\n\r\nDELETE /v2.0/networks/00000001-0000-8000-8000-000000000006 HTTP/1.1\r\nX-Project-Id: a\r\n\r\n",
-        b"HTTP/1.1 201 Created\r\nContent-Type: application/json\r\nContent-Length: 211\r\n\r\n{\"network\":{\"admin_state_up\":true,\"description\":\"\",\"id\":\"00000001-0000-8000-8000-000000000006\",\"name\":\"n1\",\"project_id\":\"a\",\"router:external\":false,\"shared\":false,\"status\":\"ACTIVE\",\"subnets\":[],\"tenant_id\":\"a\"}}HTTP/1.1 204 No Content\r\n\r\nHTTP/1.1 404 Not Found\r\nContent-Type: application/json\r\nContent-Length: 132\r\n\r\n{\"NeutronError\":{\"detail\":\"\",\"message\":\"Network 00000001-0000-8000-8000-000000000006 could not be found.\",\"type\":\"NetworkNotFound\"}}",
+        b"POST /v2.0/networks HTTP/1.1\r\nX-Project-Id: a\r\nContent-Length: 25\r\n\r\n\
+            {\"network\":{\"name\":\"n1\"}}\
+            DELETE /v2.0/networks/00000001-0000-8000-8000-000000000006 HTTP/1.1\r\n\
+            X-Project-Id: a\r\n\r\n\
+            DELETE /v2.0/networks/00000001-0000-8000-8000-000000000006 HTTP/1.1\r\n\
+            X-Project-Id: a\r\n\r\n",
+        b"HTTP/1.1 201 Created\r\nContent-Type: application/json\r\nContent-Length: 211\r\n\r\n\
+            {\"network\":{\"admin_state_up\":true,\"description\":\"\",\
+            \"id\":\"00000001-0000-8000-8000-000000000006\",\"name\":\"n1\",\
+            \"project_id\":\"a\",\"router:external\":false,\"shared\":false,\
+            \"status\":\"ACTIVE\",\"subnets\":[],\"tenant_id\":\"a\"}}\
+            HTTP/1.1 204 No Content\r\n\r\n\
+            HTTP/1.1 404 Not Found\r\nContent-Type: application/json\r\nContent-Length: 132\r\n\
+            \r\n{\"NeutronError\":{\"detail\":\"\",\
+            \"message\":\"Network 00000001-0000-8000-8000-000000000006 could not be found.\",\
+            \"type\":\"NetworkNotFound\"}}",
     ),
 ];
 
 const REFUSALS: [Exchange; 7] = [
     // No project.
     (
-        b"POST /v2.0/networks HTTP/1.1\r\nContent-Length: 25\r\n\r\n{\"network\":{\"name\":\"n1\"}}",
-        b"HTTP/1.1 401 Unauthorized\r\nContent-Type: application/json\r\nContent-Length: 97\r\nWWW-Authenticate: Keystone\r\n\r\n{\"NeutronError\":{\"detail\":\"\",\"message\":\"The request names no caller.\",\"type\":\"NotAuthenticated\"}}",
+        b"POST /v2.0/networks HTTP/1.1\r\nContent-Length: 25\r\n\r\n\
+            {\"network\":{\"name\":\"n1\"}}",
+        b"HTTP/1.1 401 Unauthorized\r\nContent-Type: application/json\r\nContent-Length: 97\r\n\
+            WWW-Authenticate: Keystone\r\n\r\n\
+            {\"NeutronError\":{\"detail\":\"\",\"message\":\"The request names no caller.\",\
+            \"type\":\"NotAuthenticated\"}}",
     ),
     // No such path.
     (
-        b"POST /v2.0/nets HTTP/1.1\r\nX-Project-Id: a\r\nContent-Length: 25\r\n\r\n{\"network\":{\"name\":\"n1\"}}",
-        b"HTTP/1.1 404 Not Found\r\nContent-Type: application/json\r\nContent-Length: 97\r\n\r\n{\"NeutronError\":{\"detail\":\"\",\"message\":\"The resource could not be found.\",\"type\":\"HTTPNotFound\"}}",
+        b"POST /v2.0/nets HTTP/1.1\r\nX-Project-Id: a\r\nContent-Length: 25\r\n\r\n\
+            {\"network\":{\"name\":\"n1\"}}",
+        b"HTTP/1.1 404 Not Found\r\nContent-Type: application/json\r\nContent-Length: 97\r\n\r\n\
+            {\"NeutronError\":{\"detail\":\"\",\"message\":\"The resource could not be found.\",\
+            \"type\":\"HTTPNotFound\"}}",
     ),
     // No such method.
     (
         b"PATCH /v2.0/networks HTTP/1.1\r\nX-Project-Id: a\r\n\r\n",
-        b"HTTP/1.1 405 Method Not Allowed\r\nContent-Type: application/json\r\nContent-Length: 113\r\nAllow: GET, POST\r\n\r\n{\"NeutronError\":{\"detail\":\"\",\"message\":\"The method is not allowed for this resource.\",\"type\":\"MethodNotAllowed\"}}",
+        b"HTTP/1.1 405 Method Not Allowed\r\nContent-Type: application/json\r\n\
+            Content-Length: 113\r\nAllow: GET, POST\r\n\r\n\
+            {\"NeutronError\":{\"detail\":\"\",\
+            \"message\":\"The method is not allowed for this resource.\",\
+            \"type\":\"MethodNotAllowed\"}}",
     ),
     // Another frame.
     (
         b"POST /v2.0/networks HTTP/1.1\r\nX-Project-Id: a\r\nContent-Length: 2\r\n\r\n{}",
-        b"HTTP/1.1 400 Bad Request\r\nContent-Type: application/json\r\nContent-Length: 114\r\n\r\n{\"NeutronError\":{\"detail\":\"\",\"message\":\"The body is not an object with the one member network.\",\"type\":\"BadBody\"}}",
+        b"HTTP/1.1 400 Bad Request\r\nContent-Type: application/json\r\nContent-Length: 114\r\n\
+            \r\n{\"NeutronError\":{\"detail\":\"\",\
+            \"message\":\"The body is not an object with the one member network.\",\
+            \"type\":\"BadBody\"}}",
     ),
     // No JSON.
     (
         b"POST /v2.0/networks HTTP/1.1\r\nX-Project-Id: a\r\nContent-Length: 1\r\n\r\n\xff",
-        b"HTTP/1.1 400 Bad Request\r\nContent-Type: application/json\r\nContent-Length: 114\r\n\r\n{\"NeutronError\":{\"detail\":\"\",\"message\":\"The body is not an object with the one member network.\",\"type\":\"BadBody\"}}",
+        b"HTTP/1.1 400 Bad Request\r\nContent-Type: application/json\r\nContent-Length: 114\r\n\
+            \r\n{\"NeutronError\":{\"detail\":\"\",\
+            \"message\":\"The body is not an object with the one member network.\",\
+            \"type\":\"BadBody\"}}",
     ),
     // Limits out of range, and a marker that names nothing.
     (
-        b"GET /v2.0/networks?limit=0 HTTP/1.1\r\nX-Project-Id: a\r\n\r\nGET /v2.0/networks?limit=10001 HTTP/1.1\r\nX-Project-Id: a\r\n\r\nGET /v2.0/networks?marker=x HTTP/1.1\r\nX-Project-Id: a\r\n\r\n",
-        b"HTTP/1.1 400 Bad Request\r\nContent-Type: application/json\r\nContent-Length: 89\r\n\r\n{\"NeutronError\":{\"detail\":\"\",\"message\":\"Invalid input for limit.\",\"type\":\"InvalidInput\"}}HTTP/1.1 400 Bad Request\r\nContent-Type: application/json\r\nContent-Length: 89\r\n\r\n{\"NeutronError\":{\"detail\":\"\",\"message\":\"Invalid input for limit.\",\"type\":\"InvalidInput\"}}HTTP/1.1 404 Not Found\r\nContent-Type: application/json\r\nContent-Length: 97\r\n\r\n{\"NeutronError\":{\"detail\":\"\",\"message\":\"Network x could not be found.\",\"type\":\"NetworkNotFound\"}}",
+        b"GET /v2.0/networks?limit=0 HTTP/1.1\r\nX-Project-Id: a\r\n\r\n\
+            GET /v2.0/networks?limit=10001 HTTP/1.1\r\nX-Project-Id: a\r\n\r\n\
+            GET /v2.0/networks?marker=x HTTP/1.1\r\nX-Project-Id: a\r\n\r\n",
+        b"HTTP/1.1 400 Bad Request\r\nContent-Type: application/json\r\nContent-Length: 89\r\n\
+            \r\n{\"NeutronError\":{\"detail\":\"\",\"message\":\"Invalid input for limit.\",\
+            \"type\":\"InvalidInput\"}}\
+            HTTP/1.1 400 Bad Request\r\nContent-Type: application/json\r\nContent-Length: 89\r\n\
+            \r\n{\"NeutronError\":{\"detail\":\"\",\"message\":\"Invalid input for limit.\",\
+            \"type\":\"InvalidInput\"}}\
+            HTTP/1.1 404 Not Found\r\nContent-Type: application/json\r\nContent-Length: 97\r\n\
+            \r\n{\"NeutronError\":{\"detail\":\"\",\
+            \"message\":\"Network x could not be found.\",\"type\":\"NetworkNotFound\"}}",
     ),
     // A number that isn't whole.
     (
-        b"POST /v2.0/security-group-rules HTTP/1.1\r\nX-Project-Id: a\r\nContent-Length: 127\r\n\r\n{\"security_group_rule\":{\"direction\":\"ingress\",\"port_range_min\":1.0,\"security_group_id\":\"00000001-0000-8000-8000-000000000001\"}}",
-        b"HTTP/1.1 400 Bad Request\r\nContent-Type: application/json\r\nContent-Length: 98\r\n\r\n{\"NeutronError\":{\"detail\":\"\",\"message\":\"Invalid input for port_range_min.\",\"type\":\"InvalidInput\"}}",
+        b"POST /v2.0/security-group-rules HTTP/1.1\r\nX-Project-Id: a\r\nContent-Length: 127\r\n\
+            \r\n{\"security_group_rule\":{\"direction\":\"ingress\",\"port_range_min\":1.0,\
+            \"security_group_id\":\"00000001-0000-8000-8000-000000000001\"}}",
+        b"HTTP/1.1 400 Bad Request\r\nContent-Type: application/json\r\nContent-Length: 98\r\n\
+            \r\n{\"NeutronError\":{\"detail\":\"\",\
+            \"message\":\"Invalid input for port_range_min.\",\"type\":\"InvalidInput\"}}",
     ),
 ];
 
@@ -93,44 +170,89 @@ const LENGTHS: [Exchange; 7] = [
     // Eleven digits.
     (
         b"POST /v2.0/networks HTTP/1.1\r\nX-Project-Id: a\r\nContent-Length: 00000000025\r\n\r\n",
-        b"HTTP/1.1 400 Bad Request\r\nContent-Type: application/json\r\nContent-Length: 99\r\nConnection: close\r\n\r\n{\"NeutronError\":{\"detail\":\"\",\"message\":\"The request could not be read.\",\"type\":\"MalformedRequest\"}}",
+        b"HTTP/1.1 400 Bad Request\r\nContent-Type: application/json\r\nContent-Length: 99\r\n\
+            Connection: close\r\n\r\n\
+            {\"NeutronError\":{\"detail\":\"\",\"message\":\"The request could not be read.\",\
+            \"type\":\"MalformedRequest\"}}",
     ),
     // A sign.
     (
         b"POST /v2.0/networks HTTP/1.1\r\nX-Project-Id: a\r\nContent-Length: -1\r\n\r\n",
-        b"HTTP/1.1 400 Bad Request\r\nContent-Type: application/json\r\nContent-Length: 99\r\nConnection: close\r\n\r\n{\"NeutronError\":{\"detail\":\"\",\"message\":\"The request could not be read.\",\"type\":\"MalformedRequest\"}}",
+        b"HTTP/1.1 400 Bad Request\r\nContent-Type: application/json\r\nContent-Length: 99\r\n\
+            Connection: close\r\n\r\n\
+            {\"NeutronError\":{\"detail\":\"\",\"message\":\"The request could not be read.\",\
+            \"type\":\"MalformedRequest\"}}",
     ),
     // Two lengths.
     (
         b"POST /v2.0/networks HTTP/1.1\r\nContent-Length: 2\r\nContent-Length: 2\r\n\r\n{}",
-        b"HTTP/1.1 400 Bad Request\r\nContent-Type: application/json\r\nContent-Length: 99\r\nConnection: close\r\n\r\n{\"NeutronError\":{\"detail\":\"\",\"message\":\"The request could not be read.\",\"type\":\"MalformedRequest\"}}",
+        b"HTTP/1.1 400 Bad Request\r\nContent-Type: application/json\r\nContent-Length: 99\r\n\
+            Connection: close\r\n\r\n\
+            {\"NeutronError\":{\"detail\":\"\",\"message\":\"The request could not be read.\",\
+            \"type\":\"MalformedRequest\"}}",
     ),
     // No length.
     (
         b"PUT /v2.0/networks HTTP/1.1\r\nX-Project-Id: a\r\n\r\n",
-        b"HTTP/1.1 411 Length Required\r\nContent-Type: application/json\r\nContent-Length: 125\r\nConnection: close\r\n\r\n{\"NeutronError\":{\"detail\":\"\",\"message\":\"The request needs a Content-Length and no transfer coding.\",\"type\":\"LengthRequired\"}}",
+        b"HTTP/1.1 411 Length Required\r\nContent-Type: application/json\r\n\
+            Content-Length: 125\r\nConnection: close\r\n\r\n\
+            {\"NeutronError\":{\"detail\":\"\",\
+            \"message\":\"The request needs a Content-Length and no transfer coding.\",\
+            \"type\":\"LengthRequired\"}}",
     ),
     // A transfer coding.
     (
         b"GET /v2.0/networks HTTP/1.1\r\nTransfer-Encoding: chunked\r\n\r\n",
-        b"HTTP/1.1 411 Length Required\r\nContent-Type: application/json\r\nContent-Length: 125\r\nConnection: close\r\n\r\n{\"NeutronError\":{\"detail\":\"\",\"message\":\"The request needs a Content-Length and no transfer coding.\",\"type\":\"LengthRequired\"}}",
+        b"HTTP/1.1 411 Length Required\r\nContent-Type: application/json\r\n\
+            Content-Length: 125\r\nConnection: close\r\n\r\n\
+            {\"NeutronError\":{\"detail\":\"\",\
+            \"message\":\"The request needs a Content-Length and no transfer coding.\",\
+            \"type\":\"LengthRequired\"}}",
     ),
     // A body that is too large. Nothing behind it is answered.
     (
-        b"POST /v2.0/networks HTTP/1.1\r\nContent-Length: 65537\r\n\r\nPOST /v2.0/networks HTTP/1.1\r\nX-Project-Id: a\r\nContent-Length: 25\r\n\r\n{\"network\":{\"name\":\"n1\"}}",
-        b"HTTP/1.1 413 Payload Too Large\r\nContent-Type: application/json\r\nContent-Length: 109\r\nConnection: close\r\n\r\n{\"NeutronError\":{\"detail\":\"\",\"message\":\"The request body is larger than 65536 bytes.\",\"type\":\"BodyTooLarge\"}}",
+        b"POST /v2.0/networks HTTP/1.1\r\nContent-Length: 65537\r\n\r\n\
+            POST /v2.0/networks HTTP/1.1\r\nX-Project-Id: a\r\nContent-Length: 25\r\n\r\n\
+            {\"network\":{\"name\":\"n1\"}}",
+        b"HTTP/1.1 413 Payload Too Large\r\nContent-Type: application/json\r\n\
+            Content-Length: 109\r\nConnection: close\r\n\r\n\
+            {\"NeutronError\":{\"detail\":\"\",\
+            \"message\":\"The request body is larger than 65536 bytes.\",\
+            \"type\":\"BodyTooLarge\"}}",
     ),
     // A body one byte short.
     (
-        b"POST /v2.0/networks HTTP/1.1\r\nX-Project-Id: a\r\nContent-Length: 25\r\n\r\n{\"network\":{\"name\":\"n1\"}",
-        b"HTTP/1.1 400 Bad Request\r\nContent-Type: application/json\r\nContent-Length: 99\r\nConnection: close\r\n\r\n{\"NeutronError\":{\"detail\":\"\",\"message\":\"The request could not be read.\",\"type\":\"MalformedRequest\"}}",
+        b"POST /v2.0/networks HTTP/1.1\r\nX-Project-Id: a\r\nContent-Length: 25\r\n\r\n\
+            {\"network\":{\"name\":\"n1\"}",
+        b"HTTP/1.1 400 Bad Request\r\nContent-Type: application/json\r\nContent-Length: 99\r\n\
+            Connection: close\r\n\r\n\
+            {\"NeutronError\":{\"detail\":\"\",\"message\":\"The request could not be read.\",\
+            \"type\":\"MalformedRequest\"}}",
     ),
 ];
 
 // Three times the making of a network, at whose second change the store fails.
 const THREE_CREATIONS: Exchange = (
-    b"POST /v2.0/networks HTTP/1.1\r\nX-Project-Id: a\r\nContent-Length: 25\r\n\r\n{\"network\":{\"name\":\"n1\"}}POST /v2.0/networks HTTP/1.1\r\nX-Project-Id: a\r\nContent-Length: 25\r\n\r\n{\"network\":{\"name\":\"n1\"}}POST /v2.0/networks HTTP/1.1\r\nX-Project-Id: a\r\nContent-Length: 25\r\n\r\n{\"network\":{\"name\":\"n1\"}}",
-    b"HTTP/1.1 201 Created\r\nContent-Type: application/json\r\nContent-Length: 211\r\n\r\n{\"network\":{\"admin_state_up\":true,\"description\":\"\",\"id\":\"00000001-0000-8000-8000-000000000006\",\"name\":\"n1\",\"project_id\":\"a\",\"router:external\":false,\"shared\":false,\"status\":\"ACTIVE\",\"subnets\":[],\"tenant_id\":\"a\"}}HTTP/1.1 503 Service Unavailable\r\nContent-Type: application/json\r\nContent-Length: 96\r\n\r\n{\"NeutronError\":{\"detail\":\"\",\"message\":\"The store failed in this request.\",\"type\":\"StoreFault\"}}HTTP/1.1 201 Created\r\nContent-Type: application/json\r\nContent-Length: 211\r\n\r\n{\"network\":{\"admin_state_up\":true,\"description\":\"\",\"id\":\"00000001-0000-8000-8000-000000000007\",\"name\":\"n1\",\"project_id\":\"a\",\"router:external\":false,\"shared\":false,\"status\":\"ACTIVE\",\"subnets\":[],\"tenant_id\":\"a\"}}",
+    b"POST /v2.0/networks HTTP/1.1\r\nX-Project-Id: a\r\nContent-Length: 25\r\n\r\n\
+        {\"network\":{\"name\":\"n1\"}}\
+        POST /v2.0/networks HTTP/1.1\r\nX-Project-Id: a\r\nContent-Length: 25\r\n\r\n\
+        {\"network\":{\"name\":\"n1\"}}\
+        POST /v2.0/networks HTTP/1.1\r\nX-Project-Id: a\r\nContent-Length: 25\r\n\r\n\
+        {\"network\":{\"name\":\"n1\"}}",
+    b"HTTP/1.1 201 Created\r\nContent-Type: application/json\r\nContent-Length: 211\r\n\r\n\
+        {\"network\":{\"admin_state_up\":true,\"description\":\"\",\
+        \"id\":\"00000001-0000-8000-8000-000000000006\",\"name\":\"n1\",\"project_id\":\"a\",\
+        \"router:external\":false,\"shared\":false,\"status\":\"ACTIVE\",\"subnets\":[],\
+        \"tenant_id\":\"a\"}}\
+        HTTP/1.1 503 Service Unavailable\r\nContent-Type: application/json\r\n\
+        Content-Length: 96\r\n\r\n\
+        {\"NeutronError\":{\"detail\":\"\",\"message\":\"The store failed in this request.\",\
+        \"type\":\"StoreFault\"}}\
+        HTTP/1.1 201 Created\r\nContent-Type: application/json\r\nContent-Length: 211\r\n\r\n\
+        {\"network\":{\"admin_state_up\":true,\"description\":\"\",\
+        \"id\":\"00000001-0000-8000-8000-000000000007\",\"name\":\"n1\",\"project_id\":\"a\",\
+        \"router:external\":false,\"shared\":false,\"status\":\"ACTIVE\",\"subnets\":[],\
+        \"tenant_id\":\"a\"}}",
 );
 
 // A world without rows, under the default settings.
