@@ -17,11 +17,11 @@ module _ (test : ℕ → Bool) where
   least-suc first (suc many) h = ap (λ m. elim (test first) [ true ↦ Some first | false ↦ least_from test (first + 1) m ]) (omega arith)
 
   -- a number that fails leaves the search to the rest
-  least-past : (first many : ℕ) → 0 < many → test first ≡ false → least_from test first many ≡ least_from test (first + 1) (many - 1)
+  pub least-past : (first many : ℕ) → 0 < many → test first ≡ false → least_from test first many ≡ least_from test (first + 1) (many - 1)
   least-past first many h fails = least-suc first many h ∙ ap (λ (b : Bool). elim b [ true ↦ Some first | false ↦ least_from test (first + 1) (many - 1) ]) fails
 
   -- a number that passes ends it
-  least-here : (first many : ℕ) → 0 < many → test first ≡ true → least_from test first many ≡ Some first
+  pub least-here : (first many : ℕ) → 0 < many → test first ≡ true → least_from test first many ≡ Some first
   least-here first many h passes = least-suc first many h ∙ ap (λ (b : Bool). elim b [ true ↦ Some first | false ↦ least_from test (first + 1) (many - 1) ]) passes
 
   -- no numbers, nothing found

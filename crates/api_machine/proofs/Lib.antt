@@ -1,8 +1,7 @@
 mod AimLemmas
 mod ApartLemmas
-pub mod BuiltLaws
 mod CallLemmas
-mod CallsKept
+pub mod CallsKept
 mod CarriedKept
 mod ChoiceLemmas
 mod ChosenLemmas
@@ -68,6 +67,11 @@ mod PortsApart
 mod ReachAlike
 mod ReadsApart
 mod RoomLeft
+mod RoomOfFloatings
+mod RoomOfGroups
+mod RoomOfPorts
+mod RoomOfRouters
+mod RoomOfSubnets
 mod RouteLemmas
 mod RouterCallsApart
 mod RouterChanges
@@ -86,5 +90,5 @@ mod SubnetUpdated
 mod SubnetsApart
 mod TypedKept
 mod TypedRows
-mod WholeStepApart
+pub mod WholeStepApart
 mod WiderLaw

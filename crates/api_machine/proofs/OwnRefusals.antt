@@ -12,10 +12,9 @@ use Rattle.api_types.specs.declared.kind.Kind.{Kind}
 use Rattle.api_types.specs.declared.kind.Kind.TheVariants.{Project, Network, Subnet, Port, Group, Rule, Router, Floating, Policy}
 use Rattle.std.specs.Prelude.{◌⊎◌}
 use Rattle.api_types.specs.declared.refusal.Refusal.{Refusal}
-use Rattle.api_types.specs.declared.refusal.Refusal.TheVariants.{NotBuilt, OutOfMemory, StoreFault}
+use Rattle.api_types.specs.declared.refusal.Refusal.TheVariants.{OutOfMemory, StoreFault}
 use Rattle.net_settings.specs.Settings.{SettingsParts}
 use Rattle.call_parts.specs.State.{State}
-use Rattle.api_machine.specs.BuiltStep.{built_step, is_ahead}
 use Rattle.api_machine.specs.WholeStep.{api_step, row_created, row_deleted, row_shown, row_updated}
 use Rattle.api_machine.specs.Reads.{rows_listed}
 use Rattle.api_machine.proofs.Own.{is_own_outcome}
@@ -83,15 +82,11 @@ module _ (settings : SettingsParts) (state : State) (caller : Caller) where
   own_step (AddInterface router by) = own_interface_added settings state caller router by
   own_step (RemoveInterface router by) = own_interface_removed state caller router by
 
-  own_built : (ahead : Bool) (outcome : Outcome) → is_own_outcome outcome ≡ true → is_own_outcome (if ahead then Refused NotBuilt else outcome) ≡ true
-  own_built true outcome h = refl
-  own_built false outcome h = h
-
-  no_fault : (call : Call) → built_step settings state caller call ≡ Refused StoreFault → ⊥
-  no_fault call h = true≢false (sym (own_built (is_ahead state.rows caller call) (api_step settings state caller call) (own_step call)) ∙ ap is_own_outcome h)
+  no_fault : (call : Call) → api_step settings state caller call ≡ Refused StoreFault → ⊥
+  no_fault call h = true≢false (sym (own_step call) ∙ ap is_own_outcome h)
 
 -- so what it refuses with, or for want of memory, is never that
 pub no_plan_fault : (settings : SettingsParts) (state : State) (caller : Caller) (call : Call) (refusal : Refusal) (T : Type 0)
-    → (refusal ≡ OutOfMemory) ⊎ (built_step settings state caller call ≡ Refused refusal) → refusal ≡ StoreFault → T
+    → (refusal ≡ OutOfMemory) ⊎ (api_step settings state caller call ≡ Refused refusal) → refusal ≡ StoreFault → T
 no_plan_fault settings state caller call refusal T (inl memory) h = absurd cc
 no_plan_fault settings state caller call refusal T (inr refused) h = absurd (no_fault settings state caller call (refused ∙ ap Refused h))

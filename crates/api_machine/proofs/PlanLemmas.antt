@@ -12,7 +12,6 @@ use Rattle.api_types.specs.declared.call.Call.{Call}
 use Rattle.api_types.specs.declared.call.Caller.{Caller}
 use Rattle.api_types.specs.declared.change.Item.{Item}
 use Rattle.api_types.specs.declared.refusal.Refusal.{Refusal}
-use Rattle.api_types.specs.declared.refusal.Refusal.TheVariants.{NotBuilt}
 use Rattle.net_settings.specs.Rules.{MeetsRules}
 use Rattle.net_settings.specs.Settings.{SettingsParts}
 use Rattle.call_parts.specs.Drafts.{DraftParts}
@@ -20,14 +19,13 @@ use Rattle.call_parts.specs.InForm.{IsInForm}
 use Rattle.call_parts.specs.State.{State, is_last}
 use Rattle.call_parts.specs.Typed.{AreTyped}
 use Rattle.api_machine.specs.Alike.{AreAlike}
-use Rattle.api_machine.specs.BuiltStep.{built_step, is_ahead}
 use Rattle.call_parts.specs.Answers.{IsRefusalOf}
 use Rattle.api_machine.specs.Plan.{Answers, AnswersAs, IsDrafted, IsDraftedAs, PlansAs}
 use Rattle.api_machine.specs.WholeStep.{api_step}
 use Rattle.api_machine.specs.declared.planned.Planned.{Planned}
-use Rattle.api_machine.proofs.BuiltLaws.{built_apart}
 use Rattle.api_machine.proofs.CallsKept.{call_kept}
 use Rattle.api_machine.proofs.RoomLeft.{call_room}
+use Rattle.api_machine.proofs.WholeStepApart.{step_apart}
 
 -- a draft from the rows of now, to where the step leads
 pub drafted : (state : State) (outcome : Outcome) (draft : DraftParts) (reply given : Reply) (change : Option (List Item)) → draft.start ≡ state.rows → outcome ≡ Moved draft.rows reply
@@ -47,26 +45,22 @@ shown_so state outcome draft reply shown row planned start moved is drafts =
 room_of : (state : State) → state.version < 2 ^ 64 → is_last state ≡ false → state.version < 2 ^ 64 - 1
 room_of state within last = grind (arith, nat_tests)
 
-module _ (settings : SettingsParts) (state : State) (caller : Caller) (call : Call) (built : is_ahead state.rows caller call ≡ false) where
-  pub built_is : built_step settings state caller call ≡ api_step settings state caller call
-  built_is = ap (λ b. if b then Refused NotBuilt else api_step settings state caller call) built
-
-  -- what is answered of a call that is built is planned
-  pub planned_so : MeetsRules settings → IsConsistent state.rows → AreTyped state.rows → IsInForm caller call → state.version < 2 ^ 64
-      → (change : Option (List Item)) (reply : Reply) → AnswersAs state (api_step settings state caller call) change reply → PlansAs settings state (built_step settings state caller call) change reply
-  planned_so rules c typed form within None reply told = built_is ∙ told
-  planned_so rules c typed form within (Some change) reply moves = record {
-    fits = moves.fits;
-    moved = built_is ∙ moves.moved;
-    kept = call_kept settings rules call state caller (after state.rows change) reply c typed form moves.moved;
-    room = room_of state within (call_room settings state caller (after state.rows change) reply call built moves.moved);
-  }
+-- what is answered of a call is planned
+pub planned_so : (settings : SettingsParts) (state : State) (caller : Caller) (call : Call) → MeetsRules settings → IsConsistent state.rows → AreTyped state.rows → IsInForm caller call
+    → state.version < 2 ^ 64 → (change : Option (List Item)) (reply : Reply) → AnswersAs state (api_step settings state caller call) change reply → PlansAs settings state (api_step settings state caller call) change reply
+planned_so settings state caller call rules c typed form within None reply told = told
+planned_so settings state caller call rules c typed form within (Some change) reply moves = record {
+  fits = moves.fits;
+  moved = moves.moved;
+  kept = call_kept settings rules call state caller (after state.rows change) reply c typed form moves.moved;
+  room = room_of state within (call_room settings state caller (after state.rows change) reply call moves.moved);
+}
 
 -- what a tenant is told
 
 pub told_alike : (settings : SettingsParts) (caller : Caller) (now other : State) (call : Call) → not (is_empty caller.project) ≡ true → IsConsistent now.rows → AreAlike settings caller now other
-    → told (built_step settings now caller call) ≡ told (built_step settings other caller call)
-told_alike settings caller now other call named c alike = built_apart settings caller now other alike.same alike.tenant named c alike.consistent call
+    → told (api_step settings now caller call) ≡ told (api_step settings other caller call)
+told_alike settings caller now other call named c alike = step_apart settings caller now other alike.tenant named c alike.consistent alike.same call
 
 pub planned_told : (settings : SettingsParts) (state : State) (outcome : Outcome) (change : Option (List Item)) (reply : Reply) → PlansAs settings state outcome change reply → told outcome ≡ Told reply
 planned_told settings state outcome None reply plans = ap told plans

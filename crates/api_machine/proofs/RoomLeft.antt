@@ -1,4 +1,4 @@
--- A call that is built and moves rows finds room for one more version.
+-- A call that moves rows finds room for one more version.
 use Rattle.std.proofs.Common.{◌≡◌, ℕ, ◌+◌, List, [], ◌∷◌, Option, Some, true, false, refl}
 use Rattle.std.specs.Prelude.{codes, option_map}
 use Rattle.api_types.specs.Given.{are_unlike, owner_of, value_of}
@@ -44,10 +44,14 @@ use Rattle.call_parts.specs.State.{State, drawing_at, is_last}
 use Rattle.plan_networks.specs.NetworkCalls as networks
 use Rattle.plan_policies.specs.PolicyCalls as policies
 use Rattle.plan_ports.specs.PortCalls as ports
-use Rattle.api_machine.specs.BuiltStep.{is_ahead}
 use Rattle.api_machine.specs.WholeStep.{api_step, row_shown}
 use Rattle.api_machine.proofs.CallsKept.{listed_nothing, refused_nothing, told_row}
 use Rattle.api_machine.proofs.EditedRows.{none_refused}
+use Rattle.api_machine.proofs.RoomOfFloatings.{floating_created_room, floating_deleted_room, floating_updated_room}
+use Rattle.api_machine.proofs.RoomOfRouters.{interface_added_room, interface_removed_room, router_created_room, router_deleted_room, router_updated_room}
+use Rattle.api_machine.proofs.RoomOfPorts.{port_created_room, port_deleted_room, port_updated_room}
+use Rattle.api_machine.proofs.RoomOfSubnets.{subnet_created_room, subnet_deleted_room, subnet_updated_room}
+use Rattle.api_machine.proofs.RoomOfGroups.{group_created_room, group_deleted_room, group_updated_room, rule_created_room, rule_deleted_room}
 use Rattle.api_machine.proofs.OutcomeLemmas.{if_some, needing_moved, not_when, unless_moved}
 
 module _ (settings : SettingsParts) (state : State) (caller : Caller) (rows : RowLists) (reply : Reply) where
@@ -87,23 +91,6 @@ module _ (settings : SettingsParts) (state : State) (caller : Caller) (rows : Ro
       let last : Option Refusal = when (is_last state) CountersSpent in
       not_when (is_last state) CountersSpent (none_refused (owner_only caller n.project ∷ network_in_use state.rows caller n.id ∷ last ∷ []) passed.0 2 last refl)
 
-  port_created_room : (form : PortForm) → ports.port_created settings state caller form ≡ Moved rows reply → is_last state ≡ false
-  port_created_room form h =
-      let owner : List ℕ = owner_of caller form.project_id form.tenant_id in
-      let seen : Option NetworkRow = network_seen state.rows caller (value_of form.network_id) in
-      let make : NetworkRow → Outcome = λ n. ports.port_made settings state caller form n owner in
-      let last : NetworkRow → List Fixed → ℕ → Drawing → Outcome = λ n fixed mac d. ports.port_added caller d.rows (ports.new_port settings d.rows caller form n owner (drawn_id d 0) mac fixed) in
-      let draw : NetworkRow → List Fixed → ℕ → Outcome = λ n fixed mac. needing CountersSpent (drawing_at state owner 1) (last n fixed mac) in
-      let with_mac : NetworkRow → List Fixed → Outcome = λ n fixed. needing CountersSpent (mac_for state.rows.ports n.id form.mac_address) (draw n fixed) in
-      let body = unless_moved (ports.body_refusal state.rows caller form) (needing (not_found Network (text_of (value_of form.network_id))) seen make) rows reply h in
-      let found = needing_moved (not_found Network (text_of (value_of form.network_id))) seen make rows reply body.1 in
-      let n : NetworkRow = found.0 in
-      let first = unless_moved (ports.creation_refusal settings state.rows caller form n owner) (needing (PoolsSpent n.id) (ports.addresses_at_first state.rows form n.id) (with_mac n)) rows reply found.2 in
-      let addresses = needing_moved (PoolsSpent n.id) (ports.addresses_at_first state.rows form n.id) (with_mac n) rows reply first.1 in
-      let mac = needing_moved CountersSpent (mac_for state.rows.ports n.id form.mac_address) (draw n addresses.0) rows reply addresses.2 in
-      let drawing = needing_moved CountersSpent (drawing_at state owner 1) (last n addresses.0 mac.0) rows reply mac.2 in
-      by_drawing owner 1 drawing.0 drawing.1
-
   policy_created_room : (form : PolicyForm) → policies.policy_created settings state caller form ≡ Moved rows reply → is_last state ≡ false
   policy_created_room form h =
       let owner : List ℕ = owner_of caller form.project_id form.tenant_id in
@@ -142,10 +129,6 @@ module _ (settings : SettingsParts) (state : State) (caller : Caller) (rows : Ro
       let last : Option Refusal = when (is_last state) CountersSpent in
       not_when (is_last state) CountersSpent (none_refused (owner_only caller l.project ∷ used ∷ last ∷ []) passed.0 2 last refl)
 
-  -- a call that isn't built is none
-  unbuilt : {P : Type 0} → true ≡ false → P
-  unbuilt h = cc
-
   shown_room : (kind : Kind) (name : IdText) (fields : List (List ℕ)) → row_shown state caller kind name fields ≡ Moved rows reply → is_last state ≡ false
   shown_room Project name fields h = refused_nothing _ rows reply h
   shown_room Network name fields h = told_row Network (λ r. r.id) (network_members state.rows caller) caller name fields _ rows reply h
@@ -157,42 +140,42 @@ module _ (settings : SettingsParts) (state : State) (caller : Caller) (rows : Ro
   shown_room Floating name fields h = told_row Floating (λ r. r.id) floating_members caller name fields _ rows reply h
   shown_room Policy name fields h = told_row Policy (λ r. r.id) policy_members caller name fields _ rows reply h
 
-  created_room : (form : Form) → is_ahead state.rows caller (Create form) ≡ false → api_step settings state caller (Create form) ≡ Moved rows reply → is_last state ≡ false
-  created_room (NetworkOf form) built h = network_created_room form h
-  created_room (PortOf form) built h = port_created_room form h
-  created_room (PolicyOf form) built h = policy_created_room form h
-  created_room (SubnetOf form) built h = unbuilt built
-  created_room (GroupOf form) built h = unbuilt built
-  created_room (RuleOf form) built h = unbuilt built
-  created_room (RouterOf form) built h = unbuilt built
-  created_room (FloatingOf form) built h = unbuilt built
+  created_room : (form : Form) → api_step settings state caller (Create form) ≡ Moved rows reply → is_last state ≡ false
+  created_room (NetworkOf form) h = network_created_room form h
+  created_room (PortOf form) h = port_created_room settings state caller rows reply form h
+  created_room (PolicyOf form) h = policy_created_room form h
+  created_room (SubnetOf form) h = subnet_created_room settings state caller rows reply form h
+  created_room (GroupOf form) h = group_created_room settings state caller rows reply form h
+  created_room (RuleOf form) h = rule_created_room settings state caller rows reply form h
+  created_room (RouterOf form) h = router_created_room settings state caller rows reply form h
+  created_room (FloatingOf form) h = floating_created_room settings state caller rows reply form h
 
-  updated_room : (name : IdText) (form : Form) → is_ahead state.rows caller (Update name form) ≡ false → api_step settings state caller (Update name form) ≡ Moved rows reply → is_last state ≡ false
-  updated_room name (NetworkOf form) built h = network_updated_room name form h
-  updated_room name (PolicyOf form) built h = policy_updated_room name form h
-  updated_room name (PortOf form) built h = unbuilt built
-  updated_room name (SubnetOf form) built h = unbuilt built
-  updated_room name (GroupOf form) built h = unbuilt built
-  updated_room name (RuleOf form) built h = unbuilt built
-  updated_room name (RouterOf form) built h = unbuilt built
-  updated_room name (FloatingOf form) built h = unbuilt built
+  updated_room : (name : IdText) (form : Form) → api_step settings state caller (Update name form) ≡ Moved rows reply → is_last state ≡ false
+  updated_room name (NetworkOf form) h = network_updated_room name form h
+  updated_room name (PolicyOf form) h = policy_updated_room name form h
+  updated_room name (PortOf form) h = port_updated_room settings state caller rows reply name form h
+  updated_room name (SubnetOf form) h = subnet_updated_room settings state caller rows reply name form h
+  updated_room name (GroupOf form) h = group_updated_room settings state caller rows reply name form h
+  updated_room name (RuleOf form) h = refused_nothing _ rows reply h
+  updated_room name (RouterOf form) h = router_updated_room settings state caller rows reply name form h
+  updated_room name (FloatingOf form) h = floating_updated_room settings state caller rows reply name form h
 
-  deleted_room : (kind : Kind) (name : IdText) → is_ahead state.rows caller (Delete kind name) ≡ false → api_step settings state caller (Delete kind name) ≡ Moved rows reply → is_last state ≡ false
-  deleted_room Network name built h = network_deleted_room name h
-  deleted_room Policy name built h = policy_deleted_room name h
-  deleted_room Project name built h = unbuilt built
-  deleted_room Subnet name built h = unbuilt built
-  deleted_room Port name built h = unbuilt built
-  deleted_room Group name built h = unbuilt built
-  deleted_room Rule name built h = unbuilt built
-  deleted_room Router name built h = unbuilt built
-  deleted_room Floating name built h = unbuilt built
+  deleted_room : (kind : Kind) (name : IdText) → api_step settings state caller (Delete kind name) ≡ Moved rows reply → is_last state ≡ false
+  deleted_room Network name h = network_deleted_room name h
+  deleted_room Policy name h = policy_deleted_room name h
+  deleted_room Project name h = refused_nothing _ rows reply h
+  deleted_room Subnet name h = subnet_deleted_room settings state caller rows reply name h
+  deleted_room Port name h = port_deleted_room settings state caller rows reply name h
+  deleted_room Group name h = group_deleted_room settings state caller rows reply name h
+  deleted_room Rule name h = rule_deleted_room settings state caller rows reply name h
+  deleted_room Router name h = router_deleted_room settings state caller rows reply name h
+  deleted_room Floating name h = floating_deleted_room settings state caller rows reply name h
 
-  pub call_room : (call : Call) → is_ahead state.rows caller call ≡ false → api_step settings state caller call ≡ Moved rows reply → is_last state ≡ false
-  call_room (ListCall kind query) built h = listed_nothing _ _ rows reply h
-  call_room (Show kind name fields) built h = shown_room kind name fields h
-  call_room (Create form) built h = created_room form built h
-  call_room (Update name form) built h = updated_room name form built h
-  call_room (Delete kind name) built h = deleted_room kind name built h
-  call_room (AddInterface router by) built h = unbuilt built
-  call_room (RemoveInterface router by) built h = unbuilt built
+  pub call_room : (call : Call) → api_step settings state caller call ≡ Moved rows reply → is_last state ≡ false
+  call_room (ListCall kind query) h = listed_nothing _ _ rows reply h
+  call_room (Show kind name fields) h = shown_room kind name fields h
+  call_room (Create form) h = created_room form h
+  call_room (Update name form) h = updated_room name form h
+  call_room (Delete kind name) h = deleted_room kind name h
+  call_room (AddInterface router by) h = interface_added_room settings state caller rows reply router by h
+  call_room (RemoveInterface router by) h = interface_removed_room settings state caller rows reply router by h

@@ -19,12 +19,10 @@ use Rattle.net_settings.specs.Settings.{SettingsParts}
 use Rattle.api_policy.specs.Visibility.{seen_networks, seen_ports, sees_port}
 use Rattle.call_parts.specs.State.{State}
 use Rattle.api_machine.specs.Alike.{KeepsApart}
-use Rattle.api_machine.specs.BuiltStep.{built_step}
 use Rattle.api_machine.specs.Footing.{Footing, blank, footing, guard, is_close, is_near, is_of_router, near_of, owned}
 use Rattle.api_machine.specs.WholeStep.{api_step}
 use Rattle.api_machine.specs.WiderFooting.{NearSegment, WiderFooting, is_closer, is_nearer, is_of_floating, near_segment_of, wider_footing, without_number}
 use Rattle.api_machine.proofs.ApartLemmas.{filter-kept}
-use Rattle.api_machine.proofs.BuiltLaws.{built_apart}
 use Rattle.api_machine.proofs.ListLemmas.{any-map, filter-each, or_cases, or_left, or_right}
 use Rattle.api_machine.proofs.WholeStepApart.{step_apart}
 
@@ -158,10 +156,5 @@ wider_same settings caller s t same = narrow_is settings s caller ∙ (ap (narro
 pub wider_apart : (settings : SettingsParts) (step : State → Caller → Call → Outcome) → KeepsApart (footing settings) step → KeepsApart (wider_footing settings) step
 wider_apart settings step apart caller s t tenant named c d same call = apart caller s t tenant named c d (wider_same settings caller s t same) call
 
--- of the whole step, and of the built one
-
 pub whole_keeps_apart : (settings : SettingsParts) → KeepsApart (footing settings) (api_step settings)
 whole_keeps_apart settings caller s t tenant named c d same call = step_apart settings caller s t tenant named c d same call
-
-pub built_keeps_apart : (settings : SettingsParts) → KeepsApart (footing settings) (built_step settings)
-built_keeps_apart settings caller s t tenant named c d same call = built_apart settings caller s t same tenant named c d call

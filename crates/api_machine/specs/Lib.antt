@@ -1,5 +1,4 @@
 pub mod Alike
-pub mod BuiltStep
 pub mod Footing
 pub mod Kept
 pub mod Machine

@@ -2,19 +2,16 @@
 ghost use Rattle.net_settings.specs.Rules.{MeetsRules};
 ghost use Rattle.net_settings.specs.Settings.{SettingsParts};
 ghost use Rattle.api_machine.specs.Alike.{KeepsApart};
-ghost use Rattle.api_machine.specs.BuiltStep.{built_step};
 ghost use Rattle.api_machine.specs.Footing.{footing};
 ghost use Rattle.api_machine.specs.Kept.{KeepsRows};
 ghost use Rattle.api_machine.specs.WholeStep.{api_step};
 ghost use Rattle.api_machine.specs.WiderFooting.{wider_footing};
 
 /// Each accepted call in form leaves consistent rows consistent, as their types say, and carried by
-/// the hosts where they were. `whole` is of all calls of the API, `built` of those that are built.
+/// the hosts where they were.
 pub fn calls_keep()
-    ensures whole { (settings : SettingsParts) → MeetsRules settings
+    ensures { (settings : SettingsParts) → MeetsRules settings
         → KeepsRows settings (api_step settings) }
-    ensures built { (settings : SettingsParts) → MeetsRules settings
-        → KeepsRows settings (built_step settings) }
 {}
 
 /// A tenant, whose project has a name, is told the same of each call, reply or refusal, at any two
@@ -23,10 +20,6 @@ pub fn calls_keep()
 pub fn tenants_stay_apart()
     ensures whole { (settings : SettingsParts)
         → KeepsApart (footing settings) (api_step settings) }
-    ensures built { (settings : SettingsParts)
-        → KeepsApart (footing settings) (built_step settings) }
     ensures wider { (settings : SettingsParts)
         → KeepsApart (wider_footing settings) (api_step settings) }
-    ensures wider_built { (settings : SettingsParts)
-        → KeepsApart (wider_footing settings) (built_step settings) }
 {}

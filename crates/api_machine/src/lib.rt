@@ -3,16 +3,16 @@
 //!
 //! It stands on the rows of `api_types`, on the planning of each kind in its `plan_` crate, and on
 //! `api_shown` for what is printed. What a call comes to is defined by `api_step`, a function of
-//! settings, rows, version, caller and call; `built_step` refuses in front of it what isn't built
-//! yet. `Machine::open` takes rows that `api_check` finds consistent. `plan` answers as `built_step`
-//! does and tells the change that leads there, `prepare` makes the rows after it, and `accept` puts
-//! them in place, which can't fail. `calls_keep` and `tenants_stay_apart` are laws: functions that
-//! do nothing, whose contracts say that accepted calls keep rows sound and that what a tenant is
-//! told depends on its footing alone.
+//! settings, rows, version, caller and call. `Machine::open` takes rows that `api_check` finds
+//! consistent. `plan` answers as `api_step` does and tells the change that leads there, `prepare`
+//! makes the rows after it, and `accept` puts them in place, which can't fail. `calls_keep` and
+//! `tenants_stay_apart` are laws: functions that do nothing, whose contracts say that accepted calls
+//! keep rows sound and that what a tenant is told depends on its footing alone.
 #![tactic(auto)]
 
-mod ahead;
 mod calls;
+mod floatings;
+mod groups;
 mod laws;
 mod machine;
 mod networks;
@@ -20,6 +20,8 @@ mod planned;
 mod policies;
 mod ports;
 mod reads;
+mod routers;
+mod subnets;
 mod typed;
 
 pub use laws::{calls_keep, tenants_stay_apart};

@@ -11,7 +11,7 @@ ghost use Rattle.call_parts.specs.InForm.{IsInForm};
 ghost use Rattle.call_parts.specs.State.{State};
 ghost use Rattle.call_parts.specs.Typed.{AreTyped};
 ghost use Rattle.api_machine.specs.Alike.{AreAlike};
-ghost use Rattle.api_machine.specs.BuiltStep.{built_step};
+ghost use Rattle.api_machine.specs.WholeStep.{api_step};
 ghost use Rattle.api_machine.specs.Kept.{AreKept, HostsCarry};
 ghost use Rattle.api_machine.specs.Machine.{state_of};
 ghost use Rattle.call_parts.specs.Answers.{IsRefusalOf};
@@ -126,19 +126,19 @@ impl Machine {
         requires in_form { IsInForm caller.now call.now }
         ensures ok { IfOk result
             (Plans self.now.settings (state_of self.now)
-            (built_step self.now.settings (state_of self.now) caller.now call.now)) }
+            (api_step self.now.settings (state_of self.now) caller.now call.now)) }
         ensures err { IfErr result
             (IsRefusalOf
-            (built_step self.now.settings (state_of self.now) caller.now call.now)) }
+            (api_step self.now.settings (state_of self.now) caller.now call.now)) }
         ensures answer_apart { (other : State)
             → AreAlike self.now.settings caller.now (state_of self.now) other
             → IfOk result
-            (λ p. told (built_step self.now.settings other caller.now call.now)
+            (λ p. told (api_step self.now.settings other caller.now call.now)
             ≡ Told (reply_of p.answer)) }
         ensures refusal_apart { (other : State)
             → AreAlike self.now.settings caller.now (state_of self.now) other
             → IfErr result
-            (IsRefusalOf (told (built_step self.now.settings other caller.now call.now))) }
+            (IsRefusalOf (told (api_step self.now.settings other caller.now call.now))) }
     {
         let rows = self.rows();
         plan_call(alloc, self.settings(), rows, self.version(), caller, call)

@@ -20,15 +20,15 @@ use Rattle.api_types.specs.declared.call.Caller.{Caller}
 use Rattle.api_policy.specs.Networks.{is_open, network_members, number_of, physical_of, type_word}
 use Rattle.api_policy.specs.Subnets.{mode_word, subnet_members, version_number}
 use Rattle.api_policy.specs.Ports.{port_members}
-use Rattle.api_policy.specs.Groups.{direction_word, ethertype_word, group_members, protocol_word, rule_members}
+use Rattle.api_policy.specs.Groups.{direction_word, ethertype_word, group_members, rule_members}
 use Rattle.api_policy.specs.Routers.{router_members}
 use Rattle.api_policy.specs.Floatings.{floating_members}
 use Rattle.api_policy.specs.Policies.{action_word, policy_members}
 use Rattle.json_replies.specs.Printed.{fields, tree_data}
 use Rattle.json_values.specs.Items.{address_of, card_of, four_of, id_of, prefix_said}
 use Rattle.json_laws.proofs.PrefixBack.{remotes}
-use Rattle.json_laws.proofs.ProtocolBack.{protocols}
-use Rattle.json_values.specs.Grammars.{protocol_of, action_of, device_owner, direction_of, ethertype_of, group_ids, group_name, host_routes, ip_version, mode_of, name_servers, network_type_of, object_type_of, pools, port_number, project_name, router_routes, segment_number, short_text, subnet_prefix, target_name, vnic_type_of}
+use Rattle.json_laws.proofs.RuleProtocolBack.{protocol_again}
+use Rattle.json_values.specs.Grammars.{action_of, device_owner, direction_of, ethertype_of, group_ids, group_name, host_routes, ip_version, mode_of, name_servers, network_type_of, object_type_of, pools, port_number, project_name, router_routes, segment_number, short_text, subnet_prefix, target_name, vnic_type_of}
 use Rattle.neutron_json.specs.Forms.{given, given_by, is_or_null, network_form, subnet_form, port_form, group_form, rule_form, router_form, floating_form, policy_form}
 use Rattle.json_laws.specs.ReadBack.{IsReadBack, type_name}
 use Rattle.json_laws.specs.Creations.{Again, AgainOrNull, Has, Holds, segment_id, segment_physical, segment_type, IsNetworkOf, NetworkAgain, version_of, IsSubnetOf, SubnetAgain, IsPortOf, PortAgain, IsGroupOf, GroupAgain, IsRuleOf, RuleAgain, IsRouterOf, RouterAgain, IsFloatingOf, FloatingAgain, IsPolicyOf, PolicyAgain}
@@ -153,7 +153,7 @@ group_again d rows r h = record {
   tenant_id = again project_name word projects d (tree_data (fields (group_members rows r))) (codes "tenant_id") r.project refl h.tenant_id;
 }
 
-pub rule_again : (d : Data) (r : RuleRow) → IsRuleOf (rule_form d) r → RuleAgain (rule_form d) (rule_form (tree_data (fields (rule_members r))))
+pub rule_again : (d : Data) (r : RuleRow) → IsRuleOf (rule_form d) r → RuleAgain (rule_form d) r (rule_form (tree_data (fields (rule_members r))))
 rule_again d r h = record {
   description = again short_text word texts d (tree_data (fields (rule_members r))) (codes "description") r.description refl h.description;
   security_group_id = again id_of id_word ids d (tree_data (fields (rule_members r))) (codes "security_group_id") r.group refl h.security_group_id;
@@ -162,7 +162,7 @@ rule_again d r h = record {
   port_range_min = again_or port_number number ports refl d (tree_data (fields (rule_members r))) (codes "port_range_min") r.low refl h.port_range_min;
   port_range_max = again_or port_number number ports refl d (tree_data (fields (rule_members r))) (codes "port_range_max") r.high refl h.port_range_max;
   remote_group_id = again_or id_of id_word ids refl d (tree_data (fields (rule_members r))) (codes "remote_group_id") r.remote_group refl h.remote_group_id;
-  protocol = again_or protocol_of protocol_word protocols refl d (tree_data (fields (rule_members r))) (codes "protocol") r.protocol refl h.protocol;
+  protocol = protocol_again d r h.protocol;
   remote_ip_prefix = again_or prefix_said prefix_word remotes refl d (tree_data (fields (rule_members r))) (codes "remote_ip_prefix") r.remote_prefix refl h.remote_ip_prefix;
 }
 

@@ -5,3 +5,4 @@ pub mod MembersBack
 pub mod CreationsBack
 pub mod PrefixBack
 pub mod ProtocolBack
+pub mod RuleProtocolBack

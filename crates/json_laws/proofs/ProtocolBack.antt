@@ -76,7 +76,7 @@ word_by n None less is =
     rw (named, ← read) refl
 word_by n (Some t) less is = rw (name_read n t is) refl
 
-word_back : (n : ℕ) → n < 256 → protocol_of (tree_data (protocol_word n)) ≡ Some n
+pub word_back : (n : ℕ) → n < 256 → protocol_of (tree_data (protocol_word n)) ≡ Some n
 unfolding protocol_word
 word_back n less = word_by n (shown.named_protocol n) less refl
 
@@ -84,7 +84,7 @@ number_small : (t : List ℕ) (n : ℕ) → number_in 256 t ≡ Some n → n < 2
 unfolding number_in
 number_small t n e = (passes (λ m. bytes_eq (decimal m) t) 256 n e).0
 
-or_is : {T : Type 0} (o p : Option T) (x : T) → or_else o p ≡ Some x → (o ≡ Some x) ⊎ (p ≡ Some x)
+pub or_is : {T : Type 0} (o p : Option T) (x : T) → or_else o p ≡ Some x → (o ≡ Some x) ⊎ (p ≡ Some x)
 or_is None p x e = inr e
 or_is (Some y) p x e = inl e
 
@@ -95,7 +95,7 @@ text_small t n (inr e) = number_small t n e
 in_range : (low high n : ℕ) → (nat_le low n && nat_le n high) ≡ true → n ≤ high
 in_range low high n e = grind (arith, nat_tests)
 
-said_small : (d : Data) (n : ℕ) → (said_by protocol_in d ≡ Some n) ⊎ (whole_of 0 255 d ≡ Some n) → n < 256
+pub said_small : (d : Data) (n : ℕ) → (said_by protocol_in d ≡ Some n) ⊎ (whole_of 0 255 d ≡ Some n) → n < 256
 said_small d n (inl e) = let s = said_is protocol_in (as_str d) n e in text_small s.0 n (or_is (named_protocol s.0) (number_in 256 s.0) n s.2)
 said_small d n (inr e) =
     let test = λ (m : ℕ). nat_le 0 m && nat_le m 255 in

@@ -1,7 +1,8 @@
 -- Rows that have what a creation's body gives, and forms in which that is given again.
-use Rattle.std.specs.Prelude.{◌≡◌, Option, Some, None, option_map, List, ℕ, if◌then◌else◌}
+use Rattle.std.specs.Prelude.{◌≡◌, ◌==◌, ◌&&◌, Bool, false, Option, Some, None, option_map, List, ℕ, if◌then◌else◌}
 use Rattle.net_addr.specs.Addresses.{is_v4}
 use Rattle.net_addr.specs.declared.address.Addr.{Addr}
+use Rattle.api_types.specs.Lists.{is_some_so}
 use Rattle.api_types.specs.RowLists.{RowLists}
 use Rattle.api_types.specs.declared.form.Given.{Given}
 use Rattle.api_types.specs.declared.form.Given.TheVariants.{Absent, Null, Is}
@@ -32,6 +33,7 @@ use Rattle.api_types.specs.declared.group.RuleRow.{RuleRow}
 use Rattle.api_types.specs.declared.router.RouterRow.{RouterRow}
 use Rattle.api_types.specs.declared.floating.FloatingRow.{FloatingRow}
 use Rattle.api_types.specs.declared.policy.PolicyRow.{PolicyRow}
+use Rattle.neutron_json.specs.Forms.{version_6_given}
 
 -- where a value is given, this is it
 abbrev pub Has : {T : Type 0} → Given T → T → Type 0
@@ -189,7 +191,11 @@ pub record IsRuleOf (f : RuleForm) (r : RuleRow) : Type 0 where
   pub protocol : Holds f.protocol r.protocol
   pub remote_ip_prefix : Holds f.remote_ip_prefix r.remote_prefix
 
-pub record RuleAgain (f g : RuleForm) : Type 0 where
+-- of ICMP by its number in version 6 the name is printed, which there means ICMPv6
+abbrev pub is_numbered_icmp : RuleRow → Bool
+is_numbered_icmp r = version_6_given (Is r.ethertype) && is_some_so (λ n. n == 1) r.protocol
+
+pub record RuleAgain (f : RuleForm) (r : RuleRow) (g : RuleForm) : Type 0 where
   pub description : Again f.description g.description
   pub security_group_id : Again f.security_group_id g.security_group_id
   pub direction : Again f.direction g.direction
@@ -197,7 +203,7 @@ pub record RuleAgain (f g : RuleForm) : Type 0 where
   pub port_range_min : AgainOrNull f.port_range_min g.port_range_min
   pub port_range_max : AgainOrNull f.port_range_max g.port_range_max
   pub remote_group_id : AgainOrNull f.remote_group_id g.remote_group_id
-  pub protocol : AgainOrNull f.protocol g.protocol
+  pub protocol : is_numbered_icmp r ≡ false → AgainOrNull f.protocol g.protocol
   pub remote_ip_prefix : AgainOrNull f.remote_ip_prefix g.remote_ip_prefix
 
 -- the row has what the form gives

@@ -86,7 +86,7 @@ pub fn creations_read_back()
     ensures groups { (d : Data) (rows : RowLists) (r : GroupRow) → IsGroupOf (group_form d) rows r
         → GroupAgain (group_form d) (group_form (tree_data (fields (group_members rows r)))) }
     ensures rules { (d : Data) (r : RuleRow) → IsRuleOf (rule_form d) r
-        → RuleAgain (rule_form d) (rule_form (tree_data (fields (rule_members r)))) }
+        → RuleAgain (rule_form d) r (rule_form (tree_data (fields (rule_members r)))) }
     ensures routers { (d : Data) (rows : RowLists) (r : RouterRow)
         → IsRouterOf (router_form d) rows r
         → RouterAgain (router_form d) (router_form (tree_data (fields (router_members rows r)))) }

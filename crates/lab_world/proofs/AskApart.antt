@@ -17,9 +17,9 @@ use Rattle.api_types.specs.declared.refusal.Refusal.TheVariants.{Forbidden, Inva
 use Rattle.net_settings.specs.Settings.{SettingsParts}
 use Rattle.api_policy.specs.Visibility.{sees_port, sees_row}
 use Rattle.api_machine.specs.Footing.{Footing, footing}
-use Rattle.api_machine.specs.BuiltStep.{built_step}
+use Rattle.api_machine.specs.WholeStep.{api_step}
 use Rattle.api_types.specs.Refusing.{first_refusal, not_found, told, when}
-use Rattle.api_machine.proofs.BuiltLaws.{built_apart}
+use Rattle.api_machine.proofs.WholeStepApart.{step_apart}
 use Rattle.api_types.specs.Wires.{network_on}
 use Rattle.plane_types.specs.declared.ask.Ask.{Ask}
 use Rattle.plane_types.specs.declared.ask.Ask.TheVariants.{Api, Lab}
@@ -89,14 +89,14 @@ module _ (caller : Caller) (v w : WorldState) (tenant : caller.admin ≡ false) 
 
 -- a call, at states under one and the same settings
 call_apart : (caller : Caller) (v w : WorldState) → caller.admin ≡ false → not (is_empty caller.project) ≡ true → IsConsistent v.state.rows → IsConsistent w.state.rows → v.settings ≡ w.settings
-    → footing v.settings v.state caller ≡ footing w.settings w.state caller → (call : Call) → told (built_step v.settings v.state caller call) ≡ told (built_step w.settings w.state caller call)
+    → footing v.settings v.state caller ≡ footing w.settings w.state caller → (call : Call) → told (api_step v.settings v.state caller call) ≡ told (api_step w.settings w.state caller call)
 call_apart caller v w tenant named c d one same call = subst At one here same
   where
     At : SettingsParts → Type 0
-    At settings = footing v.settings v.state caller ≡ footing settings w.state caller → told (built_step v.settings v.state caller call) ≡ told (built_step settings w.state caller call)
+    At settings = footing v.settings v.state caller ≡ footing settings w.state caller → told (api_step v.settings v.state caller call) ≡ told (api_step settings w.state caller call)
 
-    here : footing v.settings v.state caller ≡ footing v.settings w.state caller → told (built_step v.settings v.state caller call) ≡ told (built_step v.settings w.state caller call)
-    here alike = built_apart v.settings caller v.state w.state alike tenant named c d call
+    here : footing v.settings v.state caller ≡ footing v.settings w.state caller → told (api_step v.settings v.state caller call) ≡ told (api_step v.settings w.state caller call)
+    here alike = step_apart v.settings caller v.state w.state tenant named c d alike call
 
 pub ask_apart : (caller : Caller) (v w : WorldState) → caller.admin ≡ false → not (is_empty caller.project) ≡ true → IsConsistent v.state.rows → IsConsistent w.state.rows → v.settings ≡ w.settings
     → footing v.settings v.state caller ≡ footing w.settings w.state caller → (ask : Ask) → told_of (ask_outcome v caller ask) ≡ told_of (ask_outcome w caller ask)

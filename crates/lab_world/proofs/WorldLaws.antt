@@ -19,8 +19,8 @@ use Rattle.row_laws.proofs.NoRows.{no_rows_consistent}
 use Rattle.api_ml2.specs.Carrying.{carries}
 use Rattle.api_machine.specs.Kept.{AreKept, HostsCarry}
 use Rattle.api_types.specs.Refusing.{when}
-use Rattle.api_machine.specs.BuiltStep.{built_step}
-use Rattle.api_machine.proofs.BuiltLaws.{built_kept}
+use Rattle.api_machine.specs.WholeStep.{api_step}
+use Rattle.api_machine.proofs.CallsKept.{call_kept}
 use Rattle.call_parts.specs.Typed.{AreTyped}
 use Rattle.plane_types.specs.Hosts.{Host, is_named}
 use Rattle.plane_types.specs.Node.{Node, started}
@@ -124,5 +124,5 @@ by_lab w held caller call.Settle = held
 
 pub ask_holds : (caller : Caller) (ask : Ask) (w : WorldState) → IsAskInForm caller ask → HoldsRows w → HoldsRows (world_after w (ask_outcome w caller ask))
 ask_holds caller (Api c) w form held =
-    by_call w held (built_step w.settings w.state caller c) (λ rows reply is. built_kept w.settings held.rules c w.state caller rows reply held.held.consistent held.typed form is)
+    by_call w held (api_step w.settings w.state caller c) (λ rows reply is. call_kept w.settings held.rules c w.state caller rows reply held.held.consistent held.typed form is)
 ask_holds caller (Lab c) w form held = by_lab w held caller c

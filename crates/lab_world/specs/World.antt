@@ -15,7 +15,7 @@ use Rattle.plane_types.specs.declared.ask.Ask.TheVariants.{Api, Lab}
 use Rattle.plane_types.specs.declared.ask.Reply.{Reply}
 use Rattle.plane_types.specs.declared.ask.Reply.TheVariants.{Done, LabDone, Refused}
 use Rattle.api_ml2.specs.Carrying.{carries}
-use Rattle.api_machine.specs.BuiltStep.{built_step}
+use Rattle.api_machine.specs.WholeStep.{api_step}
 use Rattle.call_parts.specs.InForm.{IsInForm}
 use Rattle.call_parts.specs.Typed.{AreTyped}
 use Rattle.api_types.specs.Refusing.{told}
@@ -45,7 +45,7 @@ pub data AskOutcome : Type 0 where
   ByLab : LabOutcome → AskOutcome
 
 abbrev pub ask_outcome : WorldState → Caller → Ask → AskOutcome
-ask_outcome w caller (Api call) = ByMachine (built_step w.settings w.state caller call)
+ask_outcome w caller (Api call) = ByMachine (api_step w.settings w.state caller call)
 ask_outcome w caller (Lab call) = ByLab (lab_outcome w caller call)
 
 -- what the reading of a request has made sure of

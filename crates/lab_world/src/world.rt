@@ -16,7 +16,7 @@ ghost use Rattle.plane_types.specs.declared.event.Event.{Event as TheEvent};
 ghost use Rattle.plane_types.specs.declared.verdict.Verdict.{Verdict as TheVerdict};
 ghost use Rattle.plane_laws.specs.Bounds.{HasEightBits};
 ghost use Rattle.plane_types.specs.Node.{Node, started};
-ghost use Rattle.api_machine.specs.BuiltStep.{built_step};
+ghost use Rattle.api_machine.specs.WholeStep.{api_step};
 ghost use Rattle.api_machine.specs.Kept.{AreKept};
 ghost use Rattle.call_parts.specs.InForm.{IsInForm};
 ghost use Rattle.keeper_core.specs.Counts.{RoseBy, Tells};
@@ -250,7 +250,7 @@ impl World {
         requires in_form { IsInForm caller.now call.now }
         ensures ok { IfOk result
             (λ answer.
-            IsHandled (ByMachine (built_step self.old.settings self.old.state caller.now call.now))
+            IsHandled (ByMachine (api_step self.old.settings self.old.state caller.now call.now))
             self.old self.new (Reply.Done answer)) }
         ensures err { IfErr result
             (λ refusal. (self.new ≡ self.old)
@@ -258,14 +258,14 @@ impl World {
             ⊎ (((refusal ≡ Refusal.StoreFault)
             × (is_change
             (ByMachine
-            (built_step self.old.settings self.old.state
+            (api_step self.old.settings self.old.state
             caller.now call.now)) ≡ true))
-            ⊎ (built_step self.old.settings self.old.state caller.now call.now
+            ⊎ (api_step self.old.settings self.old.state caller.now call.now
             ≡ RefusedWith refusal)))) }
         ensures store_fault { IfErr result
             (λ refusal. refusal ≡ Refusal.StoreFault
             → (is_change (ByMachine
-            (built_step self.old.settings self.old.state caller.now call.now))
+            (api_step self.old.settings self.old.state caller.now call.now))
             ≡ true) × RoseBy 1 (K.faults keeper.old) (K.faults keeper.new)) }
         ensures later { K.faults keeper.old ≤ K.faults keeper.new }
         ensures kept { Tells (K.kept keeper.new) self.new.state.rows }

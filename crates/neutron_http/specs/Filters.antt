@@ -12,7 +12,8 @@ own_filters Network =
     codes "name" ∷ codes "admin_state_up" ∷ codes "shared" ∷ codes "router:external" ∷ codes "provider:network_type"
     ∷ codes "provider:physical_network" ∷ codes "provider:segmentation_id" ∷ []
 own_filters Subnet =
-    codes "name" ∷ codes "network_id" ∷ codes "ip_version" ∷ codes "cidr" ∷ codes "gateway_ip" ∷ codes "enable_dhcp" ∷ []
+    codes "name" ∷ codes "network_id" ∷ codes "ip_version" ∷ codes "cidr" ∷ codes "gateway_ip" ∷ codes "enable_dhcp"
+    ∷ codes "ipv6_address_mode" ∷ codes "ipv6_ra_mode" ∷ []
 own_filters Port =
     codes "name" ∷ codes "admin_state_up" ∷ codes "network_id" ∷ codes "mac_address" ∷ codes "device_id"
     ∷ codes "device_owner" ∷ codes "binding:host_id" ∷ []

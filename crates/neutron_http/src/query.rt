@@ -76,6 +76,8 @@ fn own_filters(kind: Kind) -> &'static [&'static str]
             "cidr",
             "gateway_ip",
             "enable_dhcp",
+            "ipv6_address_mode",
+            "ipv6_ra_mode",
         ],
         Kind::Port => &[
             "name",

@@ -1,7 +1,8 @@
 -- The attributes of an object as a form of its kind.
-use Rattle.std.specs.Prelude.{ℕ, List, Option, Some, None, codes}
+use Rattle.std.specs.Prelude.{ℕ, Bool, true, false, ◌&&◌, if◌then◌else◌, List, Option, Some, None, bytes_eq, codes, option_and_then}
 use Rattle.serde_json.specs.Data.{Data}
-use Rattle.serde_json.specs.Find.{as_bool, get}
+use Rattle.serde_json.specs.Find.{as_bool, as_str, get}
+use Rattle.api_types.specs.Lists.{is_some_so}
 use Rattle.api_types.specs.declared.form.Form.{Form}
 use Rattle.api_types.specs.declared.form.Form.TheVariants.{Network, Subnet, Port, Group, Rule, Router, Floating, Policy}
 use Rattle.api_types.specs.declared.form.Given.{Given}
@@ -14,6 +15,8 @@ use Rattle.api_types.specs.declared.form.RuleForm.{RuleForm}
 use Rattle.api_types.specs.declared.form.RouterForm.{RouterForm}
 use Rattle.api_types.specs.declared.form.FloatingForm.{FloatingForm}
 use Rattle.api_types.specs.declared.form.PolicyForm.{PolicyForm}
+use Rattle.api_types.specs.declared.group.Ethertype.{Ethertype}
+use Rattle.api_types.specs.declared.group.Ethertype.TheVariants.{Ipv4, Ipv6}
 use Rattle.api_types.specs.declared.kind.Kind.{Kind}
 use Rattle.api_types.specs.declared.kind.Kind.TheVariants as kind
 use Rattle.json_values.specs.Grammars.{action_of, address_pairs, device_owner, direction_of, ethertype_of, fixed_addresses, group_ids, group_name, host_routes, ip_version, mode_of, name_servers, network_type_of, object_type_of, pools, port_number, project_name, protocol_of, router_routes, segment_number, short_text, subnet_prefix, target_name, vnic_type_of}
@@ -88,13 +91,27 @@ group_form d = record {
   tenant_id = given project_name d (codes "tenant_id");
 }
 
+-- a rule has the protocol `icmp` by that name, and is of version 6
+abbrev pub icmp_named : Data → Bool
+icmp_named d = is_some_so (bytes_eq (codes "icmp")) (option_and_then as_str (get (codes "protocol") d))
+
+abbrev pub version_6_given : Given Ethertype → Bool
+version_6_given Absent = false
+version_6_given Null = false
+version_6_given (Is Ipv4) = false
+version_6_given (Is Ipv6) = true
+
+-- there the name means ICMPv6; the number 1 stays 1 (Networking API v2.0, security group rules)
+abbrev pub protocol_given : Given Ethertype → Data → Given ℕ
+protocol_given ethertype d = if version_6_given ethertype && icmp_named d then Is 58 else given protocol_of d (codes "protocol")
+
 abbrev pub rule_form : Data → RuleForm
 rule_form d = record {
   description = given short_text d (codes "description");
   security_group_id = given id_of d (codes "security_group_id");
   direction = given direction_of d (codes "direction");
   ethertype = given ethertype_of d (codes "ethertype");
-  protocol = given protocol_of d (codes "protocol");
+  protocol = protocol_given (given ethertype_of d (codes "ethertype")) d;
   port_range_min = given port_number d (codes "port_range_min");
   port_range_max = given port_number d (codes "port_range_max");
   remote_ip_prefix = given prefix_said d (codes "remote_ip_prefix");

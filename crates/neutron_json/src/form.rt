@@ -1,11 +1,11 @@
 //! Objects as forms of their kind.
 ghost use Rattle.std.specs.Prelude.{◌≡◌, IfOk, option_map};
 ghost use Rattle.serde_json.specs.View.{view};
-ghost use Rattle.neutron_json.specs.Forms.{given, is_or_null, network_form, subnet_form, port_form, group_form, rule_form, router_form, floating_form, policy_form, form_of};
+ghost use Rattle.neutron_json.specs.Forms.{given, is_or_null, network_form, subnet_form, port_form, group_form, rule_form, router_form, floating_form, policy_form, form_of, icmp_named, protocol_given, version_6_given};
 
 use api_types::{
-    FloatingForm, Form, Given, GroupForm, Kind, NetworkForm, PolicyForm, PortForm, RouterForm,
-    RuleForm, SubnetForm,
+    Ethertype, FloatingForm, Form, Given, GroupForm, Kind, NetworkForm, PolicyForm, PortForm,
+    RouterForm, RuleForm, SubnetForm,
 };
 use json_values::{
     AddressMode, AddressPairs, AllocationPools, AnyAddress, CardMac, DeviceOwner, EtherVersion,
@@ -108,15 +108,53 @@ fn group_form(alloc: Global, object: &Value) -> Result<GroupForm, OutOfMemory>
     })
 }
 
+// Whether an object has the protocol `icmp` by that name.
+fn names_icmp(object: &Value) -> bool
+    ensures { result ≡ icmp_named (view object.now) }
+{
+    let Some(value) = object.get("protocol") else {
+        return false;
+    };
+    match value.as_str() {
+        Some(name) => name == "icmp",
+        None => false,
+    }
+}
+
+fn is_version_6(ethertype: &Given<Ethertype>) -> bool
+    ensures { result ≡ version_6_given ethertype.now }
+{
+    match ethertype {
+        Given::Is(ethertype) => matches!(ethertype, Ethertype::Ipv6),
+        _ => false,
+    }
+}
+
+// The protocol of a rule of a version.
+fn rule_protocol(
+    alloc: Global,
+    object: &Value,
+    ethertype: &Given<Ethertype>,
+) -> Result<Given<u8>, OutOfMemory>
+    ensures { IfOk result (λ g. g ≡ protocol_given ethertype.now (view object.now)) }
+{
+    if is_version_6(ethertype) && names_icmp(object) {
+        return Ok(Given::Is(58));
+    }
+    given::<ProtocolNumber>(alloc, object, "protocol")
+}
+
 fn rule_form(alloc: Global, object: &Value) -> Result<RuleForm, OutOfMemory>
     ensures { IfOk result (λ f. f ≡ rule_form (view object.now)) }
 {
+    let ethertype = given::<EtherVersion>(alloc, object, "ethertype")?;
+    let protocol = rule_protocol(alloc, object, &ethertype)?;
     Ok(RuleForm {
         description: given::<ShortText>(alloc, object, "description")?,
         security_group_id: given::<RowId>(alloc, object, "security_group_id")?,
         direction: given::<RuleDirection>(alloc, object, "direction")?,
-        ethertype: given::<EtherVersion>(alloc, object, "ethertype")?,
-        protocol: given::<ProtocolNumber>(alloc, object, "protocol")?,
+        ethertype,
+        protocol,
         port_range_min: given::<PortNumber>(alloc, object, "port_range_min")?,
         port_range_max: given::<PortNumber>(alloc, object, "port_range_max")?,
         remote_ip_prefix: given::<RemotePrefix>(alloc, object, "remote_ip_prefix")?,

@@ -1,2 +1,4 @@
+pub mod Associated
 pub mod FloatingCalls
 pub mod FloatingRules
+pub mod Plans

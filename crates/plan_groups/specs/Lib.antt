@@ -1,2 +1,5 @@
 pub mod GroupCalls
+pub mod NewGroup
+pub mod Open
+pub mod RuleOf
 pub mod RuleParts

@@ -1,3 +1,3 @@
-pub mod BodyLemmas
-pub mod BareLemmas
-pub mod CallLemmas
+mod CallLemmas
+mod EditLemmas
+mod RefusalLemmas

@@ -1,4 +1,3 @@
-pub mod Built
-pub mod Open
+pub mod Plans
 pub mod PortCalls
 pub mod PortRules

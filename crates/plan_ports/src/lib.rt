@@ -1,14 +1,22 @@
 //! What calls on ports come to.
 //!
-//! It stands on the rows of `api_types`, on what calls are made of in `call_parts`, on the rules and
-//! quotas of `api_policy` and on the binding of `api_ml2`. `create_port` gives a draft, which holds
-//! the rows that a call leads to and the change that leads there, or the refusal that the
-//! definitions in specs/ name. It makes ports with a MAC address that is given, without addresses,
-//! pairs and groups of their own, on networks without subnets.
+//! It stands on the rows of `api_types`, on what calls are made of in `call_parts`, on the rules,
+//! quotas and uses of `api_policy`, on the choice of addresses in `api_ipam` and on the binding of
+//! `api_ml2`. `create_port`, `update_port` and `delete_port` give a draft, which holds the rows that
+//! a call leads to and the change that leads there, or the refusal that the definitions in specs/
+//! name. A port that loses addresses, or goes, takes their floating addresses along: these are
+//! disassociated in the same change.
 #![tactic(auto)]
 
 mod checks;
 mod creation;
+mod deletion;
+mod leaving;
 mod row;
+mod rules;
+mod supply;
+mod update;
 
 pub use creation::{PlannedPort, create_port};
+pub use deletion::delete_port;
+pub use update::update_port;

@@ -1,16 +1,17 @@
-//! The row of a new port.
+//! The row of a port, as a body asks for it.
 
 ghost use Rattle.std.specs.Prelude.{◌≡◌, ◌<◌, ◌^◌, [], IfOk, find, map, option_copied};
 ghost use Rattle.api_types.specs.Consistent.Groups.{is_default_of};
 ghost use Rattle.api_types.specs.Given.{value_or as value_or_of};
 ghost use Rattle.api_types.specs.Registration.{drawn_id};
 ghost use Rattle.call_parts.specs.Answers.{drawing_of};
-ghost use Rattle.plan_ports.specs.PortCalls.{groups_at_first as groups_at_first_of, ids_of, new_port as new_port_of, pair_of as pair_at};
+ghost use Rattle.plan_ports.specs.PortCalls.{changed_port as changed_port_of, groups_at_first as groups_at_first_of, ids_of, new_port as new_port_of, pair_of as pair_at, pairs_after as pairs_after_of, vif_after as vif_after_of};
 
 use api_ml2::bind;
 use api_policy::is_marked;
 use api_types::{
-    Caller, Given, GroupRow, Id, NetworkRow, Pair, PairAsked, PortForm, PortRow, Shared,
+    Caller, FixedList, Given, GroupRow, Id, NetworkRow, Pair, PairAsked, PortForm, PortRow, Shared,
+    Vif,
 };
 use call_parts::{Drawn, text_or, value_or};
 use net_addr::{Copies, Mac, OutOfMemory, Seq, Text};
@@ -98,8 +99,8 @@ fn groups_at_first(
     }
 }
 
-/// The new port, with the first id that was drawn, as it will stand on a network without subnets.
-/// Its cost grows with the groups, the policies and the hosts.
+/// The new port, with the first id that was drawn. Its cost grows with the groups, the policies and
+/// the hosts.
 pub(crate) fn new_port(
     alloc: Global,
     settings: &Settings,
@@ -108,17 +109,18 @@ pub(crate) fn new_port(
     form: &PortForm,
     network: &NetworkRow,
     owner: &Text,
+    mac: Mac,
+    fixed: FixedList,
 ) -> Result<PortRow, OutOfMemory>
     requires { drawn.now.first < 2 ^ 62 }
     ensures { IfOk result
         (λ p. p
         ≡ new_port_of settings.now drawn.now.draft.rows caller.now form.now network.now owner.now
-        (drawn_id (drawing_of drawn.now) 0) (value_or_of 0 form.now.mac_address) []) }
+        (drawn_id (drawing_of drawn.now) 0) mac fixed) }
 {
     let rows = drawn.draft.rows();
     let empty = Text::new(alloc);
     let host = text_or(alloc, &empty, &form.binding_host_id)?;
-    let mac = value_or(Mac(0), &form.mac_address);
     let secured = value_or(true, &form.port_security_enabled);
     let groups = rows.groups().rows();
     Ok(PortRow {
@@ -129,7 +131,7 @@ pub(crate) fn new_port(
         description: text_or(alloc, &empty, &form.description)?,
         up: value_or(true, &form.admin_state_up),
         mac,
-        fixed: Seq::new(alloc),
+        fixed,
         pairs: pairs_of(alloc, mac, &form.allowed_address_pairs)?,
         secured,
         groups: groups_at_first(alloc, groups, owner, secured, &form.security_groups)?,
@@ -138,5 +140,76 @@ pub(crate) fn new_port(
         vif: bind(settings, &network.segment, &host),
         host,
         by_admin: is_marked(rows, caller, owner, network),
+    })
+}
+
+// The binding to the host that the body names, or the old one.
+fn vif_after(settings: &Settings, network: &NetworkRow, host: &Given<Text>, old: Vif) -> Vif
+    ensures { result ≡ vif_after_of settings.now network.now host.now old }
+{
+    match host {
+        Given::Is(host) => bind(settings, &network.segment, host),
+        _ => old,
+    }
+}
+
+// The pairs that the body gives, or the old ones.
+fn pairs_after(
+    alloc: Global,
+    mac: Mac,
+    asked: &Given<Seq<PairAsked>>,
+    old: &Seq<Pair>,
+) -> Result<Seq<Pair>, OutOfMemory>
+    ensures { IfOk result (λ pairs. pairs ≡ pairs_after_of mac asked.now old.now) }
+{
+    match asked {
+        Given::Is(asked) => all_pairs(alloc, mac, asked.as_slice()),
+        _ => old.copy(alloc),
+    }
+}
+
+fn groups_after(
+    alloc: Global,
+    named: &Given<Seq<Id>>,
+    old: &Seq<Id>,
+) -> Result<Seq<Id>, OutOfMemory>
+    ensures { IfOk result (λ ids. ids ≡ value_or_of old.now named.now) }
+{
+    match named {
+        Given::Is(ids) => ids.copy(alloc),
+        _ => old.copy(alloc),
+    }
+}
+
+/// The port as a body changes it, with these addresses. Its cost grows with the hosts.
+pub(crate) fn changed_port(
+    alloc: Global,
+    settings: &Settings,
+    form: &PortForm,
+    network: &NetworkRow,
+    port: &PortRow,
+    fixed: FixedList,
+) -> Result<PortRow, OutOfMemory>
+    ensures { IfOk result
+        (λ p. p ≡ changed_port_of settings.now form.now network.now port.now fixed) }
+{
+    let mac = value_or(port.mac, &form.mac_address);
+    Ok(PortRow {
+        id: port.id,
+        project: port.project.copy(alloc)?,
+        network: port.network,
+        name: text_or(alloc, &port.name, &form.name)?,
+        description: text_or(alloc, &port.description, &form.description)?,
+        up: value_or(port.up, &form.admin_state_up),
+        mac,
+        fixed,
+        pairs: pairs_after(alloc, mac, &form.allowed_address_pairs, &port.pairs)?,
+        secured: value_or(port.secured, &form.port_security_enabled),
+        groups: groups_after(alloc, &form.security_groups, &port.groups)?,
+        device: text_or(alloc, &port.device, &form.device_id)?,
+        owner: text_or(alloc, &port.owner, &form.device_owner)?,
+        host: text_or(alloc, &port.host, &form.binding_host_id)?,
+        vif: vif_after(settings, network, &form.binding_host_id, port.vif),
+        by_admin: port.by_admin,
     })
 }

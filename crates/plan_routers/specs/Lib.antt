@@ -1,3 +1,6 @@
 pub mod InterfaceCalls
+pub mod Plans
 pub mod RouterCalls
+pub mod RouterChecks
 pub mod RouterRules
+pub mod Ways

@@ -1,3 +1,4 @@
 pub mod DhcpUpkeep
+pub mod Plans
 pub mod SubnetCalls
 pub mod SubnetRules

@@ -9,3 +9,8 @@ pub create-requires-clause-in_form : goal.create-requires-clause-in_form
 create-requires-clause-in_form c =
     let call : is_call c.args.call.now ≡ true = (and_both (not (is_empty c.args.caller.now.project)) (is_call c.args.call.now) c.requires.in_form.formed).1 in
     (and_both (has_needed c.in-Create.form) (is_form c.in-Create.form) (sym (ap is_call c.in-Create.is) ∙ call)).1
+
+pub create-requires-clause-needed : goal.create-requires-clause-needed
+create-requires-clause-needed c =
+    let call : is_call c.args.call.now ≡ true = (and_both (not (is_empty c.args.caller.now.project)) (is_call c.args.call.now) c.requires.in_form.formed).1 in
+    (and_both (has_needed c.in-Create.form) (is_form c.in-Create.form) (sym (ap is_call c.in-Create.is) ∙ call)).0

@@ -1,12 +1,9 @@
-use Rattle.api_machine.specs.BuiltStep.{built_step}
 use Rattle.api_machine.specs.WholeStep.{api_step}
-use Rattle.api_machine.proofs.WiderLaw.{built_keeps_apart, whole_keeps_apart, wider_apart}
+use Rattle.api_machine.proofs.WiderLaw.{whole_keeps_apart, wider_apart}
 use Rattle.api_machine.proofs.laws.tenants_stay_apart.Goals as goal
 
 pub returns : goal.returns
 returns c = record {
   whole = whole_keeps_apart;
-  built = built_keeps_apart;
   wider = λ settings. wider_apart settings (api_step settings) (whole_keeps_apart settings);
-  wider_built = λ settings. wider_apart settings (built_step settings) (built_keeps_apart settings);
 }

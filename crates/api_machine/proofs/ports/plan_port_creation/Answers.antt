@@ -2,19 +2,10 @@ use Rattle.api_types.specs.Printed.{NewRow}
 use Rattle.plan_ports.specs.PortCalls.{port_created}
 use Rattle.api_machine.specs.Machine.{state_at}
 use Rattle.api_machine.proofs.PlanLemmas.{shown_so}
-use Rattle.api_types.proofs.ListLemmas.{or_none}
-use Rattle.plan_ports.specs.Built.{has_own_parts}
 use Rattle.api_machine.proofs.ports.plan_port_creation.Goals as goal
-
-pub create_port-requires-clause-built : goal.create_port-requires-clause-built
-create_port-requires-clause-built c = (or_none (has_own_parts c.args.form.now) _ c.requires.built).0
-
-pub create_port-requires-clause-bare : goal.create_port-requires-clause-bare
-create_port-requires-clause-bare c = (or_none (has_own_parts c.args.form.now) _ c.requires.built).1
 
 pub returns-clause-ok : goal.returns-clause-ok
 returns-clause-ok c =
     let state = state_at c.args.rows.now c.args.version in
     let draft = c.in_ok-draft.field-0.draft in
-    let caller = c.args.caller.now in
     shown_so state (port_created c.args.settings.now state c.args.caller.now c.args.form.now) draft NewRow _ _ c.changing.result c.in_ok-draft.ensures.start c.in_ok-draft.ensures.ok c.in_ok-shown.ensures c.changing.ensures

@@ -1,40 +1,52 @@
-use Rattle.std.proofs.Common.{◌≡◌, ◌∙◌, None, Some, [], ap, subst}
-use Rattle.std.specs.Prelude.{◌⊎◌}
+use Rattle.std.proofs.Common.{◌≡◌, ◌∙◌, Option, [], ap, subst, sym}
+use Rattle.std.specs.Prelude.{IfErr, IfOk, not}
 use Rattle.std.proofs.lemmas.Result.{err_from_is_err_and}
-use Rattle.api_types.specs.Given.{value_or}
-use Rattle.api_types.specs.Registration.{drawn_id}
-use Rattle.api_types.specs.declared.refusal.Refusal.TheVariants.{CountersSpent, OutOfMemory}
-use Rattle.call_parts.specs.Answers.{drawing_of}
-use Rattle.call_parts.specs.State.{State, drawing_at}
-use Rattle.plan_ports.specs.PortCalls.{new_port}
-use Rattle.plan_ports.proofs.CallLemmas.{created_moved, created_spent, drawn_unused}
+use Rattle.api_policy.specs.Seen.{network_seen}
+use Rattle.api_types.specs.Ident.{Ident}
+use Rattle.api_types.specs.Lists.{is_empty}
+use Rattle.api_types.specs.Outcome.{Moved, Outcome}
+use Rattle.api_types.specs.Printed.{NewRow}
+use Rattle.api_types.specs.Refusing.{not_found}
+use Rattle.api_types.specs.declared.kind.Kind.TheVariants.{Network as NetworkKind}
+use Rattle.call_parts.specs.Answers.{IsOrMemory, IsRefusalOf}
+use Rattle.call_parts.specs.BodyNames.{text_of}
+use Rattle.call_parts.specs.State.{State}
+use Rattle.plan_ports.specs.PortCalls.{port_made, port_shown}
+use Rattle.plan_ports.proofs.CallLemmas.{body_refused, body_unfound, created_on, owner_named, owners_so}
 use Rattle.plan_ports.proofs.creation.create_port.Goals as goal
 
-pub added-requires-clause-new : goal.added-requires-clause-new
-added-requires-clause-new c =
+pub returns-in_err-check_body-clause-err : goal.returns-in_err-check_body-clause-err
+returns-in_err-check_body-clause-err c =
     let state : State = record { rows = c.args.rows.now; version = c.args.version } in
-    let drawing = drawing_of c.in_ok-drawn.drawn in
-    let drew = subst (λ owner. drawing_at state owner 1 ≡ Some drawing) c.owner-owner.ensures c.in_ok-drawn.ensures.drawn in
-    drawn_unused state c.args.caller.now c.args.form.now drawing c.requires.consistent c.requires.named c.requires.in_form drew
+    let p = err_from_is_err_and c.from_residual.result c.from_residual.ensures.1 in
+    rw (p.1, p.2) (body_refused c.args.settings.now state c.args.caller.now c.args.form.now c.in_err-check_body.field-0.0 c.in_err-check_body.ensures)
 
-pub returns-in_err-drawn-clause-err : goal.returns-in_err-drawn-clause-err
-returns-in_err-drawn-clause-err c =
+pub returns-in_default-clause-err : goal.returns-in_default-clause-err
+returns-in_default-clause-err c =
     let state : State = record { rows = c.args.rows.now; version = c.args.version } in
-    let e = c.in_err-drawn.field-0.0 in
-    let spent = subst (λ owner. (e ≡ OutOfMemory) ⊎ ((e ≡ CountersSpent) × (drawing_at state owner 1 ≡ None))) c.owner-owner.ensures c.in_err-drawn.ensures.spent in
-    let p = err_from_is_err_and c.from_residual-in_err-drawn.result c.from_residual-in_err-drawn.ensures.1 in
-    rw (p.1, p.2)
-    (created_spent c.args.settings.now state c.args.caller.now c.args.form.now c.requires.in_form c.requires.built c.requires.bare c.in_ok-network.network.now e c.in_ok-network.ensures.ok spent)
+    let none = ap (network_seen c.args.rows.now c.args.caller.now) (sym c.value_of.ensures) ∙ sym c.in_default.ensures in
+    body_unfound c.args.settings.now state c.args.caller.now c.args.form.now c.in_ok-check_body.ensures c.none_with_id.result none
+    (subst (λ (i : Option Ident). IsOrMemory (not_found NetworkKind (text_of i)) c.none_with_id.result) c.value_of-id.ensures c.none_with_id.ensures)
+
+pub make_port-requires-clause-named : goal.make_port-requires-clause-named
+make_port-requires-clause-named c =
+    let form = c.args.form.now in
+    ap (λ owner. not (is_empty owner)) c.owner-owner.ensures ∙ owner_named c.args.caller.now form.project_id form.tenant_id c.requires.named (owners_so form c.requires.in_form)
 
 pub returns-clause-ok : goal.returns-clause-ok
 returns-clause-ok c =
     let state : State = record { rows = c.args.rows.now; version = c.args.version } in
-    let settings = c.args.settings.now in
     let caller = c.args.caller.now in
-    let form = c.args.form.now in
-    let n = c.in_ok-network.network.now in
-    let drawing = drawing_of c.in_ok-drawn.drawn in
-    let planned = c.in_ok-added.field-0 in
-    let drew = subst (λ owner. drawing_at state owner 1 ≡ Some drawing) c.owner-owner.ensures c.in_ok-drawn.ensures.drawn in
-    let port_is = c.in_ok-added.ensures.port ∙ ap (λ owner. new_port settings drawing.rows caller form n owner (drawn_id drawing 0) (value_or 0 form.mac_address) []) c.owner-owner.ensures in
-    created_moved settings state caller form c.requires.in_form c.requires.built c.requires.bare n drawing planned.port planned.draft.rows c.in_ok-network.ensures.ok drew port_is c.in_ok-added.ensures.rows
+    let seen = ap (network_seen c.args.rows.now caller) (sym c.value_of.ensures) ∙ sym c.in-Some.ensures in
+    let n = c.in-Some.network.now in
+    let on = created_on c.args.settings.now state caller c.args.form.now c.in_ok-check_body.ensures n seen ∙ ap (port_made c.args.settings.now state caller c.args.form.now n) (sym c.owner-owner.ensures) in
+    subst (λ (o : Outcome). IfOk c.make_port.result (λ p. o ≡ Moved p.draft.rows (NewRow (port_shown p.draft.rows caller p.port [])))) (sym on) c.make_port.ensures.ok
+
+pub returns-clause-err : goal.returns-clause-err
+returns-clause-err c =
+    let state : State = record { rows = c.args.rows.now; version = c.args.version } in
+    let caller = c.args.caller.now in
+    let seen = ap (network_seen c.args.rows.now caller) (sym c.value_of.ensures) ∙ sym c.in-Some.ensures in
+    let n = c.in-Some.network.now in
+    let on = created_on c.args.settings.now state caller c.args.form.now c.in_ok-check_body.ensures n seen ∙ ap (port_made c.args.settings.now state caller c.args.form.now n) (sym c.owner-owner.ensures) in
+    subst (λ (o : Outcome). IfErr c.make_port.result (IsRefusalOf o)) (sym on) c.make_port.ensures.err

@@ -1,8 +1,8 @@
-use Rattle.std.proofs.Common.{◌∙◌, [], ap, map}
+use Rattle.std.proofs.Common.{◌∙◌, ap}
 use Rattle.api_ml2.specs.Binding.{bound}
 use Rattle.api_policy.specs.Marked.{is_marked}
 use Rattle.api_types.specs.Given.{value_or}
-use Rattle.plan_ports.specs.PortCalls.{groups_at_first, pair_of}
+use Rattle.plan_ports.specs.PortCalls.{groups_at_first}
 use Rattle.plan_ports.proofs.row.new_port.Goals as goal
 
 -- attribute by attribute
@@ -24,9 +24,9 @@ returns c =
       name = (c.in_ok-text_or.ensures ∙ ap (λ t. value_or t form.name) c.new-empty.ensures) j;
       description = (c.in_ok-text_or-2.ensures ∙ ap (λ t. value_or t form.description) c.new-empty.ensures) j;
       up = c.value_or.ensures j;
-      mac = c.value_or-mac.ensures j;
-      fixed = c.new.ensures j;
-      pairs = (c.in_ok-pairs_of.ensures ∙ ap (λ mac. map (pair_of mac) (value_or [] form.allowed_address_pairs)) c.value_or-mac.ensures) j;
+      mac = c.args.mac;
+      fixed = c.fixed.view_is j;
+      pairs = c.in_ok-pairs_of.ensures j;
       secured = c.value_or-secured.ensures j;
       groups = (c.in_ok-groups_at_first.ensures ∙ (ap (λ groups. groups_at_first groups owner secured form.security_groups) groups_are
           ∙ ap (λ b. groups_at_first rows.groups owner b form.security_groups) c.value_or-secured.ensures)) j;

@@ -3,7 +3,7 @@ use Rattle.std.specs.Prelude.{not}
 use Rattle.api_types.specs.Lists.{is_empty}
 use Rattle.api_types.specs.Printed.{reply_of}
 use Rattle.call_parts.specs.InForm.{is_call}
-use Rattle.api_machine.specs.BuiltStep.{built_step}
+use Rattle.api_machine.specs.WholeStep.{api_step}
 use Rattle.api_machine.specs.Machine.{MachineParts, state_of}
 use Rattle.call_parts.specs.Answers.{IsRefusalOf}
 use Rattle.api_machine.specs.Plan.{Plans}
@@ -15,22 +15,22 @@ pub returns-clause-ok : goal.returns-clause-ok
 returns-clause-ok c =
     let m : MachineParts = record { settings = c.settings.result.now; rows = c.rows-rows.result.now; version = c.version.result } in
     let same : m ≡ c.args.self.now = (λ j. record { settings = c.settings.ensures.value j; rows = c.rows-rows.ensures.rows j; version = c.version.ensures j }) in
-    subst (λ (n : MachineParts). IfOk c.plan_call.result (Plans n.settings (state_of n) (built_step n.settings (state_of n) c.args.caller.now c.args.call.now))) same c.plan_call.ensures.ok
+    subst (λ (n : MachineParts). IfOk c.plan_call.result (Plans n.settings (state_of n) (api_step n.settings (state_of n) c.args.caller.now c.args.call.now))) same c.plan_call.ensures.ok
 
 pub returns-clause-err : goal.returns-clause-err
 returns-clause-err c =
     let m : MachineParts = record { settings = c.settings.result.now; rows = c.rows-rows.result.now; version = c.version.result } in
     let same : m ≡ c.args.self.now = (λ j. record { settings = c.settings.ensures.value j; rows = c.rows-rows.ensures.rows j; version = c.version.ensures j }) in
-    subst (λ (n : MachineParts). IfErr c.plan_call.result (IsRefusalOf (built_step n.settings (state_of n) c.args.caller.now c.args.call.now))) same c.plan_call.ensures.err
+    subst (λ (n : MachineParts). IfErr c.plan_call.result (IsRefusalOf (api_step n.settings (state_of n) c.args.caller.now c.args.call.now))) same c.plan_call.ensures.err
 
 pub returns-clause-answer_apart : goal.returns-clause-answer_apart
 returns-clause-answer_apart c other alike =
     let n : MachineParts = c.args.self.now in
     let same = told_alike n.settings c.args.caller.now (state_of n) other c.args.call.now (and_both (not (is_empty c.args.caller.now.project)) (is_call c.args.call.now) c.requires.in_form.formed).0 c.rows-rows.ensures.consistent alike in
-    if_ok _ _ c.plan_call.result (λ p plans. sym same ∙ planned_told n.settings (state_of n) (built_step n.settings (state_of n) c.args.caller.now c.args.call.now) p.change (reply_of p.answer) plans) (returns-clause-ok c)
+    if_ok _ _ c.plan_call.result (λ p plans. sym same ∙ planned_told n.settings (state_of n) (api_step n.settings (state_of n) c.args.caller.now c.args.call.now) p.change (reply_of p.answer) plans) (returns-clause-ok c)
 
 pub returns-clause-refusal_apart : goal.returns-clause-refusal_apart
 returns-clause-refusal_apart c other alike =
     let n : MachineParts = c.args.self.now in
     let same = told_alike n.settings c.args.caller.now (state_of n) other c.args.call.now (and_both (not (is_empty c.args.caller.now.project)) (is_call c.args.call.now) c.requires.in_form.formed).0 c.rows-rows.ensures.consistent alike in
-    if_err _ _ c.plan_call.result (λ e refused. refused_alike (built_step n.settings (state_of n) c.args.caller.now c.args.call.now) (built_step n.settings other c.args.caller.now c.args.call.now) e same refused) (returns-clause-err c)
+    if_err _ _ c.plan_call.result (λ e refused. refused_alike (api_step n.settings (state_of n) c.args.caller.now c.args.call.now) (api_step n.settings other c.args.caller.now c.args.call.now) e same refused) (returns-clause-err c)

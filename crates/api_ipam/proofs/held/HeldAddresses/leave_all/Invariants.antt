@@ -1,0 +1,14 @@
+use Rattle.std.proofs.Common.{◌≡◌, drop}
+use Rattle.std.specs.Prelude.{◌&&◌, not}
+use Rattle.std.specs.List.{list_any}
+use Rattle.net_addr.specs.Addresses.{addr_eq}
+use Rattle.net_addr.specs.declared.address.Addr.{Addr}
+use Rattle.api_types.specs.declared.port.Fixed.{Fixed}
+use Rattle.api_ipam.specs.FixedChoice.{is_in}
+use Rattle.api_ipam.proofs.held.HeldAddresses.leave_all.Given as goal
+
+-- without those that are left they are as without all
+abbrev pub invariant-loop-one : goal.invariant-loop-one
+invariant-loop-one l =
+    (x : Addr) → (is_in l.self x && not (list_any (λ (f : Fixed). addr_eq f.address x) (drop l.one-index l.fixed)))
+    ≡ (is_in l.fn.self x && not (list_any (λ (f : Fixed). addr_eq f.address x) l.fixed))

@@ -1,0 +1,4 @@
+mod AimLemmas
+mod CallLemmas
+mod NewLemmas
+mod OuterLemmas

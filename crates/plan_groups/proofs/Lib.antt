@@ -1,0 +1,4 @@
+pub mod EditLemmas
+pub mod GroupLemmas
+pub mod NewLemmas
+pub mod RuleLemmas

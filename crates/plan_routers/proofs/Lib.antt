@@ -1,0 +1,8 @@
+pub mod CreationLemmas
+pub mod DrawnLemmas
+pub mod EditLemmas
+pub mod InterfaceLemmas
+pub mod RefusalLemmas
+pub mod SupplyLemmas
+pub mod UpdateLemmas
+pub mod WayLemmas

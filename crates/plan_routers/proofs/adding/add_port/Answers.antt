@@ -1,0 +1,32 @@
+use Rattle.std.proofs.Common.{◌≡◌, ◌∙◌, ◌+◌, None, ap, subst, sym}
+use Rattle.api_types.specs.Ident.{Ident}
+use Rattle.api_types.specs.Registration.{ident}
+use Rattle.api_types.specs.RowLists.{RowLists}
+use Rattle.api_types.specs.Table.{row_of}
+use Rattle.api_types.specs.declared.kind.Row.TheVariants.{Port}
+use Rattle.api_types.specs.declared.port.PortRow.{PortRow}
+use Rattle.call_parts.specs.Edits.{with_added}
+use Rattle.plan_routers.specs.InterfaceCalls.{interface_port, interface_shown}
+use Rattle.plan_routers.proofs.adding.add_port.Goals as goal
+
+pub add-requires : goal.add-requires
+add-requires c =
+    let rows : RowLists = c.args.drawn.draft.rows in
+    let id_is = ap (λ (p : PortRow). p.id) c.in_ok-port.ensures ∙ c.id-id.ensures rows in
+    record { new = subst (λ (i : Ident). row_of (λ (p : PortRow). p.id) i rows.ports ≡ None) (sym id_is) c.requires.new }
+
+pub returns-clause-rows : goal.returns-clause-rows
+returns-clause-rows c =
+    let rows : RowLists = c.args.drawn.draft.rows in
+    let i : Ident = ident c.args.drawn.ordinal (c.args.drawn.first + 0) in
+    let port_is : c.in_ok-port.port ≡ interface_port c.args.settings.now rows c.args.caller.now c.args.router.now c.args.network.now i c.args.mac c.args.fixed =
+    c.in_ok-port.ensures ∙ (λ j. interface_port c.args.settings.now (c.rows.ensures j) c.args.caller.now c.args.router.now c.args.network.now (c.id-id.ensures rows j) c.args.mac c.args.fixed) in
+    c.in_ok-add.ensures.rows ∙ ap (λ (p : PortRow). with_added rows (Port p)) port_is
+
+pub returns-clause-shown : goal.returns-clause-shown
+returns-clause-shown c =
+    let rows : RowLists = c.args.drawn.draft.rows in
+    let i : Ident = ident c.args.drawn.ordinal (c.args.drawn.first + 0) in
+    let port_is : c.in_ok-port.port ≡ interface_port c.args.settings.now rows c.args.caller.now c.args.router.now c.args.network.now i c.args.mac c.args.fixed =
+    c.in_ok-port.ensures ∙ (λ j. interface_port c.args.settings.now (c.rows.ensures j) c.args.caller.now c.args.router.now c.args.network.now (c.id-id.ensures rows j) c.args.mac c.args.fixed) in
+    c.in_ok-shown.ensures ∙ ap (λ (p : PortRow). interface_shown c.args.router.now p c.args.fixed.subnet) port_is

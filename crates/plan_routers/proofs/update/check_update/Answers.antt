@@ -1,0 +1,44 @@
+use Rattle.std.proofs.Common.{Option, subst, sym}
+use Rattle.std.specs.Prelude.{is_some, option_and_then}
+use Rattle.std.proofs.lemmas.Result.{err_from_is_err_and}
+use Rattle.api_policy.specs.Permits.{admin_only, owner_only}
+use Rattle.api_policy.specs.Uses.{gateway_use}
+use Rattle.api_types.specs.RouterWays.{interfaces_of}
+use Rattle.api_types.specs.declared.kind.Kind.TheVariants.{Network as NetworkKind}
+use Rattle.api_types.specs.declared.refusal.Refusal.{Refusal}
+use Rattle.call_parts.specs.Answers.{IsRefusalIn, Passes}
+use Rattle.call_parts.specs.BodyNames.{unless_found}
+use Rattle.plan_routers.specs.Plans.{body_refusal, standing_refusal}
+use Rattle.plan_routers.specs.RouterCalls.{gateway_name, gateway_network, lost_gateway, new_gateway, outer_taken, snat_asked}
+use Rattle.plan_routers.specs.RouterRules.{bad_gateway, bad_routes}
+use Rattle.plan_routers.proofs.RefusalLemmas.{passed_first, refused_first, seven_joined}
+use Rattle.plan_routers.proofs.update.check_update.Goals as goal
+
+pub returns-in_err-check_body : goal.returns-in_err-check_body
+returns-in_err-check_body c =
+    let rows = c.args.rows.now in
+    let caller = c.args.caller.now in
+    let form = c.args.form.now in
+    let old = c.args.old.now in
+    let new = c.args.new.now in
+    let network = gateway_network rows caller form in
+    let e : Refusal = c.in_err-check_body.field-0.0 in
+    let p = err_from_is_err_and c.from_residual.result c.from_residual.ensures.1 in
+    rw (p.1, p.2)
+    (subst (λ (o : Option Refusal). IsRefusalIn o e)
+    (sym (seven_joined (option_and_then (bad_gateway rows old.project (interfaces_of rows.ports old)) network) (bad_routes rows old form.routes) (unless_found NetworkKind (gateway_name form) network)
+    (admin_only caller (is_some (snat_asked form))) (owner_only caller old.project) (gateway_use rows caller old new.routes (lost_gateway old.gateway new.gateway)) (option_and_then (outer_taken rows) (new_gateway network new.gateway))))
+    (refused_first (body_refusal rows caller form old) (standing_refusal rows caller form old new) e c.in_err-check_body.ensures))
+
+pub returns : goal.returns
+returns c =
+    let rows = c.args.rows.now in
+    let caller = c.args.caller.now in
+    let form = c.args.form.now in
+    let old = c.args.old.now in
+    let new = c.args.new.now in
+    let network = gateway_network rows caller form in
+    subst (λ (o : Option Refusal). Passes o c.check_standing.result)
+    (sym (seven_joined (option_and_then (bad_gateway rows old.project (interfaces_of rows.ports old)) network) (bad_routes rows old form.routes) (unless_found NetworkKind (gateway_name form) network)
+    (admin_only caller (is_some (snat_asked form))) (owner_only caller old.project) (gateway_use rows caller old new.routes (lost_gateway old.gateway new.gateway)) (option_and_then (outer_taken rows) (new_gateway network new.gateway))))
+    (passed_first (body_refusal rows caller form old) (standing_refusal rows caller form old new) c.check_standing.result c.in_ok-check_body.ensures c.check_standing.ensures)

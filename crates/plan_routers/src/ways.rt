@@ -1,0 +1,235 @@
+//! Questions of the ports that a router has: what they overlap, reach and hold.
+
+ghost use Rattle.std.specs.Prelude.{◌≡◌, ◌&&◌, find, option_copied};
+ghost use Rattle.std.specs.List.{list_any};
+ghost use Rattle.api_types.specs.HeldAddresses.{is_own_address};
+ghost use Rattle.api_types.specs.Lists.{is_one as is_one_of};
+ghost use Rattle.api_types.specs.Owners.{holds_in as holds_in_of, is_interface as interface_owner, is_port_of as port_of};
+ghost use Rattle.api_types.specs.RouterWays.{interfaces_of, is_bad_hop as bad_hop, reaches as reaches_of, router_ports, touches as touches_of};
+ghost use Rattle.api_types.specs.Table.{row_of};
+ghost use Rattle.api_types.specs.declared.port.PortRow.{PortRow as ThePort};
+ghost use Rattle.api_types.specs.declared.subnet.SubnetRow.{SubnetRow as TheSubnet};
+ghost use Rattle.plan_routers.specs.RouterRules.{is_bad_leg as bad_leg, overlaps_interface as overlaps_interface_of, overlaps_leg as overlaps_leg_of};
+ghost use Rattle.plan_routers.specs.Ways.{meets_network as meets_network_of};
+
+use api_types::{
+    Fixed, Hop, Id, NetworkRow, PortRow, RouterRow, Rows, Shared, SubnetRow, holds, holds_in,
+    is_interface, is_port_of, reaches, touches,
+};
+use net_addr::{Addr, Prefix};
+
+fn is_interface_of(router: &RouterRow, port: &PortRow) -> bool
+    ensures { result ≡ (interface_owner port.now.owner && port_of router.now port.now) }
+{
+    is_interface(&port.owner) && is_port_of(router, port)
+}
+
+/// The router's first interface that holds an address in the subnet. Its cost grows with the ports.
+pub(crate) fn interface_in<'r>(
+    ports: &'r [Shared<PortRow>],
+    router: &RouterRow,
+    subnet: Id,
+) -> Option<&'r PortRow>
+    ensures { option_copied result
+        ≡ find (holds_in_of subnet) (interfaces_of ports.now router.now) }
+{
+    for port in ports {
+        if is_interface_of(router, port) && holds_in(subnet, port) {
+            return Some(port);
+        }
+    }
+    None
+}
+
+/// The router's interface with this id. Its cost grows with the ports.
+pub(crate) fn interface_with<'r>(
+    ports: &'r [Shared<PortRow>],
+    router: &RouterRow,
+    id: Id,
+) -> Option<&'r PortRow>
+    ensures { option_copied result
+        ≡ row_of (λ (p : ThePort). p.id) id (interfaces_of ports.now router.now) }
+{
+    for port in ports {
+        if is_interface_of(router, port) && id == port.id {
+            return Some(port);
+        }
+    }
+    None
+}
+
+fn meets_network(subnets: &[Shared<SubnetRow>], network: Id, port: &PortRow) -> bool
+    ensures { result ≡ meets_network_of subnets.now network port.now }
+{
+    for subnet in subnets {
+        if network == subnet.network && touches(subnets, &subnet.prefix, port) {
+            return true;
+        }
+    }
+    false
+}
+
+fn meets_interface(
+    subnets: &[Shared<SubnetRow>],
+    ports: &[Shared<PortRow>],
+    router: &RouterRow,
+    network: Id,
+) -> bool
+    ensures { result
+        ≡ list_any (meets_network_of subnets.now network) (interfaces_of ports.now router.now) }
+{
+    for port in ports {
+        if is_interface_of(router, port) && meets_network(subnets, network, port) {
+            return true;
+        }
+    }
+    false
+}
+
+/// Whether a subnet of the network overlaps one of the router's interfaces. Its cost grows with the
+/// ports, and for each interface with the subnets, times those of the network.
+pub(crate) fn overlaps_interface(rows: &Rows, router: &RouterRow, network: &NetworkRow) -> bool
+    ensures { result
+        ≡ overlaps_interface_of rows.now (interfaces_of rows.now.ports router.now) network.now }
+{
+    meets_interface(
+        rows.subnets().rows(),
+        rows.ports().rows(),
+        router,
+        network.id,
+    )
+}
+
+// Whether a port of the router holds an address in a subnet that overlaps the prefix.
+fn touches_leg(
+    subnets: &[Shared<SubnetRow>],
+    ports: &[Shared<PortRow>],
+    router: &RouterRow,
+    prefix: &Prefix,
+) -> bool
+    ensures { result
+        ≡ list_any (touches_of subnets.now prefix.now) (router_ports ports.now router.now) }
+{
+    for port in ports {
+        if is_port_of(router, port) && touches(subnets, prefix, port) {
+            return true;
+        }
+    }
+    false
+}
+
+/// Whether the subnet overlaps one of the router's ports. Its cost grows with the ports, and for
+/// each port of the router with the subnets.
+pub(crate) fn overlaps_leg(rows: &Rows, router: &RouterRow, subnet: &SubnetRow) -> bool
+    ensures { result ≡ overlaps_leg_of rows.now router.now subnet.now }
+{
+    touches_leg(
+        rows.subnets().rows(),
+        rows.ports().rows(),
+        router,
+        &subnet.prefix,
+    )
+}
+
+fn is_one(fixed: &[Fixed]) -> bool
+    ensures { result ≡ is_one_of fixed.now }
+{
+    match fixed {
+        [_] => true,
+        _ => false,
+    }
+}
+
+fn is_overlapping(rows: &Rows, router: &RouterRow, port: &PortRow, subnet: &SubnetRow) -> bool
+    ensures { result
+        ≡ (holds_in_of subnet.now.id port.now && overlaps_leg_of rows.now router.now subnet.now) }
+{
+    holds_in(subnet.id, port) && overlaps_leg(rows, router, subnet)
+}
+
+fn has_overlapping(
+    rows: &Rows,
+    subnets: &[Shared<SubnetRow>],
+    router: &RouterRow,
+    port: &PortRow,
+) -> bool
+    ensures { result
+        ≡ list_any
+        (λ (s : TheSubnet). holds_in_of s.id port.now && overlaps_leg_of rows.now router.now s)
+        subnets.now }
+{
+    subnets
+        .iter()
+        .any(|subnet| is_overlapping(rows, router, port, subnet))
+}
+
+/// Whether the port can't be an interface of the router: it hasn't exactly one address, or its
+/// subnet overlaps one of the router's ports. Its cost grows with the subnets and the ports.
+pub(crate) fn is_bad_leg(rows: &Rows, router: &RouterRow, port: &PortRow) -> bool
+    ensures { result ≡ bad_leg rows.now router.now port.now }
+{
+    !is_one(port.fixed.as_slice()) || has_overlapping(rows, rows.subnets().rows(), router, port)
+}
+
+fn is_held(ports: &[Shared<PortRow>], router: &RouterRow, address: &Addr) -> bool
+    ensures { result
+        ≡ list_any (is_own_address address.now) (router_ports ports.now router.now) }
+{
+    for port in ports {
+        if is_port_of(router, port) && holds(port, address) {
+            return true;
+        }
+    }
+    false
+}
+
+fn is_reached(
+    subnets: &[Shared<SubnetRow>],
+    ports: &[Shared<PortRow>],
+    router: &RouterRow,
+    address: &Addr,
+) -> bool
+    ensures { result
+        ≡ list_any (reaches_of subnets.now address.now) (router_ports ports.now router.now) }
+{
+    for port in ports {
+        if is_port_of(router, port) && reaches(subnets, address, port) {
+            return true;
+        }
+    }
+    false
+}
+
+fn is_bad_hop(
+    subnets: &[Shared<SubnetRow>],
+    ports: &[Shared<PortRow>],
+    router: &RouterRow,
+    hop: &Hop,
+) -> bool
+    ensures { result ≡ bad_hop subnets.now (router_ports ports.now router.now) hop.now }
+{
+    is_held(ports, router, &hop.next) || !is_reached(subnets, ports, router, &hop.next)
+}
+
+fn any_bad_hop(
+    subnets: &[Shared<SubnetRow>],
+    ports: &[Shared<PortRow>],
+    router: &RouterRow,
+    hops: &[Hop],
+) -> bool
+    ensures { result
+        ≡ list_any (bad_hop subnets.now (router_ports ports.now router.now)) hops.now }
+{
+    hops.iter()
+        .any(|hop| is_bad_hop(subnets, ports, router, hop))
+}
+
+/// Whether a next hop lies in no subnet of the router's ports, or is one of their addresses. Its
+/// cost grows with the routes, of which there are 30 at most, times the ports, and for each port of
+/// the router with the subnets.
+pub(crate) fn has_bad_hop(rows: &Rows, router: &RouterRow, hops: &[Hop]) -> bool
+    ensures { result
+        ≡ list_any (bad_hop rows.now.subnets (router_ports rows.now.ports router.now)) hops.now }
+{
+    any_bad_hop(rows.subnets().rows(), rows.ports().rows(), router, hops)
+}

@@ -1,0 +1,4 @@
+pub mod CallLemmas
+pub mod EditLemmas
+pub mod FormLemmas
+pub mod RefusalLemmas
