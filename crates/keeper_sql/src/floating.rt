@@ -1,0 +1,125 @@
+//! Floating addresses in the store.
+
+use crate::column::{four_at, four_if, id_at, id_if, text_at};
+use crate::stored::{Stored, delete_by_id};
+use crate::trouble::Trouble;
+use api_types::{FloatingRow, Id, Rows, Target};
+use net_addr::{Addr4, OutOfMemory, Text};
+use sqlite::{Alter, Row, Transaction, params};
+use std::alloc::Global;
+
+const UPSERT: &str = "INSERT INTO floating_ips (id, project_id, description, floating_network_id,
+    own_port_id, floating_ip_address, port_id, fixed_ip_address, router_id)
+    VALUES (?1, ?2, ?3, ?4, ?5, ?6, ?7, ?8, ?9)
+    ON CONFLICT (id) DO UPDATE SET project_id = excluded.project_id,
+    description = excluded.description, floating_network_id = excluded.floating_network_id,
+    own_port_id = excluded.own_port_id, floating_ip_address = excluded.floating_ip_address,
+    port_id = excluded.port_id, fixed_ip_address = excluded.fixed_ip_address,
+    router_id = excluded.router_id";
+
+// The association's columns: port, its address and router.
+#[derive(Drop)]
+struct TargetTexts {
+    port: Option<Text>,
+    fixed: Option<Text>,
+    router: Option<Text>,
+}
+
+fn target_texts(alloc: Global, target: Option<Target>) -> Result<TargetTexts, OutOfMemory> {
+    match target {
+        Some(target) => Ok(TargetTexts {
+            port: Some(target.port.print(alloc)?),
+            fixed: Some(target.fixed.print(alloc)?),
+            router: Some(target.router.print(alloc)?),
+        }),
+        None => Ok(TargetTexts {
+            port: None,
+            fixed: None,
+            router: None,
+        }),
+    }
+}
+
+/// Puts the row in the place of that with its id, or behind all.
+pub(crate) fn write<S: Alter>(
+    alloc: Global,
+    to: &mut Transaction<'_, S>,
+    row: &FloatingRow,
+) -> Result<(), Trouble> {
+    let id = row.id.print(alloc)?;
+    let network = row.network.print(alloc)?;
+    let own_port = row.own_port.print(alloc)?;
+    let address = row.address.print(alloc)?;
+    let target = target_texts(alloc, row.target)?;
+    to.execute(
+        UPSERT,
+        params![
+            id.as_str(),
+            row.project.as_str(),
+            row.description.as_str(),
+            network.as_str(),
+            own_port.as_str(),
+            address.as_str(),
+            target.port.as_ref().map(Text::as_str),
+            target.fixed.as_ref().map(Text::as_str),
+            target.router.as_ref().map(Text::as_str),
+        ],
+    )?;
+    Ok(())
+}
+
+pub(crate) fn delete<S: Alter>(
+    alloc: Global,
+    to: &mut Transaction<'_, S>,
+    row: &FloatingRow,
+) -> Result<(), Trouble> {
+    delete_by_id(alloc, to, "DELETE FROM floating_ips WHERE id = ?1", row.id)
+}
+
+// An association has all three columns, and none has none.
+fn target_of(
+    port: Option<Id>,
+    fixed: Option<Addr4>,
+    router: Option<Id>,
+) -> Result<Option<Target>, Trouble> {
+    match (port, fixed, router) {
+        (Some(port), Some(fixed), Some(router)) => Ok(Some(Target {
+            port,
+            fixed,
+            router,
+        })),
+        (None, None, None) => Ok(None),
+        _ => Err(Trouble::Fault),
+    }
+}
+
+impl Stored for FloatingRow {
+    fn select() -> &'static str {
+        "SELECT id, project_id, description, floating_network_id, own_port_id,
+            floating_ip_address, port_id, fixed_ip_address, router_id
+        FROM floating_ips ORDER BY place"
+    }
+
+    fn read(_alloc: Global, row: &Row) -> Result<FloatingRow, Trouble> {
+        let id = id_at(row, 0)?;
+        let project = text_at(row, 1)?;
+        let description = text_at(row, 2)?;
+        let network = id_at(row, 3)?;
+        let own_port = id_at(row, 4)?;
+        let address = four_at(row, 5)?;
+        let target = target_of(id_if(row, 6)?, four_if(row, 7)?, id_if(row, 8)?)?;
+        Ok(FloatingRow {
+            id,
+            project,
+            description,
+            network,
+            own_port,
+            address,
+            target,
+        })
+    }
+
+    fn add(self, alloc: Global, rows: &mut Rows) -> Result<bool, OutOfMemory> {
+        rows.add_floating(alloc, self)
+    }
+}

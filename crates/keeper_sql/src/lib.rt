@@ -1,0 +1,27 @@
+//! Rows kept in a database of SQLite.
+//!
+//! `SqlKeeper` is a `Keeper` over any store of the crate `sqlite`: a table for each kind, with a
+//! column for each field under the API's name, and a table `format` with the one number 2. A change
+//! is one transaction. Contracts say of it that a failure is counted, and nothing of what it holds:
+//! that it loads what it applied is tested. The crate stands on `api_types`, `keeper_core`,
+//! `serde_json` and `sqlite`.
+#![tactic(auto)]
+
+mod address;
+mod column;
+mod floating;
+mod group;
+mod keeper;
+mod listed;
+mod network;
+mod policy;
+mod port;
+mod project;
+mod router;
+mod rule;
+mod stored;
+mod subnet;
+mod tables;
+mod trouble;
+
+pub use keeper::SqlKeeper;

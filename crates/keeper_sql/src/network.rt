@@ -1,0 +1,109 @@
+//! Networks in the store.
+
+use crate::column::{flag_at, id_at, text_at, text_if};
+use crate::stored::{Stored, delete_by_id};
+use crate::trouble::Trouble;
+use api_types::{NetworkRow, Rows, Segment};
+use net_addr::{OutOfMemory, Text};
+use sqlite::{Alter, Row, Transaction, params};
+use std::alloc::Global;
+
+// The segment's columns: type, physical network and number.
+fn parts(segment: &Segment) -> (&'static str, Option<&str>, Option<u32>) {
+    match segment {
+        Segment::Local => ("local", None, None),
+        Segment::Flat { physical } => ("flat", Some(physical.as_str()), None),
+        Segment::Vlan { physical, tag } => {
+            ("vlan", Some(physical.as_str()), Some(u32::from(*tag)))
+        }
+        Segment::Vxlan { number } => ("vxlan", None, Some(*number)),
+    }
+}
+
+/// Puts the row in the place of that with its id, or behind all.
+pub(crate) fn write<S: Alter>(
+    alloc: Global,
+    to: &mut Transaction<'_, S>,
+    row: &NetworkRow,
+) -> Result<(), Trouble> {
+    let id = row.id.print(alloc)?;
+    let (kind, physical, number) = parts(&row.segment);
+    to.execute(
+        "INSERT INTO networks (id, project_id, name, description, admin_state_up, network_type,
+            physical_network, segmentation_id) VALUES (?1, ?2, ?3, ?4, ?5, ?6, ?7, ?8)
+        ON CONFLICT (id) DO UPDATE SET project_id = excluded.project_id, name = excluded.name,
+            description = excluded.description, admin_state_up = excluded.admin_state_up,
+            network_type = excluded.network_type, physical_network = excluded.physical_network,
+            segmentation_id = excluded.segmentation_id",
+        params![
+            id.as_str(),
+            row.project.as_str(),
+            row.name.as_str(),
+            row.description.as_str(),
+            row.up,
+            kind,
+            physical,
+            number,
+        ],
+    )?;
+    Ok(())
+}
+
+pub(crate) fn delete<S: Alter>(
+    alloc: Global,
+    to: &mut Transaction<'_, S>,
+    row: &NetworkRow,
+) -> Result<(), Trouble> {
+    delete_by_id(alloc, to, "DELETE FROM networks WHERE id = ?1", row.id)
+}
+
+fn tag_of(number: u32) -> Result<u16, Trouble> {
+    match u16::try_from(number) {
+        Ok(tag) => Ok(tag),
+        Err(_) => Err(Trouble::Fault),
+    }
+}
+
+fn segment_of(kind: &str, physical: Option<Text>, number: Option<u32>) -> Result<Segment, Trouble> {
+    match (kind, physical, number) {
+        ("local", None, None) => Ok(Segment::Local),
+        ("flat", Some(physical), None) => Ok(Segment::Flat { physical }),
+        ("vlan", Some(physical), Some(number)) => Ok(Segment::Vlan {
+            physical,
+            tag: tag_of(number)?,
+        }),
+        ("vxlan", None, Some(number)) => Ok(Segment::Vxlan { number }),
+        _ => Err(Trouble::Fault),
+    }
+}
+
+impl Stored for NetworkRow {
+    fn select() -> &'static str {
+        "SELECT id, project_id, name, description, admin_state_up, network_type,
+            physical_network, segmentation_id FROM networks ORDER BY place"
+    }
+
+    fn read(_alloc: Global, row: &Row) -> Result<NetworkRow, Trouble> {
+        let id = id_at(row, 0)?;
+        let project = text_at(row, 1)?;
+        let name = text_at(row, 2)?;
+        let description = text_at(row, 3)?;
+        let up = flag_at(row, 4)?;
+        let kind = text_at(row, 5)?;
+        let physical = text_if(row, 6)?;
+        let number: Option<u32> = row.get(7)?;
+        let segment = segment_of(kind.as_str(), physical, number)?;
+        Ok(NetworkRow {
+            id,
+            project,
+            name,
+            description,
+            up,
+            segment,
+        })
+    }
+
+    fn add(self, alloc: Global, rows: &mut Rows) -> Result<bool, OutOfMemory> {
+        rows.add_network(alloc, self)
+    }
+}

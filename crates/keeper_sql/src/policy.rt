@@ -1,0 +1,82 @@
+//! RBAC policies in the store.
+
+use crate::column::{bytes_at, id_at, text_at};
+use crate::stored::{Stored, delete_by_id};
+use crate::trouble::Trouble;
+use api_types::{Action, PolicyRow, Rows};
+use net_addr::OutOfMemory;
+use sqlite::{Alter, Row, Transaction, params};
+use std::alloc::Global;
+
+fn action_word(action: Action) -> &'static str {
+    match action {
+        Action::Shared => "access_as_shared",
+        Action::External => "access_as_external",
+    }
+}
+
+fn action_at(row: &Row, at: usize) -> Result<Action, Trouble> {
+    match bytes_at(row, at)? {
+        b"access_as_shared" => Ok(Action::Shared),
+        b"access_as_external" => Ok(Action::External),
+        _ => Err(Trouble::Fault),
+    }
+}
+
+/// Puts the row in the place of that with its id, or behind all.
+pub(crate) fn write<S: Alter>(
+    alloc: Global,
+    to: &mut Transaction<'_, S>,
+    row: &PolicyRow,
+) -> Result<(), Trouble> {
+    let id = row.id.print(alloc)?;
+    let object = row.object.print(alloc)?;
+    to.execute(
+        "INSERT INTO rbac_policies (id, project_id, object_id, action, target_tenant)
+            VALUES (?1, ?2, ?3, ?4, ?5)
+        ON CONFLICT (id) DO UPDATE SET project_id = excluded.project_id,
+            object_id = excluded.object_id, action = excluded.action,
+            target_tenant = excluded.target_tenant",
+        params![
+            id.as_str(),
+            row.project.as_str(),
+            object.as_str(),
+            action_word(row.action),
+            row.target.as_str(),
+        ],
+    )?;
+    Ok(())
+}
+
+pub(crate) fn delete<S: Alter>(
+    alloc: Global,
+    to: &mut Transaction<'_, S>,
+    row: &PolicyRow,
+) -> Result<(), Trouble> {
+    delete_by_id(alloc, to, "DELETE FROM rbac_policies WHERE id = ?1", row.id)
+}
+
+impl Stored for PolicyRow {
+    fn select() -> &'static str {
+        "SELECT id, project_id, object_id, action, target_tenant FROM rbac_policies ORDER BY place"
+    }
+
+    fn read(_alloc: Global, row: &Row) -> Result<PolicyRow, Trouble> {
+        let id = id_at(row, 0)?;
+        let project = text_at(row, 1)?;
+        let object = id_at(row, 2)?;
+        let action = action_at(row, 3)?;
+        let target = text_at(row, 4)?;
+        Ok(PolicyRow {
+            id,
+            project,
+            object,
+            action,
+            target,
+        })
+    }
+
+    fn add(self, alloc: Global, rows: &mut Rows) -> Result<bool, OutOfMemory> {
+        rows.add_policy(alloc, self)
+    }
+}

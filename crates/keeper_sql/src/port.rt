@@ -1,0 +1,133 @@
+//! Ports in the store.
+
+use crate::column::{bytes_at, flag_at, id_at, mac_at, text_at};
+use crate::listed::{list_at, list_text};
+use crate::stored::{Stored, delete_by_id};
+use crate::trouble::Trouble;
+use api_types::{PortRow, Rows, Vif};
+use net_addr::OutOfMemory;
+use sqlite::{Alter, Row, Transaction, params};
+use std::alloc::Global;
+
+const UPSERT: &str = "INSERT INTO ports (id, project_id, network_id, name, description,
+    admin_state_up, mac_address, fixed_ips, allowed_address_pairs, port_security_enabled,
+    security_groups, device_id, device_owner, host_id, vif_type, by_admin)
+    VALUES (?1, ?2, ?3, ?4, ?5, ?6, ?7, ?8, ?9, ?10, ?11, ?12, ?13, ?14, ?15, ?16)
+    ON CONFLICT (id) DO UPDATE SET project_id = excluded.project_id,
+    network_id = excluded.network_id, name = excluded.name, description = excluded.description,
+    admin_state_up = excluded.admin_state_up, mac_address = excluded.mac_address,
+    fixed_ips = excluded.fixed_ips, allowed_address_pairs = excluded.allowed_address_pairs,
+    port_security_enabled = excluded.port_security_enabled,
+    security_groups = excluded.security_groups, device_id = excluded.device_id,
+    device_owner = excluded.device_owner, host_id = excluded.host_id,
+    vif_type = excluded.vif_type, by_admin = excluded.by_admin";
+
+fn vif_word(vif: Vif) -> &'static str {
+    match vif {
+        Vif::Unbound => "unbound",
+        Vif::Failed => "binding_failed",
+        Vif::Ovs => "ovs",
+    }
+}
+
+fn vif_at(row: &Row, at: usize) -> Result<Vif, Trouble> {
+    match bytes_at(row, at)? {
+        b"unbound" => Ok(Vif::Unbound),
+        b"binding_failed" => Ok(Vif::Failed),
+        b"ovs" => Ok(Vif::Ovs),
+        _ => Err(Trouble::Fault),
+    }
+}
+
+/// Puts the row in the place of that with its id, or behind all.
+pub(crate) fn write<S: Alter>(
+    alloc: Global,
+    to: &mut Transaction<'_, S>,
+    row: &PortRow,
+) -> Result<(), Trouble> {
+    let id = row.id.print(alloc)?;
+    let network = row.network.print(alloc)?;
+    let mac = row.mac.print(alloc)?;
+    let fixed = list_text(alloc, &row.fixed)?;
+    let pairs = list_text(alloc, &row.pairs)?;
+    let groups = list_text(alloc, &row.groups)?;
+    to.execute(
+        UPSERT,
+        params![
+            id.as_str(),
+            row.project.as_str(),
+            network.as_str(),
+            row.name.as_str(),
+            row.description.as_str(),
+            row.up,
+            mac.as_str(),
+            fixed.as_str(),
+            pairs.as_str(),
+            row.secured,
+            groups.as_str(),
+            row.device.as_str(),
+            row.owner.as_str(),
+            row.host.as_str(),
+            vif_word(row.vif),
+            row.by_admin,
+        ],
+    )?;
+    Ok(())
+}
+
+pub(crate) fn delete<S: Alter>(
+    alloc: Global,
+    to: &mut Transaction<'_, S>,
+    row: &PortRow,
+) -> Result<(), Trouble> {
+    delete_by_id(alloc, to, "DELETE FROM ports WHERE id = ?1", row.id)
+}
+
+impl Stored for PortRow {
+    fn select() -> &'static str {
+        "SELECT id, project_id, network_id, name, description, admin_state_up, mac_address,
+            fixed_ips, allowed_address_pairs, port_security_enabled, security_groups, device_id,
+            device_owner, host_id, vif_type, by_admin FROM ports ORDER BY place"
+    }
+
+    fn read(alloc: Global, row: &Row) -> Result<PortRow, Trouble> {
+        let id = id_at(row, 0)?;
+        let project = text_at(row, 1)?;
+        let network = id_at(row, 2)?;
+        let name = text_at(row, 3)?;
+        let description = text_at(row, 4)?;
+        let up = flag_at(row, 5)?;
+        let mac = mac_at(row, 6)?;
+        let fixed = list_at(alloc, row, 7)?;
+        let pairs = list_at(alloc, row, 8)?;
+        let secured = flag_at(row, 9)?;
+        let groups = list_at(alloc, row, 10)?;
+        let device = text_at(row, 11)?;
+        let owner = text_at(row, 12)?;
+        let host = text_at(row, 13)?;
+        let vif = vif_at(row, 14)?;
+        let by_admin = flag_at(row, 15)?;
+        Ok(PortRow {
+            id,
+            project,
+            network,
+            name,
+            description,
+            up,
+            mac,
+            fixed,
+            pairs,
+            secured,
+            groups,
+            device,
+            owner,
+            host,
+            vif,
+            by_admin,
+        })
+    }
+
+    fn add(self, alloc: Global, rows: &mut Rows) -> Result<bool, OutOfMemory> {
+        rows.add_port(alloc, self)
+    }
+}

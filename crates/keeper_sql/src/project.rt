@@ -1,0 +1,63 @@
+//! Projects in the store.
+
+use crate::column::text_at;
+use crate::stored::Stored;
+use crate::trouble::Trouble;
+use api_types::{ProjectRow, Rows};
+use net_addr::OutOfMemory;
+use sqlite::{Alter, Row, Transaction, params};
+use std::alloc::Global;
+
+// Numbers above the greatest of SQLite's integers fit no column.
+fn signed(number: u64) -> Result<i64, Trouble> {
+    match i64::try_from(number) {
+        Ok(number) => Ok(number),
+        Err(_) => Err(Trouble::Fault),
+    }
+}
+
+/// Puts the row in the place of that with its id, or behind all.
+pub(crate) fn write<S: Alter>(
+    to: &mut Transaction<'_, S>,
+    row: &ProjectRow,
+) -> Result<(), Trouble> {
+    let count = signed(row.count)?;
+    to.execute(
+        "INSERT INTO projects (ordinal, name, count) VALUES (?1, ?2, ?3)
+        ON CONFLICT (ordinal) DO UPDATE SET name = excluded.name, count = excluded.count",
+        params![row.ordinal, row.name.as_str(), count],
+    )?;
+    Ok(())
+}
+
+pub(crate) fn delete<S: Alter>(
+    to: &mut Transaction<'_, S>,
+    row: &ProjectRow,
+) -> Result<(), Trouble> {
+    to.execute(
+        "DELETE FROM projects WHERE ordinal = ?1",
+        params![row.ordinal],
+    )?;
+    Ok(())
+}
+
+impl Stored for ProjectRow {
+    fn select() -> &'static str {
+        "SELECT ordinal, name, count FROM projects ORDER BY place"
+    }
+
+    fn read(_alloc: Global, row: &Row) -> Result<ProjectRow, Trouble> {
+        let ordinal: u32 = row.get(0)?;
+        let name = text_at(row, 1)?;
+        let count: u64 = row.get(2)?;
+        Ok(ProjectRow {
+            name,
+            ordinal,
+            count,
+        })
+    }
+
+    fn add(self, alloc: Global, rows: &mut Rows) -> Result<bool, OutOfMemory> {
+        rows.add_project(alloc, self)
+    }
+}

@@ -1,0 +1,52 @@
+//! A kind of rows in the store.
+
+use crate::trouble::Trouble;
+use api_types::{Id, Rows};
+use net_addr::OutOfMemory;
+use sqlite::{Alter, Row, Transaction, params};
+use std::alloc::Global;
+
+/// A row of a kind that has a table.
+pub(crate) trait Stored: Sized + Drop {
+    /// The query of all rows, in the order in which they were made.
+    fn select() -> &'static str;
+
+    /// The row that the columns of the query spell.
+    fn read(alloc: Global, row: &Row) -> Result<Self, Trouble>;
+
+    /// Adds it last, where none has its id, and tells whether it did.
+    fn add(self, alloc: Global, rows: &mut Rows) -> Result<bool, OutOfMemory>;
+}
+
+// A row that was added, where its id was new.
+fn unless_twice(is_new: bool) -> Result<(), Trouble> {
+    if is_new { Ok(()) } else { Err(Trouble::Fault) }
+}
+
+/// Adds all rows of a kind, one at a time.
+pub(crate) fn read_all<R: Stored, S: Alter>(
+    alloc: Global,
+    from: &mut Transaction<'_, S>,
+    rows: &mut Rows,
+) -> Result<(), Trouble> {
+    let mut found = from.query(R::select(), &[])?;
+    for _ in 0..u64::MAX {
+        match found.next()? {
+            Some(row) => unless_twice(R::read(alloc, row)?.add(alloc, rows)?)?,
+            None => return Ok(()),
+        }
+    }
+    Err(Trouble::Fault)
+}
+
+/// Takes the row with this id out, by the statement for its table.
+pub(crate) fn delete_by_id<S: Alter>(
+    alloc: Global,
+    to: &mut Transaction<'_, S>,
+    statement: &str,
+    id: Id,
+) -> Result<(), Trouble> {
+    let id = id.print(alloc)?;
+    to.execute(statement, params![id.as_str()])?;
+    Ok(())
+}
