@@ -1,14 +1,15 @@
-ghost use Rattle.std.specs.Prelude.{◌≡◌, ◌+◌, ◌<◌, ◌≤◌, [], ◌∷◌, ◌++◌, IfOk, OnErr, OnOk};
+ghost use Rattle.std.specs.Prelude.{◌≡◌, ◌+◌, ◌<◌, ◌≤◌, [], ◌∷◌, ◌++◌, None, IfOk, OnErr, OnOk};
 ghost use Rattle.api_types.specs.Consistent.{IsConsistent};
+ghost use Rattle.api_types.specs.Rows.{Fits, after};
 ghost use Rattle.plane_types.specs.Placed.{IsPlaced};
 ghost use Rattle.plane_types.specs.Realises.{Realises};
-ghost use Rattle.plane_types.specs.Node.{host_of, host_with, resynced, started, with_entries};
+ghost use Rattle.plane_types.specs.Node.{CanFollow, heard as heard_of, host_of, host_with, resynced, started, told, with_entries};
 ghost use Rattle.plane_types.specs.Wired.{wired as wired_by_rows};
 
 use crate::ready::ReadyNode;
-use api_types::Rows;
+use api_types::{Change, Rows};
 use net_addr::{Copies, OutOfMemory, Seq, Text};
-use plane_types::{Entries, Entry, HostTables};
+use plane_types::{Entries, Entry, Heard, HostTables};
 use std::alloc::Global;
 use std::marker::Model;
 
@@ -147,6 +148,81 @@ impl AgentNode {
         let ready = self.prepare_resync(alloc, version, rows)?;
         self.put(ready);
         Ok(())
+    }
+
+    // What the next change would put in place. All stays as it is. Its cost is that of wiring and of
+    // a copy of the rows.
+    fn prepare_next(
+        &self,
+        alloc: Global,
+        number: u64,
+        change: &Change,
+    ) -> Result<ReadyNode, OutOfMemory>
+        requires fits { Fits self.now.rows change.now }
+        requires consistent { IsConsistent (after self.now.rows change.now) }
+        ensures { IfOk result
+            (λ r. r
+            ≡ record {
+              name = self.now.name;
+              version = number;
+              rows = after self.now.rows change.now;
+              tables = wired_by_rows
+                  (after self.now.rows change.now)
+                  self.now.name
+                  self.now.tables.tags;
+              old = self.now.tables.tags;
+            }) }
+    {
+        let name = self.name.copy(alloc)?;
+        let tags = self.tables.copy_tags(alloc)?;
+        let mut rows = self.rows.copy(alloc)?;
+        rows.apply_change(alloc, change)?;
+        ReadyNode::of(alloc, name, number, rows, tags)
+    }
+
+    /// Tells the host the change with a number. Where that is the next one behind what the host
+    /// holds, the change is put into the wired rows, these are wired, and the number is then held.
+    /// Else nothing changes. Its cost is that of wiring and of a copy of the rows, and grows with
+    /// the entries.
+    pub fn deliver(
+        &mut self,
+        alloc: Global,
+        number: u64,
+        change: &Change,
+    ) -> Result<Heard, OutOfMemory>
+        requires { CanFollow self.old number change.now }
+        ensures heard { IfOk result (λ h. h ≡ heard_of number self.old.held) }
+        ensures node { OnOk result (self.new ≡ told self.old number change.now self.new.spare) }
+        ensures spare { OnOk result (self.old.spare ≤ self.new.spare) }
+        ensures same { OnErr result (self.new ≡ self.old) }
+    {
+        let Some(held) = self.held else {
+            return Ok(Heard::Asleep);
+        };
+        if number <= held {
+            return Ok(Heard::Old { held });
+        }
+        if number - held > 1 {
+            return Ok(Heard::Gap { held });
+        }
+        let next = self.prepare_next(alloc, number, change)?;
+        self.put(next);
+        Ok(Heard::Applied { held: number })
+    }
+
+    /// Nothing is held from now on. All else stays. It takes no memory.
+    pub fn restart(&mut self)
+        ensures { self.new ≡ record self.old { held = None } }
+    {
+        self.held = None;
+    }
+
+    /// Drops all entries. All else stays. It takes no memory.
+    pub fn forget(&mut self)
+        ensures node { self.new ≡ with_entries self.old [] self.new.spare }
+        ensures spare { self.old.spare ≤ self.new.spare }
+    {
+        self.entries.clear();
     }
 
     /// The host's name.

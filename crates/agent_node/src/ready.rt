@@ -63,8 +63,30 @@ impl ReadyNode {
               old = old;
             }) }
     {
-        let tables = wired(alloc, rows, &name, &old)?;
-        let rows = rows.copy(alloc)?;
+        ReadyNode::of(alloc, name, version, rows.copy(alloc)?, old)
+    }
+
+    /// The same of rows that are handed over. Its cost is that of wiring.
+    pub(crate) fn of(
+        alloc: Global,
+        name: Text,
+        version: u64,
+        rows: Rows,
+        old: Tags,
+    ) -> Result<ReadyNode, OutOfMemory>
+        requires consistent { IsConsistent rows }
+        requires tags { AreTags old }
+        ensures { IfOk result
+            (λ r. r
+            ≡ record {
+              name = name;
+              version = version;
+              rows = rows;
+              tables = wired_by_rows rows name old;
+              old = old;
+            }) }
+    {
+        let tables = wired(alloc, &rows, &name, &old)?;
         Ok(ReadyNode {
             name,
             version,

@@ -10,8 +10,8 @@ use Rattle.api_types.specs.declared.router.RouterRow.{RouterRow}
 use Rattle.api_types.specs.declared.floating.FloatingRow.{FloatingRow}
 use Rattle.api_types.proofs.ListLemmas.{none_some, some_equal}
 use Rattle.api_types.proofs.NameLemmas.{ident_itself}
-use Rattle.api_machine.proofs.OutcomeLemmas.{put_once}
 use Rattle.call_parts.specs.Edits.{put_in}
+use Rattle.call_parts.proofs.EditLaws.{put_once}
 
 -- options
 

@@ -14,7 +14,7 @@ use Rattle.api_types.specs.declared.port.PortRow.{PortRow}
 use Rattle.api_types.proofs.ListLemmas.{each-filter, each-push}
 use Rattle.api_machine.proofs.FixedFits.{each_append, each_cons, each_map, each_none, each_tail}
 use Rattle.api_machine.proofs.ServiceMade.{bound_carried}
-use Rattle.plan_subnets.specs.DhcpUpkeep.{begin_serving, dhcp_port_on, end_serving, new_dhcp_port, outside_subnet, port_left, serving, unserving}
+use Rattle.plan_subnets.specs.DhcpUpkeep.{begin_serving, dhcp_port_on, end_serving, new_dhcp_port, port_left, serving, unserving}
 use Rattle.api_types.specs.declared.port.Fixed.{Fixed}
 use Rattle.api_ml2.specs.Placement.{dhcp_host, host_or_none}
 use Rattle.api_types.specs.declared.floating.FloatingRow.{FloatingRow}
@@ -26,6 +26,7 @@ use Rattle.api_ml2.specs.Carrying.{carries}
 use Rattle.api_machine.proofs.OutcomeLemmas.{found_at}
 use Rattle.api_types.specs.Ident.{Ident}
 use Rattle.net_settings.specs.Settings.{SettingsParts}
+use Rattle.row_laws.specs.Leased.{outside}
 
 module _ (can : List ℕ → Segment → Bool) where
   -- the port is bound only where its host can carry its network
@@ -113,6 +114,6 @@ end_carried can rows network true subnet c = by (dhcp_port_on rows.ports network
     by None e = each_none (IsCarriedEdit can rows.networks)
     by (Some p) e =
         let found = found_at (is_dhcp_of network) rows.ports p e in
-        let fs = outside_subnet subnet p.fixed in
+        let fs = outside subnet p.fixed in
         each_append (IsCarriedEdit can rows.networks) (disassociations rows.floatings p.id fs) (port_left p fs ∷ []) (disassociations_carried can rows.networks rows.floatings p.id fs)
         (each_cons (IsCarriedEdit can rows.networks) (port_left p fs) [] (left p fs (c.at_host found.0 p found.1)) (each_none (IsCarriedEdit can rows.networks)))

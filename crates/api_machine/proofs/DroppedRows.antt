@@ -1,6 +1,6 @@
 -- Rows of a kind that go one by one: what passes a test goes.
 use Rattle.std.proofs.Common.{Bool, List, Some, [], ap, arith, cond, map, not, refl, slice_get, sym, suc, ℕ, ◌++◌, ◌∙◌, ◌∷◌, ◌≡◌, ◌≤◌}
-use Rattle.api_machine.proofs.EditLemmas.{all_gone, all_gone-filter, made-append, subnets_dropped}
+use Rattle.api_machine.proofs.EditLemmas.{all_gone, all_gone-filter, subnets_dropped}
 use Rattle.plan_networks.specs.NetworkCalls.{network_gone}
 use Rattle.row_laws.specs.Gone.{names_group, without_group, without_network}
 use Rattle.api_types.proofs.ListLemmas.{any-at, at_filter, at-any, false_true, one_row}
@@ -22,6 +22,7 @@ use Rattle.api_types.specs.declared.port.PortRow.{PortRow}
 use Rattle.api_types.specs.declared.subnet.SubnetRow.{SubnetRow}
 use Rattle.std.specs.List.{list_any}
 use Rattle.std.specs.Prelude.{filter}
+use Rattle.call_parts.proofs.EditLemmas.{made-append}
 
 -- tests that agree on the rows keep the same of them
 pub agree_filter : {X : Type 0} (p q : X → Bool) (xs : List X) → Each (λ x. p x ≡ q x) xs → filter p xs ≡ filter q xs

@@ -1,5 +1,5 @@
 -- Edits in a row, and rows that go one by one.
-use Rattle.std.proofs.Common.{◌≡◌, ℕ, ◌≤◌, List, [], ◌∷◌, ◌++◌, Bool, true, false, cond, Some, slice_get, remove, refl, ap, sym, ◌∙◌, map, not}
+use Rattle.std.proofs.Common.{◌≡◌, ℕ, ◌≤◌, List, [], ◌∷◌, Bool, true, false, cond, Some, slice_get, remove, refl, ap, sym, ◌∙◌, map, not}
 use Rattle.std.specs.Prelude.{filter, ◌&&◌, ◌||◌, count_by}
 use Rattle.std.specs.List.{list_any}
 use Rattle.api_types.specs.Ident.{Ident}
@@ -11,12 +11,7 @@ use Rattle.api_types.specs.declared.floating.FloatingRow.{FloatingRow}
 use Rattle.api_types.specs.declared.port.PortRow.{PortRow}
 use Rattle.api_types.specs.declared.subnet.SubnetRow.{SubnetRow}
 use Rattle.api_types.proofs.ListLemmas.{remove-filter}
-use Rattle.call_parts.specs.Edits.{Edit, Put, dropped, edited, gone_from, made, put_in}
-
--- edits are made one after the other
-pub made-append : (rows : RowLists) (es fs : List Edit) → made rows (es ++ fs) ≡ made (made rows es) fs
-made-append rows [] fs = refl
-made-append rows (e ∷ es) fs = made-append (edited rows e) es fs
+use Rattle.call_parts.specs.Edits.{Put, dropped, edited, gone_from, made, put_in}
 
 module _ {R : Type 0} (id_of : R → Ident) where
   -- the row at a place goes

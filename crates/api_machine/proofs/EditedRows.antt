@@ -8,8 +8,8 @@ use Rattle.api_types.specs.declared.refusal.Refusal.{Refusal}
 use Rattle.api_types.proofs.ListLemmas.{none_some, some_equal}
 use Rattle.api_types.proofs.NameLemmas.{ident_itself}
 use Rattle.call_parts.specs.Edits.{put_in}
-use Rattle.api_machine.proofs.OutcomeLemmas.{put_once}
 use Rattle.api_types.specs.Refusing.{first_refusal}
+use Rattle.call_parts.proofs.EditLaws.{put_once}
 
 -- where no refusal comes, none of them does
 pub none_refused : (os : List (Option Refusal)) → first_refusal os ≡ None → Each (λ o. o ≡ None) os

@@ -68,9 +68,9 @@ use Rattle.api_machine.proofs.AimLemmas.{aim_is, as_four, goal_alone, goal_leads
 use Rattle.api_machine.proofs.CallLemmas.{mapped, not_none, refused_at, none_for_other}
 use Rattle.api_machine.proofs.ChosenLemmas.{IsChosen, eui_is, formed, host_version, pool_chosen}
 use Rattle.api_machine.proofs.GatewayChosen.{AreChosen, chosen_hosts, chosen_named, just}
-use Rattle.api_machine.proofs.RoutersKept.{owner_named}
 use Rattle.api_machine.proofs.ServiceMade.{carried_drawn, drawing_is, floating_is, free_mac_is, service_made, made_small_mac}
 use Rattle.row_laws.proofs.PortPushed as pushed
+use Rattle.call_parts.proofs.OwnerLemmas.{owner_named}
 
 -- the address that is named, or a pool address, is of version 4 and may be chosen
 outer_chosen : (rows : RowLists) (c : IsConsistent rows) → Each (λ (s : SubnetRow). IsPrefix s.prefix) rows.subnets → (n : Ident) (mac : ℕ) (address : Option ℕ) (outer : Fixed) → outer_address rows n address ≡ Some outer → address_held rows n address ≡ None

@@ -4,7 +4,7 @@ use Rattle.std.specs.Prelude.{◌&&◌, ◌||◌, codes, filter, find, is_some, 
 use Rattle.std.specs.Str.{bytes_eq}
 use Rattle.api_types.specs.Least.{least_from}
 use Rattle.call_parts.specs.Edits.{Add, Put, accepted, made}
-use Rattle.plan_networks.specs.NetworkCalls.{changed_network, closing, creation_refusal, deletion_refusal, is_cleared, is_for_admin, is_kept, network_added, network_changed, network_created, network_deleted, network_edits, network_gone, network_shown, network_updated, new_network, one_if, openings, openings_count, opens, reopening, update_refusal}
+use Rattle.plan_networks.specs.NetworkCalls.{changed_network, closing, creation_refusal, deletion_refusal, is_cleared, is_kept, network_added, network_changed, network_created, network_deleted, network_edits, network_gone, network_shown, network_updated, new_network, one_if, openings, openings_count, opens, reopening, update_refusal}
 use Rattle.api_policy.specs.Permits.{admin_only, owner_only}
 use Rattle.api_policy.specs.Quotas.{over_quota}
 use Rattle.plan_networks.specs.NetworkRules.{bad_wire}
@@ -53,6 +53,7 @@ use Rattle.api_machine.proofs.NetworksApart.{subnets_kept}
 use Rattle.api_machine.proofs.ShownAlike.{network_shown_alike}
 use Rattle.api_machine.proofs.ApartLemmas.{absent, first_behind, first_same, heads_none, none_at, unless_same}
 use Rattle.api_machine.proofs.OwnAlike.{admin_passes, drawn_alike, owner_passes, quota_own, seen_user, users_seen}
+use Rattle.api_policy.specs.Reserved.{network_for_admin}
 
 -- the least number is found in one list, or looked for number by number
 found_least : (test : ℕ → Bool) (first many : ℕ) → find test (numbers first many) ≡ least_from test first many
@@ -86,10 +87,10 @@ record IsPlain (form : NetworkForm) : Type 0 where
   external : form.router_external ≡ Absent
   kind : form.provider_network_type ≡ Absent
 
-plain : (caller : Caller) → caller.admin ≡ false → (form : NetworkForm) → admin_only caller (is_for_admin caller form) ≡ None → IsPlain form × (is_for_other caller form.project_id form.tenant_id ≡ false)
+plain : (caller : Caller) → caller.admin ≡ false → (form : NetworkForm) → admin_only caller (network_for_admin caller form) ≡ None → IsPlain form × (is_for_other caller form.project_id form.tenant_id ≡ false)
 plain caller tenant form passes =
     let others = or_none (is_given form.shared || is_given form.router_external || is_given form.provider_network_type || is_given form.provider_physical_network || is_given form.provider_segmentation_id)
-    (is_for_other caller form.project_id form.tenant_id) (admin_passes caller tenant (is_for_admin caller form) passes) in
+    (is_for_other caller form.project_id form.tenant_id) (admin_passes caller tenant (network_for_admin caller form) passes) in
     let numbers = or_none (is_given form.shared || is_given form.router_external || is_given form.provider_network_type || is_given form.provider_physical_network) (is_given form.provider_segmentation_id) others.0 in
     let physical = or_none (is_given form.shared || is_given form.router_external || is_given form.provider_network_type) (is_given form.provider_physical_network) numbers.0 in
     let kinds = or_none (is_given form.shared || is_given form.router_external) (is_given form.provider_network_type) physical.0 in
@@ -194,11 +195,11 @@ module _ (settings : SettingsParts) (caller : Caller) (tenant : caller.admin ≡
           ∷ when (is_bad_number form) (Invalid (codes "provider:segmentation_id"))
           ∷ when (are_unlike form.project_id form.tenant_id) (Invalid (codes "tenant_id"))
           ∷ bad_wire settings form
-          ∷ admin_only caller (is_for_admin caller form)
+          ∷ admin_only caller (network_for_admin caller form)
           ∷ []
 
       plain_here : first_refusal heads ≡ None → IsPlain form × (is_for_other caller form.project_id form.tenant_id ≡ false)
-      plain_here passes = plain caller tenant form (none_at heads passes 4 (admin_only caller (is_for_admin caller form)) refl)
+      plain_here passes = plain caller tenant form (none_at heads passes 4 (admin_only caller (network_for_admin caller form)) refl)
 
       own : is_for_other caller form.project_id form.tenant_id ≡ false → owner ≡ caller.project
       own mine = owner_own caller form.project_id form.tenant_id mine
@@ -236,7 +237,7 @@ module _ (settings : SettingsParts) (caller : Caller) (tenant : caller.admin ≡
       ∙ (λ j. told (needing CountersSpent (drawing_at t (alike j).project 0) (λ drawing. replaced_plain caller drawing.rows (changed_network form m))))
 
   update_same : (form : NetworkForm) (n m : NetworkRow) → blank n ≡ blank m → update_refusal s caller form n ≡ update_refusal t caller form m
-  update_same form n m alike = first_same (admin_only caller (is_for_admin caller form)) (admin_only caller (is_for_admin caller form))
+  update_same form n m alike = first_same (admin_only caller (network_for_admin caller form)) (admin_only caller (network_for_admin caller form))
       (owner_only caller n.project ∷ closed s n ∷ []) (owner_only caller m.project ∷ closed t m ∷ []) refl
       (λ passes _. let is = (plain caller tenant form passes).0 in let none = closed_none s n is ∙ sym (closed_none t m is) in
       (λ j. first_refusal (owner_only caller (alike j).project ∷ none j ∷ [])))
@@ -253,13 +254,13 @@ module _ (settings : SettingsParts) (caller : Caller) (tenant : caller.admin ≡
       let at_n = seen_here s.rows caller name.id n found_n in
       let at_m = seen_here t.rows caller name.id m found_m in
       unless_same (update_refusal s caller form n) (update_refusal t caller form m) (changed_with s caller form n) (changed_with t caller form m) (update_same form n m alike)
-      (λ passes _. let is = (plain caller tenant form (none_at (refusals s n) passes 0 (admin_only caller (is_for_admin caller form)) refl)).0 in
+      (λ passes _. let is = (plain caller tenant form (none_at (refusals s n) passes 0 (admin_only caller (network_for_admin caller form)) refl)).0 in
       let own = bytes_same n.project caller.project (owner_passes caller tenant n.project (none_at (refusals s n) passes 1 (owner_only caller n.project) refl)) in
       ap told (changed_is s caller form n is)
       ∙ (changed_alike form at_n.0 at_m.0 n m at_n.1 at_m.1 (named_near s.rows caller name.id n found_n) alike own ∙ sym (ap told (changed_is t caller form m is)))))
     where
       refusals : State → NetworkRow → List (Option Refusal)
-      refusals state r = admin_only caller (is_for_admin caller form) ∷ owner_only caller r.project
+      refusals state r = admin_only caller (network_for_admin caller form) ∷ owner_only caller r.project
           ∷ (if is_cleared form.shared || is_cleared form.router_external then open_in_use state.rows caller (filter (is_kept form r.id) state.rows.policies) r else None) ∷ []
 
   -- taking a network out

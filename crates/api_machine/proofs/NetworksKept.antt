@@ -1,21 +1,19 @@
 -- Accepted calls on networks keep rows consistent.
 use Rattle.std.proofs.Common.{lit<, Bool, List, None, Option, Some, [], ap, arith, false, length, not, refl, slice_get, slice_set, subst, suc, sym, true, zero, ℕ, ◌+◌, ◌<◌, ◌≤◌, ◌∙◌, ◌++◌, ◌∷◌, ◌≡◌, ◌-◌, ◌^◌}
 use Rattle.std.proofs.lemmas.Bool.Decides.{nat_tests, Decides-eqb}
-use Rattle.plan_networks.specs.NetworkCalls.{changed_network, closing, creation_refusal, deletion_refusal, is_cleared, is_for_admin, is_kept, is_opened, network_added, network_changed, network_created, network_deleted, network_edits, network_gone, network_shown, network_updated, new_network, new_open_policy, one_if, opening, openings, openings_count, opens, reopening, update_refusal}
+use Rattle.plan_networks.specs.NetworkCalls.{changed_network, closing, creation_refusal, deletion_refusal, is_cleared, is_kept, is_opened, network_added, network_changed, network_created, network_deleted, network_edits, network_gone, network_shown, network_updated, new_network, new_open_policy, one_if, opening, openings, openings_count, opens, reopening, update_refusal}
 use Rattle.api_ml2.specs.Segments.{asked_segment, chosen_segment, fits_type, is_bad_number, is_bad_physical, least_number, network_with, segment_in_use, segment_of_type, segment_or}
 use Rattle.api_machine.proofs.CarriedKept.{IsCarriedEdit, made_carried}
 use Rattle.api_machine.proofs.CallLemmas.{unmapped, mapped}
 use Rattle.api_machine.proofs.ChoiceLemmas.{from_passes}
 use Rattle.api_machine.proofs.DroppedRows.{network_rows_gone}
 use Rattle.api_machine.proofs.EditedRows.{none_refused, put_at, filter_has}
-use Rattle.api_machine.proofs.EditLemmas.{made-append}
 use Rattle.api_machine.proofs.FixedFits.{each_append, each_cons, each_none}
 use Rattle.api_machine.proofs.GivenLemmas.{has_name}
 use Rattle.api_machine.proofs.OpenNeeds.{unneeded}
 use Rattle.api_machine.proofs.OpenPolicies.{IsOpenBy, IsReopened, more_granted, open_by, opened, reopened_keeps}
-use Rattle.api_machine.proofs.PortCreated.{owner_named}
 use Rattle.api_machine.proofs.RulesKept.{drawn_differ}
-use Rattle.api_machine.proofs.ServiceMade.{drawing_is, drawn_is, from_bounds}
+use Rattle.api_machine.proofs.ServiceMade.{drawing_is, from_bounds}
 use Rattle.api_machine.proofs.TypedKept.{HaveKept, IsTypedEdit, drawing_typed, made_typed}
 use Rattle.api_machine.proofs.OutcomeLemmas.{if_some as if_some_moved, moved_rows, named_is, needing_moved, not_when, unfound, unless_moved, found_at}
 use Rattle.net_settings.specs.Rules.{MeetsRules}
@@ -85,6 +83,10 @@ use Rattle.std.specs.Prelude.{codes, filter, find, if◌then◌else◌, nat_le, 
 use Rattle.std.specs.Str.{bytes_eq}
 use Rattle.row_laws.proofs.NetworkPushed as pushed
 use Rattle.row_laws.proofs.NetworkReplaced as replaced
+use Rattle.api_policy.specs.Reserved.{network_for_admin}
+use Rattle.call_parts.proofs.EditLemmas.{made-append}
+use Rattle.call_parts.proofs.DrawnLemmas.{drawn_is}
+use Rattle.call_parts.proofs.OwnerLemmas.{owner_named}
 
 -- taking a network out
 
@@ -300,7 +302,7 @@ network_created_kept settings state caller form rows reply rules c formed h =
     let bad : Option Refusal = when (is_bad_number form) (Invalid (codes "provider:segmentation_id")) in
     let used : Option Refusal = segment_in_use state.rows.networks (asked_segment form) in
     let os = when (is_bad_physical form) (Invalid (codes "provider:physical_network")) ∷ bad ∷ when (are_unlike form.project_id form.tenant_id) (Invalid (codes "tenant_id"))
-    ∷ bad_wire settings form ∷ admin_only caller (is_for_admin caller form) ∷ used ∷ over_quota settings state.rows owner NetworkKind ∷ [] in
+    ∷ bad_wire settings form ∷ admin_only caller (network_for_admin caller form) ∷ used ∷ over_quota settings state.rows owner NetworkKind ∷ [] in
     let none = none_refused os passed.0 in
     let fits = not_false (fits_type (value_of form.provider_network_type) (value_of form.provider_segmentation_id)) (not_when (is_bad_number form) (Invalid (codes "provider:segmentation_id")) (none 1 bad refl)) in
     let good = segment_good settings state.rows.networks (asked_segment form) segment rules
@@ -459,7 +461,7 @@ network_updated_kept settings state caller name form rows reply c h =
     (two_ids (is_opened form.shared (open_policy state.rows.policies n.id Shared)) (is_opened form.router_external (open_policy state.rows.policies n.id External))) drawing.1 in
     let cleared : Bool = is_cleared form.shared || is_cleared form.router_external in
     let use_of : Option Refusal = open_in_use state.rows caller (filter (is_kept form n.id) state.rows.policies) n in
-    let none = none_refused (admin_only caller (is_for_admin caller form) ∷ owner_only caller n.project ∷ (if cleared then use_of else None) ∷ []) passed.0 2 (if cleared then use_of else None) refl in
+    let none = none_refused (admin_only caller (network_for_admin caller form) ∷ owner_only caller n.project ∷ (if cleared then use_of else None) ∷ []) passed.0 2 (if cleared then use_of else None) refl in
     subst (HaveKept settings state.rows) (moved_rows (made d.rows (network_edits state.rows form n d)) rows _ reply drawing.2)
     (network_with_changes settings state.rows c caller here.place n here.at form d drawn
     (λ is. unneeded state.rows c caller here.place n here.at (is_cleared form.shared) (is_cleared form.router_external) (sym (ap (λ b. if b then use_of else None) is) ∙ none)))

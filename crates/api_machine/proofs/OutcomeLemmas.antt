@@ -1,6 +1,6 @@
 -- What an outcome says of the refusals that were tried before it, and of the rows that were looked for.
-use Rattle.std.proofs.Common.{◌≡◌, ℕ, zero, suc, List, [], ◌∷◌, Bool, true, false, cond, Option, Some, None, slice_get, slice_set, refl, ap, sym, ◌∙◌, ◌≤◌, arith, map, if◌then◌else◌}
-use Rattle.std.specs.Prelude.{find, filter, count_by}
+use Rattle.std.proofs.Common.{◌≡◌, ℕ, zero, suc, List, [], ◌∷◌, Bool, true, false, cond, Option, Some, None, slice_get, refl, ap, sym, ◌∙◌, if◌then◌else◌}
+use Rattle.std.specs.Prelude.{find, filter}
 use Rattle.api_types.specs.Ident.{Ident}
 use Rattle.api_types.specs.Lists.{Each}
 use Rattle.api_types.specs.Outcome.{Outcome, Moved}
@@ -8,8 +8,7 @@ use Rattle.api_types.specs.Printed.{Reply}
 use Rattle.api_types.specs.RowLists.{RowLists}
 use Rattle.api_types.specs.Table.{ident_eq}
 use Rattle.api_types.specs.declared.refusal.Refusal.{Refusal}
-use Rattle.std.proofs.lemmas.List.Sums.{sum_by-cons}
-use Rattle.api_types.proofs.ListLemmas.{none_some, some_equal, at_filter, uncounted, none-any, none-counted, false_true}
+use Rattle.api_types.proofs.ListLemmas.{none_some, some_equal, at_filter}
 use Rattle.api_types.proofs.NameLemmas.{ident_same}
 use Rattle.api_types.specs.Refusing.{at_name, first_refusal, needing, unless, when}
 
@@ -72,22 +71,3 @@ unfound test (a ∷ xs) h k x at = by (test a) refl h k at (λ g j. unfound test
     by true is h k at rest = none_some a _ (sym h)
     by false is h zero at rest = ap test (sym (some_equal a x at)) ∙ is
     by false is h (suc k) at rest = rest h k at
-
-others : {R : Type 0} (test : R → Bool) (new : R) (xs : List R) → Each (λ x. test x ≡ false) xs → map (λ r. if test r then new else r) xs ≡ xs
-others test new [] e = refl
-others test new (x ∷ xs) e = λ j. (if e 0 x refl j then new else x) ∷ others test new xs (λ k y at. e (suc k) y at) j
-
--- where a test is passed once, by the row at a place, another row in the stead of each that passes is put at that place
-pub put_once : {R : Type 0} (test : R → Bool) (rows : List R) (k : ℕ) (old new : R) → slice_get rows k ≡ Some old → test old ≡ true → count_by test rows ≤ 1
-    → map (λ r. if test r then new else r) rows ≡ slice_set rows k new
-put_once test [] k old new at is once = none_some old _ at
-put_once test (r ∷ rows) zero old new at is once =
-    let hit : test r ≡ true = ap test (some_equal r old at) ∙ is in
-    let rest = others test new rows (none-any test rows (none-counted test rows (uncounted test r rows once hit))) in
-    λ j. (if hit j then new else r) ∷ rest j
-put_once test (r ∷ rows) (suc k) old new at is once =
-    by (test r) refl (put_once test rows k old new at is (omega (arith, sum_by-cons (λ y. cond {A = ℕ} (test y) 1 0) r rows, once)))
-  where
-    by : (b : Bool) → test r ≡ b → map (λ r. if test r then new else r) rows ≡ slice_set rows k new → (if b then new else r) ∷ map (λ r. if test r then new else r) rows ≡ r ∷ slice_set rows k new
-    by true hit rest = false_true _ (sym (none-any test rows (none-counted test rows (uncounted test r rows once hit)) k old at) ∙ is)
-    by false miss rest = λ j. r ∷ rest j

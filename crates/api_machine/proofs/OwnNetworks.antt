@@ -22,9 +22,10 @@ use Rattle.call_parts.specs.State.{State, drawing_at}
 use Rattle.api_machine.proofs.Own.{is_own_outcome, own_first, own_needing, own_unless, owns}
 use Rattle.api_machine.proofs.OwnChecks.{own_admin_only, own_over_quota, own_owner_only, own_segment_in_use}
 use Rattle.net_settings.specs.Settings.{SettingsParts}
-use Rattle.plan_networks.specs.NetworkCalls.{changed_network, creation_refusal, deletion_refusal, is_cleared, is_for_admin, is_kept, network_added, network_changed, network_created, network_deleted, network_edits, network_made, network_shown, network_updated, new_network, openings_count, opens, update_refusal}
+use Rattle.plan_networks.specs.NetworkCalls.{changed_network, creation_refusal, deletion_refusal, is_cleared, is_kept, network_added, network_changed, network_created, network_deleted, network_edits, network_made, network_shown, network_updated, new_network, openings_count, opens, update_refusal}
 use Rattle.plan_networks.specs.NetworkRules.{bad_wire}
 use Rattle.std.specs.Prelude.{codes, filter, if◌then◌else◌, ◌+◌, ◌||◌}
+use Rattle.api_policy.specs.Reserved.{network_for_admin}
 
 -- NetworkRules
 
@@ -38,11 +39,11 @@ own_network_added caller drawing form n = grind arith
 
 pub own_creation_refusal : (settings : SettingsParts) (rows : RowLists) (caller : Caller) (form : NetworkForm) (owner : List ℕ) → owns (creation_refusal settings rows caller form owner) ≡ true
 own_creation_refusal settings rows caller form owner =
-    own_first (when (is_bad_physical form) (Invalid (codes "provider:physical_network"))) (when (is_bad_number form) (Invalid (codes "provider:segmentation_id")) ∷ when (are_unlike form.project_id form.tenant_id) (Invalid (codes "tenant_id")) ∷ bad_wire settings form ∷ admin_only caller (is_for_admin caller form) ∷ segment_in_use rows.networks (asked_segment form) ∷ over_quota settings rows owner NetworkKind ∷ []) (grind arith)
-    (own_first (when (is_bad_number form) (Invalid (codes "provider:segmentation_id"))) (when (are_unlike form.project_id form.tenant_id) (Invalid (codes "tenant_id")) ∷ bad_wire settings form ∷ admin_only caller (is_for_admin caller form) ∷ segment_in_use rows.networks (asked_segment form) ∷ over_quota settings rows owner NetworkKind ∷ []) (grind arith)
-    (own_first (when (are_unlike form.project_id form.tenant_id) (Invalid (codes "tenant_id"))) (bad_wire settings form ∷ admin_only caller (is_for_admin caller form) ∷ segment_in_use rows.networks (asked_segment form) ∷ over_quota settings rows owner NetworkKind ∷ []) (grind arith)
-    (own_first (bad_wire settings form) (admin_only caller (is_for_admin caller form) ∷ segment_in_use rows.networks (asked_segment form) ∷ over_quota settings rows owner NetworkKind ∷ []) (own_bad_wire settings form)
-    (own_first (admin_only caller (is_for_admin caller form)) (segment_in_use rows.networks (asked_segment form) ∷ over_quota settings rows owner NetworkKind ∷ []) (own_admin_only caller (is_for_admin caller form))
+    own_first (when (is_bad_physical form) (Invalid (codes "provider:physical_network"))) (when (is_bad_number form) (Invalid (codes "provider:segmentation_id")) ∷ when (are_unlike form.project_id form.tenant_id) (Invalid (codes "tenant_id")) ∷ bad_wire settings form ∷ admin_only caller (network_for_admin caller form) ∷ segment_in_use rows.networks (asked_segment form) ∷ over_quota settings rows owner NetworkKind ∷ []) (grind arith)
+    (own_first (when (is_bad_number form) (Invalid (codes "provider:segmentation_id"))) (when (are_unlike form.project_id form.tenant_id) (Invalid (codes "tenant_id")) ∷ bad_wire settings form ∷ admin_only caller (network_for_admin caller form) ∷ segment_in_use rows.networks (asked_segment form) ∷ over_quota settings rows owner NetworkKind ∷ []) (grind arith)
+    (own_first (when (are_unlike form.project_id form.tenant_id) (Invalid (codes "tenant_id"))) (bad_wire settings form ∷ admin_only caller (network_for_admin caller form) ∷ segment_in_use rows.networks (asked_segment form) ∷ over_quota settings rows owner NetworkKind ∷ []) (grind arith)
+    (own_first (bad_wire settings form) (admin_only caller (network_for_admin caller form) ∷ segment_in_use rows.networks (asked_segment form) ∷ over_quota settings rows owner NetworkKind ∷ []) (own_bad_wire settings form)
+    (own_first (admin_only caller (network_for_admin caller form)) (segment_in_use rows.networks (asked_segment form) ∷ over_quota settings rows owner NetworkKind ∷ []) (own_admin_only caller (network_for_admin caller form))
     (own_first (segment_in_use rows.networks (asked_segment form)) (over_quota settings rows owner NetworkKind ∷ []) (own_segment_in_use rows.networks (asked_segment form))
     (own_first (over_quota settings rows owner NetworkKind) ([]) (own_over_quota settings rows owner NetworkKind)
     (refl)))))))
@@ -58,7 +59,7 @@ own_network_created settings state caller form =
 
 pub own_update_refusal : (state : State) (caller : Caller) (form : NetworkForm) (n : NetworkRow) → owns (update_refusal state caller form n) ≡ true
 own_update_refusal state caller form n =
-    own_first (admin_only caller (is_for_admin caller form)) (owner_only caller n.project ∷ (if is_cleared form.shared || is_cleared form.router_external then open_in_use state.rows caller (filter (is_kept form n.id) state.rows.policies) n else None) ∷ []) (own_admin_only caller (is_for_admin caller form))
+    own_first (admin_only caller (network_for_admin caller form)) (owner_only caller n.project ∷ (if is_cleared form.shared || is_cleared form.router_external then open_in_use state.rows caller (filter (is_kept form n.id) state.rows.policies) n else None) ∷ []) (own_admin_only caller (network_for_admin caller form))
     (own_first (owner_only caller n.project) ((if is_cleared form.shared || is_cleared form.router_external then open_in_use state.rows caller (filter (is_kept form n.id) state.rows.policies) n else None) ∷ []) (own_owner_only caller n.project)
     (own_first (if is_cleared form.shared || is_cleared form.router_external then open_in_use state.rows caller (filter (is_kept form n.id) state.rows.policies) n else None) ([]) (grind arith)
     (refl)))

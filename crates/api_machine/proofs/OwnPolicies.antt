@@ -21,14 +21,15 @@ use Rattle.call_parts.specs.State.{State, drawing_at, is_last}
 use Rattle.api_machine.proofs.Own.{is_own_outcome, own_first, own_needing, own_unless, owns}
 use Rattle.api_machine.proofs.OwnChecks.{own_admin_only, own_network_owner, own_over_quota, own_owner_only, own_policy_in_use}
 use Rattle.net_settings.specs.Settings.{SettingsParts}
-use Rattle.plan_policies.specs.PolicyCalls.{changed_policy, creation_refusal, deletion_refusal, equal_policy, is_for_admin, new_policy, policy_added, policy_created, policy_deleted, policy_exists, policy_made, policy_replaced, policy_updated, update_refusal}
+use Rattle.plan_policies.specs.PolicyCalls.{changed_policy, creation_refusal, deletion_refusal, equal_policy, new_policy, policy_added, policy_created, policy_deleted, policy_exists, policy_made, policy_replaced, policy_updated, update_refusal}
 use Rattle.std.specs.Prelude.{codes, option_map}
+use Rattle.api_policy.specs.Reserved.{policy_for_admin}
 
 -- PolicyCalls
 
 pub own_creation_refusal : (settings : SettingsParts) (rows : RowLists) (caller : Caller) (form : PolicyForm) (owner : List ℕ) (n : NetworkRow) → owns (creation_refusal settings rows caller form owner n) ≡ true
 own_creation_refusal settings rows caller form owner n =
-    own_first (admin_only caller (is_for_admin caller form)) (network_owner rows caller true n.id ∷ option_map policy_exists (equal_policy rows.policies (new_policy form owner n.id no_id)) ∷ over_quota settings rows owner PolicyKind ∷ []) (own_admin_only caller (is_for_admin caller form))
+    own_first (admin_only caller (policy_for_admin caller form)) (network_owner rows caller true n.id ∷ option_map policy_exists (equal_policy rows.policies (new_policy form owner n.id no_id)) ∷ over_quota settings rows owner PolicyKind ∷ []) (own_admin_only caller (policy_for_admin caller form))
     (own_first (network_owner rows caller true n.id) (option_map policy_exists (equal_policy rows.policies (new_policy form owner n.id no_id)) ∷ over_quota settings rows owner PolicyKind ∷ []) (own_network_owner rows caller true n.id)
     (own_first (option_map policy_exists (equal_policy rows.policies (new_policy form owner n.id no_id))) (over_quota settings rows owner PolicyKind ∷ []) (grind arith)
     (own_first (over_quota settings rows owner PolicyKind) ([]) (own_over_quota settings rows owner PolicyKind)
@@ -49,7 +50,7 @@ own_policy_created settings state caller form =
 
 pub own_update_refusal : (state : State) (caller : Caller) (form : PolicyForm) (old : PolicyRow) (new : PolicyRow) → owns (update_refusal state caller form old new) ≡ true
 own_update_refusal state caller form old new =
-    own_first (admin_only caller (is_for_admin caller form)) (owner_only caller old.project ∷ policy_in_use state.rows caller (put_in (λ q. q.id) new state.rows.policies) old ∷ option_map policy_exists (equal_policy (gone_from (λ q. q.id) old.id state.rows.policies) new) ∷ when (is_last state) CountersSpent ∷ []) (own_admin_only caller (is_for_admin caller form))
+    own_first (admin_only caller (policy_for_admin caller form)) (owner_only caller old.project ∷ policy_in_use state.rows caller (put_in (λ q. q.id) new state.rows.policies) old ∷ option_map policy_exists (equal_policy (gone_from (λ q. q.id) old.id state.rows.policies) new) ∷ when (is_last state) CountersSpent ∷ []) (own_admin_only caller (policy_for_admin caller form))
     (own_first (owner_only caller old.project) (policy_in_use state.rows caller (put_in (λ q. q.id) new state.rows.policies) old ∷ option_map policy_exists (equal_policy (gone_from (λ q. q.id) old.id state.rows.policies) new) ∷ when (is_last state) CountersSpent ∷ []) (own_owner_only caller old.project)
     (own_first (policy_in_use state.rows caller (put_in (λ q. q.id) new state.rows.policies) old) (option_map policy_exists (equal_policy (gone_from (λ q. q.id) old.id state.rows.policies) new) ∷ when (is_last state) CountersSpent ∷ []) (own_policy_in_use state.rows caller (put_in (λ q. q.id) new state.rows.policies) old)
     (own_first (option_map policy_exists (equal_policy (gone_from (λ q. q.id) old.id state.rows.policies) new)) (when (is_last state) CountersSpent ∷ []) (grind arith)

@@ -31,9 +31,10 @@ use Rattle.api_machine.proofs.Own.{is_own_outcome, own_first, own_needing, own_t
 use Rattle.api_machine.proofs.OwnChecks.{own_admin_only, own_network_access, own_network_owner, own_over_quota, own_owner_only, own_port_delete, own_service_in_use, own_unless_all}
 use Rattle.net_addr.specs.declared.address.Addr.{Addr}
 use Rattle.net_settings.specs.Settings.{SettingsParts}
-use Rattle.plan_ports.specs.PortCalls.{addresses_after, addresses_at_first, bad_bare_after, bad_first_fixed, bad_next_fixed, body_refusal, changed_port, changes_service, creation_refusal, deletion_refusal, is_for_admin, is_for_owner, is_group_for, items_of, mac_after, mac_at_first, mac_taken, new_port, port_added, port_changed, port_created, port_deleted, port_gone, port_made, port_replaced, port_updated, update_refusal, values_taken}
+use Rattle.plan_ports.specs.PortCalls.{addresses_after, addresses_at_first, bad_bare_after, bad_first_fixed, bad_next_fixed, body_refusal, changed_port, changes_service, creation_refusal, deletion_refusal, is_group_for, items_of, mac_after, mac_at_first, mac_taken, new_port, port_added, port_changed, port_created, port_deleted, port_gone, port_made, port_replaced, port_updated, update_refusal, values_taken}
 use Rattle.plan_ports.specs.PortRules.{bad_bare, bad_fixed, is_subnet_seen}
 use Rattle.std.specs.Prelude.{codes, option_and_then}
+use Rattle.api_policy.specs.Reserved.{port_for_admin, port_for_owner}
 
 -- PortRules
 
@@ -64,9 +65,9 @@ own_body_refusal rows caller form =
 
 pub own_creation_refusal : (settings : SettingsParts) (rows : RowLists) (caller : Caller) (form : PortForm) (n : NetworkRow) (owner : List ℕ) → owns (creation_refusal settings rows caller form n owner) ≡ true
 own_creation_refusal settings rows caller form n owner =
-    own_first (unless_all GroupKind (is_group_for rows caller owner) (value_or [] form.security_groups)) (admin_only caller (is_for_admin caller form) ∷ network_owner rows caller (is_for_owner form) n.id ∷ network_access rows caller n.id ∷ values_taken (is_address_held rows.ports n.id) (is_mac_held rows.ports n.id) n.id (first_known (subnets_on rows.subnets n.id) (mac_at_first rows.ports form n.id) form.fixed_ips) form ∷ over_quota settings rows owner PortKind ∷ []) (own_unless_all GroupKind (is_group_for rows caller owner) (value_or [] form.security_groups))
-    (own_first (admin_only caller (is_for_admin caller form)) (network_owner rows caller (is_for_owner form) n.id ∷ network_access rows caller n.id ∷ values_taken (is_address_held rows.ports n.id) (is_mac_held rows.ports n.id) n.id (first_known (subnets_on rows.subnets n.id) (mac_at_first rows.ports form n.id) form.fixed_ips) form ∷ over_quota settings rows owner PortKind ∷ []) (own_admin_only caller (is_for_admin caller form))
-    (own_first (network_owner rows caller (is_for_owner form) n.id) (network_access rows caller n.id ∷ values_taken (is_address_held rows.ports n.id) (is_mac_held rows.ports n.id) n.id (first_known (subnets_on rows.subnets n.id) (mac_at_first rows.ports form n.id) form.fixed_ips) form ∷ over_quota settings rows owner PortKind ∷ []) (own_network_owner rows caller (is_for_owner form) n.id)
+    own_first (unless_all GroupKind (is_group_for rows caller owner) (value_or [] form.security_groups)) (admin_only caller (port_for_admin caller form) ∷ network_owner rows caller (port_for_owner form) n.id ∷ network_access rows caller n.id ∷ values_taken (is_address_held rows.ports n.id) (is_mac_held rows.ports n.id) n.id (first_known (subnets_on rows.subnets n.id) (mac_at_first rows.ports form n.id) form.fixed_ips) form ∷ over_quota settings rows owner PortKind ∷ []) (own_unless_all GroupKind (is_group_for rows caller owner) (value_or [] form.security_groups))
+    (own_first (admin_only caller (port_for_admin caller form)) (network_owner rows caller (port_for_owner form) n.id ∷ network_access rows caller n.id ∷ values_taken (is_address_held rows.ports n.id) (is_mac_held rows.ports n.id) n.id (first_known (subnets_on rows.subnets n.id) (mac_at_first rows.ports form n.id) form.fixed_ips) form ∷ over_quota settings rows owner PortKind ∷ []) (own_admin_only caller (port_for_admin caller form))
+    (own_first (network_owner rows caller (port_for_owner form) n.id) (network_access rows caller n.id ∷ values_taken (is_address_held rows.ports n.id) (is_mac_held rows.ports n.id) n.id (first_known (subnets_on rows.subnets n.id) (mac_at_first rows.ports form n.id) form.fixed_ips) form ∷ over_quota settings rows owner PortKind ∷ []) (own_network_owner rows caller (port_for_owner form) n.id)
     (own_first (network_access rows caller n.id) (values_taken (is_address_held rows.ports n.id) (is_mac_held rows.ports n.id) n.id (first_known (subnets_on rows.subnets n.id) (mac_at_first rows.ports form n.id) form.fixed_ips) form ∷ over_quota settings rows owner PortKind ∷ []) (own_network_access rows caller n.id)
     (own_first (values_taken (is_address_held rows.ports n.id) (is_mac_held rows.ports n.id) n.id (first_known (subnets_on rows.subnets n.id) (mac_at_first rows.ports form n.id) form.fixed_ips) form) (over_quota settings rows owner PortKind ∷ []) (own_values_taken (is_address_held rows.ports n.id) (is_mac_held rows.ports n.id) n.id (first_known (subnets_on rows.subnets n.id) (mac_at_first rows.ports form n.id) form.fixed_ips) form)
     (own_first (over_quota settings rows owner PortKind) ([]) (own_over_quota settings rows owner PortKind)
@@ -93,13 +94,13 @@ own_bad_next_fixed rows caller form p subnets = grind arith
 
 pub own_update_refusal : (rows : RowLists) (caller : Caller) (form : PortForm) (p : PortRow) → owns (update_refusal rows caller form p) ≡ true
 own_update_refusal rows caller form p =
-    own_first (bad_next_fixed rows caller form p (subnets_on rows.subnets p.network)) (bad_bare_after form p ∷ unless_all SubnetKind (is_subnet_seen rows caller) (named_subnets (items_of form)) ∷ unless_all GroupKind (is_group_for rows caller p.project) (value_or [] form.security_groups) ∷ admin_only caller (is_for_admin caller form) ∷ owner_only caller p.project ∷ network_owner rows caller (is_for_owner form) p.network ∷ service_in_use rows caller (changes_service form) p ∷ values_taken (is_held_by_other rows.ports p) (is_mac_of_other rows.ports p) p.network (next_known (subnets_on rows.subnets p.network) p (mac_after form p) form.fixed_ips) form ∷ []) (own_bad_next_fixed rows caller form p (subnets_on rows.subnets p.network))
-    (own_first (bad_bare_after form p) (unless_all SubnetKind (is_subnet_seen rows caller) (named_subnets (items_of form)) ∷ unless_all GroupKind (is_group_for rows caller p.project) (value_or [] form.security_groups) ∷ admin_only caller (is_for_admin caller form) ∷ owner_only caller p.project ∷ network_owner rows caller (is_for_owner form) p.network ∷ service_in_use rows caller (changes_service form) p ∷ values_taken (is_held_by_other rows.ports p) (is_mac_of_other rows.ports p) p.network (next_known (subnets_on rows.subnets p.network) p (mac_after form p) form.fixed_ips) form ∷ []) (own_bad_bare_after form p)
-    (own_first (unless_all SubnetKind (is_subnet_seen rows caller) (named_subnets (items_of form))) (unless_all GroupKind (is_group_for rows caller p.project) (value_or [] form.security_groups) ∷ admin_only caller (is_for_admin caller form) ∷ owner_only caller p.project ∷ network_owner rows caller (is_for_owner form) p.network ∷ service_in_use rows caller (changes_service form) p ∷ values_taken (is_held_by_other rows.ports p) (is_mac_of_other rows.ports p) p.network (next_known (subnets_on rows.subnets p.network) p (mac_after form p) form.fixed_ips) form ∷ []) (own_unless_all SubnetKind (is_subnet_seen rows caller) (named_subnets (items_of form)))
-    (own_first (unless_all GroupKind (is_group_for rows caller p.project) (value_or [] form.security_groups)) (admin_only caller (is_for_admin caller form) ∷ owner_only caller p.project ∷ network_owner rows caller (is_for_owner form) p.network ∷ service_in_use rows caller (changes_service form) p ∷ values_taken (is_held_by_other rows.ports p) (is_mac_of_other rows.ports p) p.network (next_known (subnets_on rows.subnets p.network) p (mac_after form p) form.fixed_ips) form ∷ []) (own_unless_all GroupKind (is_group_for rows caller p.project) (value_or [] form.security_groups))
-    (own_first (admin_only caller (is_for_admin caller form)) (owner_only caller p.project ∷ network_owner rows caller (is_for_owner form) p.network ∷ service_in_use rows caller (changes_service form) p ∷ values_taken (is_held_by_other rows.ports p) (is_mac_of_other rows.ports p) p.network (next_known (subnets_on rows.subnets p.network) p (mac_after form p) form.fixed_ips) form ∷ []) (own_admin_only caller (is_for_admin caller form))
-    (own_first (owner_only caller p.project) (network_owner rows caller (is_for_owner form) p.network ∷ service_in_use rows caller (changes_service form) p ∷ values_taken (is_held_by_other rows.ports p) (is_mac_of_other rows.ports p) p.network (next_known (subnets_on rows.subnets p.network) p (mac_after form p) form.fixed_ips) form ∷ []) (own_owner_only caller p.project)
-    (own_first (network_owner rows caller (is_for_owner form) p.network) (service_in_use rows caller (changes_service form) p ∷ values_taken (is_held_by_other rows.ports p) (is_mac_of_other rows.ports p) p.network (next_known (subnets_on rows.subnets p.network) p (mac_after form p) form.fixed_ips) form ∷ []) (own_network_owner rows caller (is_for_owner form) p.network)
+    own_first (bad_next_fixed rows caller form p (subnets_on rows.subnets p.network)) (bad_bare_after form p ∷ unless_all SubnetKind (is_subnet_seen rows caller) (named_subnets (items_of form)) ∷ unless_all GroupKind (is_group_for rows caller p.project) (value_or [] form.security_groups) ∷ admin_only caller (port_for_admin caller form) ∷ owner_only caller p.project ∷ network_owner rows caller (port_for_owner form) p.network ∷ service_in_use rows caller (changes_service form) p ∷ values_taken (is_held_by_other rows.ports p) (is_mac_of_other rows.ports p) p.network (next_known (subnets_on rows.subnets p.network) p (mac_after form p) form.fixed_ips) form ∷ []) (own_bad_next_fixed rows caller form p (subnets_on rows.subnets p.network))
+    (own_first (bad_bare_after form p) (unless_all SubnetKind (is_subnet_seen rows caller) (named_subnets (items_of form)) ∷ unless_all GroupKind (is_group_for rows caller p.project) (value_or [] form.security_groups) ∷ admin_only caller (port_for_admin caller form) ∷ owner_only caller p.project ∷ network_owner rows caller (port_for_owner form) p.network ∷ service_in_use rows caller (changes_service form) p ∷ values_taken (is_held_by_other rows.ports p) (is_mac_of_other rows.ports p) p.network (next_known (subnets_on rows.subnets p.network) p (mac_after form p) form.fixed_ips) form ∷ []) (own_bad_bare_after form p)
+    (own_first (unless_all SubnetKind (is_subnet_seen rows caller) (named_subnets (items_of form))) (unless_all GroupKind (is_group_for rows caller p.project) (value_or [] form.security_groups) ∷ admin_only caller (port_for_admin caller form) ∷ owner_only caller p.project ∷ network_owner rows caller (port_for_owner form) p.network ∷ service_in_use rows caller (changes_service form) p ∷ values_taken (is_held_by_other rows.ports p) (is_mac_of_other rows.ports p) p.network (next_known (subnets_on rows.subnets p.network) p (mac_after form p) form.fixed_ips) form ∷ []) (own_unless_all SubnetKind (is_subnet_seen rows caller) (named_subnets (items_of form)))
+    (own_first (unless_all GroupKind (is_group_for rows caller p.project) (value_or [] form.security_groups)) (admin_only caller (port_for_admin caller form) ∷ owner_only caller p.project ∷ network_owner rows caller (port_for_owner form) p.network ∷ service_in_use rows caller (changes_service form) p ∷ values_taken (is_held_by_other rows.ports p) (is_mac_of_other rows.ports p) p.network (next_known (subnets_on rows.subnets p.network) p (mac_after form p) form.fixed_ips) form ∷ []) (own_unless_all GroupKind (is_group_for rows caller p.project) (value_or [] form.security_groups))
+    (own_first (admin_only caller (port_for_admin caller form)) (owner_only caller p.project ∷ network_owner rows caller (port_for_owner form) p.network ∷ service_in_use rows caller (changes_service form) p ∷ values_taken (is_held_by_other rows.ports p) (is_mac_of_other rows.ports p) p.network (next_known (subnets_on rows.subnets p.network) p (mac_after form p) form.fixed_ips) form ∷ []) (own_admin_only caller (port_for_admin caller form))
+    (own_first (owner_only caller p.project) (network_owner rows caller (port_for_owner form) p.network ∷ service_in_use rows caller (changes_service form) p ∷ values_taken (is_held_by_other rows.ports p) (is_mac_of_other rows.ports p) p.network (next_known (subnets_on rows.subnets p.network) p (mac_after form p) form.fixed_ips) form ∷ []) (own_owner_only caller p.project)
+    (own_first (network_owner rows caller (port_for_owner form) p.network) (service_in_use rows caller (changes_service form) p ∷ values_taken (is_held_by_other rows.ports p) (is_mac_of_other rows.ports p) p.network (next_known (subnets_on rows.subnets p.network) p (mac_after form p) form.fixed_ips) form ∷ []) (own_network_owner rows caller (port_for_owner form) p.network)
     (own_first (service_in_use rows caller (changes_service form) p) (values_taken (is_held_by_other rows.ports p) (is_mac_of_other rows.ports p) p.network (next_known (subnets_on rows.subnets p.network) p (mac_after form p) form.fixed_ips) form ∷ []) (own_service_in_use rows caller (changes_service form) p)
     (own_first (values_taken (is_held_by_other rows.ports p) (is_mac_of_other rows.ports p) p.network (next_known (subnets_on rows.subnets p.network) p (mac_after form p) form.fixed_ips) form) ([]) (own_values_taken (is_held_by_other rows.ports p) (is_mac_of_other rows.ports p) p.network (next_known (subnets_on rows.subnets p.network) p (mac_after form p) form.fixed_ips) form)
     (refl)))))))))

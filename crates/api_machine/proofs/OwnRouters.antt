@@ -25,9 +25,10 @@ use Rattle.call_parts.specs.State.{State}
 use Rattle.api_machine.proofs.Own.{is_own_outcome, own_first, own_needing, own_then, own_unless, owns}
 use Rattle.api_machine.proofs.OwnChecks.{own_admin_only, own_gateway_use, own_over_quota, own_owner_only, own_unless_found}
 use Rattle.net_settings.specs.Settings.{SettingsParts}
-use Rattle.plan_routers.specs.RouterCalls.{bad_first_gateway, changed_router, creation_refusal, deletion_refusal, gateway_added, gateway_name, gateway_network, gateway_replaced, lost_gateway, new_gateway, outer_taken, router_added, router_changed, router_created, router_deleted, router_made, router_moved, router_replaced, router_updated, router_with, snat_asked, update_refusal}
+use Rattle.plan_routers.specs.RouterCalls.{bad_first_gateway, changed_router, creation_refusal, deletion_refusal, gateway_added, gateway_name, gateway_network, gateway_replaced, lost_gateway, new_gateway, outer_taken, router_added, router_changed, router_created, router_deleted, router_made, router_moved, router_replaced, router_updated, router_with, update_refusal}
 use Rattle.plan_routers.specs.RouterRules.{bad_gateway, bad_interface_port, bad_interface_subnet, bad_routes}
 use Rattle.std.specs.Prelude.{codes, is_some, option_and_then, ◌||◌}
+use Rattle.api_policy.specs.Reserved.{snat_asked}
 
 -- RouterRules
 

@@ -5,7 +5,7 @@ use Rattle.std.specs.Str.{bytes_eq}
 use Rattle.call_parts.specs.BodyNames.{no_id, text_of}
 use Rattle.call_parts.specs.Edits.{Drop, accepted, gone_from, put_in}
 use Rattle.api_policy.specs.Permits.{admin_only, network_owner, owner_only}
-use Rattle.plan_policies.specs.PolicyCalls.{changed_policy, creation_refusal, deletion_refusal, equal_policy, is_for_admin, is_for_all, new_policy, policy_added, policy_created, policy_deleted, policy_exists, policy_made, policy_replaced, policy_updated, update_refusal}
+use Rattle.plan_policies.specs.PolicyCalls.{changed_policy, creation_refusal, deletion_refusal, equal_policy, new_policy, policy_added, policy_created, policy_deleted, policy_exists, policy_made, policy_replaced, policy_updated, update_refusal}
 use Rattle.api_policy.specs.PolicyNeeds.{policy_user}
 use Rattle.api_policy.specs.Quotas.{over_quota}
 use Rattle.api_policy.specs.Seen.{own_rows, policy_seen}
@@ -48,6 +48,7 @@ use Rattle.api_machine.proofs.ApartLemmas.{first_same, head_none, needing_same, 
 use Rattle.api_machine.proofs.FoundTold.{found_there}
 use Rattle.api_machine.proofs.HeldAlike.{held_alike, policies_on, project_alike, use_alike}
 use Rattle.api_machine.proofs.OwnAlike.{admin_passes, drawn_alike, own_here, owns_alike, policies_alike, quota_own, when_true}
+use Rattle.api_policy.specs.Reserved.{is_for_all, policy_for_admin}
 
 abbrev pub policy_id : PolicyRow → Ident
 policy_id l = l.id
@@ -104,7 +105,7 @@ module _ (settings : SettingsParts) (caller : Caller) (tenant : caller.admin ≡
       → equal_policy kept l ≡ equal_policy left l
   equal_same i held l on kept left alike = equal_on i l on kept ∙ (ap (λ ps. equal_policy ps l) alike ∙ sym (equal_on i l on left))
 
-  creation_same : (form : PolicyForm) (owner : List ℕ) (n m : NetworkRow) → blank n ≡ blank m → (admin_only caller (is_for_admin caller form) ≡ None → owner ≡ caller.project)
+  creation_same : (form : PolicyForm) (owner : List ℕ) (n m : NetworkRow) → blank n ≡ blank m → (admin_only caller (policy_for_admin caller form) ≡ None → owner ≡ caller.project)
       → creation_refusal settings s.rows caller form owner n ≡ creation_refusal settings t.rows caller form owner m
   creation_same form owner n m alike mine =
       first_same admin admin
@@ -121,7 +122,7 @@ module _ (settings : SettingsParts) (caller : Caller) (tenant : caller.admin ≡
       (λ j. first_refusal (option_map policy_exists (equal j) ∷ quota j ∷ []))))
     where
       admin : Option Refusal
-      admin = admin_only caller (is_for_admin caller form)
+      admin = admin_only caller (policy_for_admin caller form)
 
       owns : owns_network s.rows caller.project n.id ≡ owns_network t.rows caller.project m.id
       owns = owns_alike settings caller tenant s t same n.id ∙ ap (λ (x : NetworkRow). owns_network t.rows caller.project x.id) alike
@@ -136,7 +137,7 @@ module _ (settings : SettingsParts) (caller : Caller) (tenant : caller.admin ≡
       (needing CountersSpent (drawing_at s owner 1) (λ drawing. policy_added caller drawing.rows (new_policy form owner n.id (drawn_id drawing 0))))
       (needing CountersSpent (drawing_at t owner 1) (λ drawing. policy_added caller drawing.rows (new_policy form owner m.id (drawn_id drawing 0))))
       (creation_same form owner n m alike mine)
-      (λ passes _. drawn_alike settings caller tenant s t same owner (mine (head_none (admin_only caller (is_for_admin caller form)) (rest_at s n) passes)) 1
+      (λ passes _. drawn_alike settings caller tenant s t same owner (mine (head_none (admin_only caller (policy_for_admin caller form)) (rest_at s n) passes)) 1
       (λ drawing. policy_added caller drawing.rows (new_policy form owner n.id (drawn_id drawing 0))) (λ drawing. policy_added caller drawing.rows (new_policy form owner m.id (drawn_id drawing 0)))
       (λ x y at_x at_y counts. λ j. Told (NewRow (shown_as PolicyKind caller.admin [] (policy_members (new_policy form owner (alike j).id (ident (counts j).0 ((counts j).1 + 0))))))))))
     where
@@ -153,9 +154,9 @@ module _ (settings : SettingsParts) (caller : Caller) (tenant : caller.admin ≡
       rest_at : State → NetworkRow → List (Option Refusal)
       rest_at state n = network_owner state.rows caller true n.id ∷ option_map policy_exists (equal_policy state.rows.policies (new_policy form owner n.id no_id)) ∷ over_quota settings state.rows owner PolicyKind ∷ []
 
-      mine : admin_only caller (is_for_admin caller form) ≡ None → owner ≡ caller.project
+      mine : admin_only caller (policy_for_admin caller form) ≡ None → owner ≡ caller.project
       mine passes = owner_own caller form.project_id form.tenant_id
-          (or_none (is_for_all form || is_action External (value_or Shared form.action)) (is_for_other caller form.project_id form.tenant_id) (admin_passes caller tenant (is_for_admin caller form) passes)).1
+          (or_none (is_for_all form || is_action External (value_or Shared form.action)) (is_for_other caller form.project_id form.tenant_id) (admin_passes caller tenant (policy_for_admin caller form) passes)).1
 
   -- the use of a policy that goes or is changed, by policies that are alike on its network
 
@@ -202,7 +203,7 @@ module _ (settings : SettingsParts) (caller : Caller) (tenant : caller.admin ≡
       (policy_replaced caller s.rows (changed_policy form l)) (policy_replaced caller t.rows (changed_policy form l))
       (let used = used_same name.id l found_s found_t (put_in policy_id (changed_policy form l) s.rows.policies) (put_in policy_id (changed_policy form l) t.rows.policies) (put_same name.id l found_s found_t form) in
       let equal = equal_same l.object (held_found name.id l found_s) (changed_policy form l) (ident_itself l.object) (gone_from policy_id l.id s.rows.policies) (gone_from policy_id l.id t.rows.policies) (gone_same name.id l found_s) in
-      (λ j. first_refusal (admin_only caller (is_for_admin caller form) ∷ owner_only caller l.project ∷ used j ∷ option_map policy_exists (equal j) ∷ when (same j).is_last CountersSpent ∷ [])))
+      (λ j. first_refusal (admin_only caller (policy_for_admin caller form) ∷ owner_only caller l.project ∷ used j ∷ option_map policy_exists (equal j) ∷ when (same j).is_last CountersSpent ∷ [])))
       (λ passes also. refl))
 
   -- taking a policy out

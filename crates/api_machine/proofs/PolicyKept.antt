@@ -36,12 +36,11 @@ use Rattle.row_laws.proofs.PolicyReplaced.{policy_replaced as policy_kept}
 use Rattle.api_machine.proofs.EditedRows.{none_refused, put_at}
 use Rattle.api_machine.proofs.GatewayStays.{unmapped}
 use Rattle.api_machine.proofs.PolicyPermits.{still_permitted}
-use Rattle.api_machine.proofs.PortCreated.{owner_named}
 use Rattle.call_parts.specs.BodyNames.{no_id, text_of}
 use Rattle.call_parts.specs.Edits.{Add, Drop, Put, accepted, gone_from, put_in, with_put, without_row}
 use Rattle.call_parts.specs.InForm.{IsFormed, are_owners, is_there}
 use Rattle.api_policy.specs.Permits.{admin_only, network_owner, owner_only}
-use Rattle.plan_policies.specs.PolicyCalls.{changed_policy, creation_refusal, deletion_refusal, equal_policy, is_for_admin, new_policy, policy_added, policy_created, policy_deleted, policy_exists, policy_made, policy_replaced, policy_updated, update_refusal}
+use Rattle.plan_policies.specs.PolicyCalls.{changed_policy, creation_refusal, deletion_refusal, equal_policy, new_policy, policy_added, policy_created, policy_deleted, policy_exists, policy_made, policy_replaced, policy_updated, update_refusal}
 use Rattle.api_policy.specs.PolicyNeeds.{policy_user}
 use Rattle.api_policy.specs.Quotas.{over_quota}
 use Rattle.api_policy.specs.Seen.{network_seen, policy_seen}
@@ -53,6 +52,8 @@ use Rattle.api_types.specs.Refusing.{needing, not_found, unless, when}
 use Rattle.call_parts.specs.State.{State, drawing_at, is_last}
 use Rattle.net_settings.specs.Settings.{SettingsParts}
 use Rattle.api_ml2.specs.Carrying.{carries}
+use Rattle.api_policy.specs.Reserved.{policy_for_admin}
+use Rattle.call_parts.proofs.OwnerLemmas.{owner_named}
 
 -- what is said alike by two policies
 
@@ -157,7 +158,7 @@ updated_kept settings state caller name form rows reply c h =
     let passed = unless_moved (update_refusal state caller form l new) (set l) rows reply found.2 in
     let of_use = policy_in_use state.rows caller (put_in (λ q. q.id) new state.rows.policies) l in
     let of_equal = option_map policy_exists (equal_policy (gone_from (λ q. q.id) l.id state.rows.policies) new) in
-    let none = none_refused (admin_only caller (is_for_admin caller form) ∷ owner_only caller l.project ∷ of_use ∷ of_equal ∷ when (is_last state) CountersSpent ∷ []) passed.0 in
+    let none = none_refused (admin_only caller (policy_for_admin caller form) ∷ owner_only caller l.project ∷ of_use ∷ of_equal ∷ when (is_last state) CountersSpent ∷ []) passed.0 in
     subst (HaveKept settings state.rows) (moved_rows (with_put state.rows (Policy new)) rows _ reply passed.1) (record {
       consistent = changed_keeps state.rows caller c here.place l here.at new refl refl refl (none 2 of_use refl) (unmapped policy_exists (equal_policy (gone_from (λ q. q.id) l.id state.rows.policies) new) (none 3 of_equal refl));
       typed = λ t. made_typed state.rows (Put (Policy new) ∷ []) t (each_cons IsTypedEdit (Put (Policy new)) [] tt (each_none IsTypedEdit));
@@ -195,7 +196,7 @@ created_kept settings state caller form rows reply c given h =
     let here = named_is (λ (m : NetworkRow). m.id) (sees_network state.rows caller) state.rows.networks (value_of form.object_id) n found.1 in
     let passed = unless_moved (creation_refusal settings state.rows caller form owner n) (draw n) rows reply found.2 in
     let of_equal = option_map policy_exists (equal_policy state.rows.policies (new_policy form owner n.id no_id)) in
-    let none = none_refused (admin_only caller (is_for_admin caller form) ∷ network_owner state.rows caller true n.id ∷ of_equal ∷ over_quota settings state.rows owner PolicyKind ∷ []) passed.0 in
+    let none = none_refused (admin_only caller (policy_for_admin caller form) ∷ network_owner state.rows caller true n.id ∷ of_equal ∷ over_quota settings state.rows owner PolicyKind ∷ []) passed.0 in
     let unlike = unmapped policy_exists (equal_policy state.rows.policies (new_policy form owner n.id no_id)) (none 2 of_equal refl) in
     let drawing = needing_moved CountersSpent (drawing_at state owner 1) (add n) rows reply passed.1 in
     let d : Drawing = drawing.0 in

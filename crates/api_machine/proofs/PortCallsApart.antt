@@ -10,7 +10,7 @@ use Rattle.api_types.specs.HeldAddresses.{is_address_held, is_held_by_other, is_
 use Rattle.call_parts.specs.Leaving.{disassociated, disassociations, loses_target}
 use Rattle.api_ipam.specs.MacChoice.{expected_mac, mac_for}
 use Rattle.api_policy.specs.Permits.{admin_only, network_access, network_owner, owner_only}
-use Rattle.plan_ports.specs.PortCalls.{addresses_after, addresses_at_first, bad_bare_after, bad_first_fixed, bad_next_fixed, body_refusal, changed_port, changes_service, creation_refusal, deletion_refusal, groups_at_first, ids_of, is_for_admin, is_for_owner, is_group_for, items_of, mac_after, mac_at_first, new_port, pair_of, port_added, port_changed, port_created, port_deleted, port_gone, port_made, port_replaced, port_updated, update_refusal, values_taken, vif_after}
+use Rattle.plan_ports.specs.PortCalls.{addresses_after, addresses_at_first, bad_bare_after, bad_first_fixed, bad_next_fixed, body_refusal, changed_port, changes_service, creation_refusal, deletion_refusal, groups_at_first, ids_of, is_group_for, items_of, mac_after, mac_at_first, new_port, pair_of, port_added, port_changed, port_created, port_deleted, port_gone, port_made, port_replaced, port_updated, update_refusal, values_taken, vif_after}
 use Rattle.api_policy.specs.Marked.{is_marked, may_use}
 use Rattle.api_policy.specs.Quotas.{over_quota}
 use Rattle.plan_ports.specs.PortRules.{bad_bare, is_subnet_seen}
@@ -66,6 +66,7 @@ use Rattle.api_machine.proofs.GroupsApart.{group_found}
 use Rattle.api_machine.proofs.NearAlike.{chosen_alike, mac_for_same, network_owner_alike, then_named}
 use Rattle.api_machine.proofs.OwnAlike.{admin_passes, quota_own}
 use Rattle.api_machine.proofs.SubnetsApart.{subnet_id}
+use Rattle.api_policy.specs.Reserved.{port_for_admin, port_for_owner}
 
 -- a new port, by its groups, its binding and who made it
 abbrev port_by : PortForm → NetworkRow → List ℕ → Ident → ℕ → List Fixed → List Ident → Vif → Bool → PortRow
@@ -130,12 +131,12 @@ module _ (settings : SettingsParts) (caller : Caller) (tenant : caller.admin ≡
   uses_is state e k n at = stands_there network_id (λ (m : NetworkRow). bytes_eq m.project caller.project || is_shared_with state.rows.policies m.id caller.project) state.rows.networks (λ i. omega (arith, e.numbered.ids i)) k n at
 
   creation_same : (form : PortForm) (owner : List ℕ) (k l : ℕ) (n m : NetworkRow) → slice_get s.rows.networks k ≡ Some n → slice_get t.rows.networks l ≡ Some m
-      → is_near s.rows caller n.id ≡ true → blank n ≡ blank m → (admin_only caller (is_for_admin caller form) ≡ None → owner ≡ caller.project)
+      → is_near s.rows caller n.id ≡ true → blank n ≡ blank m → (admin_only caller (port_for_admin caller form) ≡ None → owner ≡ caller.project)
       → creation_refusal settings s.rows caller form n owner ≡ creation_refusal settings t.rows caller form m owner
   creation_same form owner k l n m at_n at_m near alike mine =
-      first_same (groups s) (groups t) (admin_only caller (is_for_admin caller form) ∷ rest s n) (admin_only caller (is_for_admin caller form) ∷ rest t m)
+      first_same (groups s) (groups t) (admin_only caller (port_for_admin caller form) ∷ rest s n) (admin_only caller (port_for_admin caller form) ∷ rest t m)
       (λ j. unless_all GroupKind (λ i. is_some_so (λ (g : GroupRow). bytes_eq g.project owner) (group_found settings caller tenant s t same (Some i) j)) (value_or [] form.security_groups))
-      (λ _ _. first_same (admin_only caller (is_for_admin caller form)) (admin_only caller (is_for_admin caller form)) (rest s n) (rest t m) refl
+      (λ _ _. first_same (admin_only caller (port_for_admin caller form)) (admin_only caller (port_for_admin caller form)) (rest s n) (rest t m) refl
       (λ passes _. let quota = quota_own settings caller tenant s t same owner (mine passes) PortKind in
       (λ j. first_refusal (owns j ∷ when (not (caller.admin || uses j)) (Forbidden NetworkAccess)
       ∷ values_taken (told_near j).addresses (told_near j).macs (alike j).id (first_known (told_near j).subnets (expected_mac (mac j)) form.fixed_ips) form ∷ quota j ∷ []))))
@@ -144,7 +145,7 @@ module _ (settings : SettingsParts) (caller : Caller) (tenant : caller.admin ≡
       groups state = unless_all GroupKind (is_group_for state.rows caller owner) (value_or [] form.security_groups)
 
       rest : State → NetworkRow → List (Option Refusal)
-      rest state r = network_owner state.rows caller (is_for_owner form) r.id
+      rest state r = network_owner state.rows caller (port_for_owner form) r.id
           ∷ network_access state.rows caller r.id
           ∷ values_taken (is_address_held state.rows.ports r.id) (is_mac_held state.rows.ports r.id) r.id (first_known (subnets_on state.rows.subnets r.id) (mac_at_first state.rows.ports form r.id) form.fixed_ips) form
           ∷ over_quota settings state.rows owner PortKind
@@ -156,8 +157,8 @@ module _ (settings : SettingsParts) (caller : Caller) (tenant : caller.admin ≡
       mac : mac_for s.rows.ports n.id form.mac_address ≡ mac_for t.rows.ports m.id form.mac_address
       mac = mac_alike form n m near alike
 
-      owns : network_owner s.rows caller (is_for_owner form) n.id ≡ network_owner t.rows caller (is_for_owner form) m.id
-      owns = network_owner_alike settings caller tenant s t same n.id (is_for_owner form) ∙ ap (λ z. network_owner t.rows caller (is_for_owner form) z.id) alike
+      owns : network_owner s.rows caller (port_for_owner form) n.id ≡ network_owner t.rows caller (port_for_owner form) m.id
+      owns = network_owner_alike settings caller tenant s t same n.id (port_for_owner form) ∙ ap (λ z. network_owner t.rows caller (port_for_owner form) z.id) alike
 
       uses : uses_network s.rows caller.project n.id ≡ uses_network t.rows caller.project m.id
       uses = uses_is s c k n at_n ∙ ((λ j. bytes_eq (alike j).project caller.project || (told_near j).shared) ∙ sym (uses_is t d l m at_m))
@@ -229,7 +230,7 @@ module _ (settings : SettingsParts) (caller : Caller) (tenant : caller.admin ≡
       let at_n = seen_here s.rows caller name n found_n in let at_m = seen_here t.rows caller name m found_m in let near = named_near s.rows caller name n found_n in
       unless_same (creation_refusal settings s.rows caller form n owner) (creation_refusal settings t.rows caller form m owner) (made_for s form n owner) (made_for t form m owner)
       (creation_same form owner at_n.0 at_m.0 n m at_n.1 at_m.1 near alike mine)
-      (λ passes _. subst (λ name. told (made_for s form n name) ≡ told (made_for t form m name)) (sym (mine (none_at (refusals s n) passes 1 (admin_only caller (is_for_admin caller form)) refl))) (made_alike named form (nowhere (none_at (refusals s n) passes 1 (admin_only caller (is_for_admin caller form)) refl)) n m near alike))))
+      (λ passes _. subst (λ name. told (made_for s form n name) ≡ told (made_for t form m name)) (sym (mine (none_at (refusals s n) passes 1 (admin_only caller (port_for_admin caller form)) refl))) (made_alike named form (nowhere (none_at (refusals s n) passes 1 (admin_only caller (port_for_admin caller form)) refl)) n m near alike))))
     where
       name : Option Ident
       name = value_of form.network_id
@@ -240,16 +241,16 @@ module _ (settings : SettingsParts) (caller : Caller) (tenant : caller.admin ≡
       on : State → Outcome
       on state = needing (not_found NetworkKind (text_of name)) (network_seen state.rows caller name) (λ n. port_made settings state caller form n owner)
 
-      mine : admin_only caller (is_for_admin caller form) ≡ None → owner ≡ caller.project
-      mine passes = owner_own caller form.project_id form.tenant_id (or_none (is_given form.binding_host_id) (is_for_other caller form.project_id form.tenant_id) (admin_passes caller tenant (is_for_admin caller form) passes)).1
+      mine : admin_only caller (port_for_admin caller form) ≡ None → owner ≡ caller.project
+      mine passes = owner_own caller form.project_id form.tenant_id (or_none (is_given form.binding_host_id) (is_for_other caller form.project_id form.tenant_id) (admin_passes caller tenant (port_for_admin caller form) passes)).1
 
-      nowhere : admin_only caller (is_for_admin caller form) ≡ None → value_or [] form.binding_host_id ≡ []
-      nowhere passes = unhosted form.binding_host_id (or_none (is_given form.binding_host_id) (is_for_other caller form.project_id form.tenant_id) (admin_passes caller tenant (is_for_admin caller form) passes)).0
+      nowhere : admin_only caller (port_for_admin caller form) ≡ None → value_or [] form.binding_host_id ≡ []
+      nowhere passes = unhosted form.binding_host_id (or_none (is_given form.binding_host_id) (is_for_other caller form.project_id form.tenant_id) (admin_passes caller tenant (port_for_admin caller form) passes)).0
 
       refusals : State → NetworkRow → List (Option Refusal)
       refusals state r = unless_all GroupKind (is_group_for state.rows caller owner) (value_or [] form.security_groups)
-          ∷ admin_only caller (is_for_admin caller form)
-          ∷ network_owner state.rows caller (is_for_owner form) r.id
+          ∷ admin_only caller (port_for_admin caller form)
+          ∷ network_owner state.rows caller (port_for_owner form) r.id
           ∷ network_access state.rows caller r.id
           ∷ values_taken (is_address_held state.rows.ports r.id) (is_mac_held state.rows.ports r.id) r.id (first_known (subnets_on state.rows.subnets r.id) (mac_at_first state.rows.ports form r.id) form.fixed_ips) form
           ∷ over_quota settings state.rows owner PortKind
@@ -274,14 +275,14 @@ module _ (settings : SettingsParts) (caller : Caller) (tenant : caller.admin ≡
 
   update_same : (form : PortForm) (p : PortRow) → is_near s.rows caller p.network ≡ true → update_refusal s.rows caller form p ≡ update_refusal t.rows caller form p
   update_same form p near = let z = near_same settings caller s t same p.network near in
-      let owns = network_owner_alike settings caller tenant s t same p.network (is_for_owner form) in
+      let owns = network_owner_alike settings caller tenant s t same p.network (port_for_owner form) in
       let service = service_alike (changes_service form) p in
       λ j. first_refusal (
       when (list_all (sees_alike j) (named_subnets (items_of form)) && not (are_placed (z j).subnets (mac_after form p) (old_renewed (z j).subnets p (mac_after form p)) (items_of form))) (Invalid (codes "fixed_ips"))
       ∷ bad_bare_after form p
       ∷ unless_all SubnetKind (sees_alike j) (named_subnets (items_of form))
       ∷ unless_all GroupKind (λ i. is_some_so (λ (g : GroupRow). bytes_eq g.project p.project) (group_found settings caller tenant s t same (Some i) j)) (value_or [] form.security_groups)
-      ∷ admin_only caller (is_for_admin caller form)
+      ∷ admin_only caller (port_for_admin caller form)
       ∷ owner_only caller p.project
       ∷ owns j
       ∷ service j
@@ -324,7 +325,7 @@ module _ (settings : SettingsParts) (caller : Caller) (tenant : caller.admin ≡
       (λ n m found_n found_m.
       unless_same (update_refusal s.rows caller form p) (update_refusal t.rows caller form p) (chosen s n p) (chosen t m p) (update_same form p near)
       (λ passes _. let nowhere = absent form.binding_host_id (or_none (is_given form.binding_host_id) (is_for_other caller form.project_id form.tenant_id)
-      (admin_passes caller tenant (is_for_admin caller form) (none_at (refusals s p) passes 4 (admin_only caller (is_for_admin caller form)) refl))).0 in
+      (admin_passes caller tenant (port_for_admin caller form) (none_at (refusals s p) passes 4 (admin_only caller (port_for_admin caller form)) refl))).0 in
       needing_same (PoolsSpent p.network) (addresses_after s.rows form p) (addresses_after t.rows form p) (λ fixed. moved s n p fixed) (λ fixed. moved t m p fixed)
       (λ j. next_addresses (λ x. not ((z j).addresses x && not (is_own_address x p))) (z j).subnets p (mac_after form p) form.fixed_ips)
       (λ fixed _ _. unless_same (when (is_last s) CountersSpent) (when (is_last t) CountersSpent) (port_replaced caller s.rows (changed_port settings form n p fixed)) (port_replaced caller t.rows (changed_port settings form m p fixed))
@@ -343,9 +344,9 @@ module _ (settings : SettingsParts) (caller : Caller) (tenant : caller.admin ≡
           ∷ bad_bare_after form p
           ∷ unless_all SubnetKind (is_subnet_seen state.rows caller) (named_subnets (items_of form))
           ∷ unless_all GroupKind (is_group_for state.rows caller p.project) (value_or [] form.security_groups)
-          ∷ admin_only caller (is_for_admin caller form)
+          ∷ admin_only caller (port_for_admin caller form)
           ∷ owner_only caller p.project
-          ∷ network_owner state.rows caller (is_for_owner form) p.network
+          ∷ network_owner state.rows caller (port_for_owner form) p.network
           ∷ service_in_use state.rows caller (changes_service form) p
           ∷ values_taken (is_held_by_other state.rows.ports p) (is_mac_of_other state.rows.ports p) p.network (next_known (subnets_on state.rows.subnets p.network) p (mac_after form p) form.fixed_ips) form
           ∷ []

@@ -61,10 +61,10 @@ use Rattle.api_machine.proofs.PortBodies.{PortBodyParts, bare_so, counted_once, 
 use Rattle.call_parts.specs.BodyNames.{text_of, unless_all}
 use Rattle.api_ipam.specs.FixedChoice.{are_placed, first_addresses, first_known, named_subnets}
 use Rattle.api_types.specs.HeldAddresses.{address_taken, is_address_held, is_mac_held, subnets_on}
-use Rattle.call_parts.specs.InForm.{IsFormed, are_owners, if_value, is_few, is_owner, is_pair, is_port_body, is_there}
+use Rattle.call_parts.specs.InForm.{IsFormed, if_value, is_few, is_pair, is_port_body, is_there}
 use Rattle.api_ipam.specs.MacChoice.{expected_mac, mac_for}
 use Rattle.api_policy.specs.Permits.{admin_only, network_access, network_owner}
-use Rattle.plan_ports.specs.PortCalls.{addresses_at_first, bad_first_fixed, body_refusal, creation_refusal, groups_at_first, ids_of, is_for_admin, is_for_owner, is_group_for, items_of, mac_at_first, mac_taken, new_port, pair_of, port_added, port_created, port_made, values_taken}
+use Rattle.plan_ports.specs.PortCalls.{addresses_at_first, bad_first_fixed, body_refusal, creation_refusal, groups_at_first, ids_of, is_group_for, items_of, mac_at_first, mac_taken, new_port, pair_of, port_added, port_created, port_made, values_taken}
 use Rattle.api_policy.specs.Marked.{may_use}
 use Rattle.api_policy.specs.Quotas.{over_quota}
 use Rattle.plan_ports.specs.PortRules.{bad_bare, is_subnet_seen}
@@ -79,17 +79,8 @@ use Rattle.net_settings.specs.Settings.{SettingsParts}
 use Rattle.api_machine.proofs.CarriedKept.{IsCarriedEdit, made_carried}
 use Rattle.api_machine.proofs.ServiceMade.{bound_carried}
 use Rattle.api_ml2.specs.Carrying.{carries}
-
--- who owns a new row has a name
-pub owner_named : (caller : Caller) (project tenant : Given (List ℕ)) → not (is_empty caller.project) ≡ true → are_owners project tenant ≡ true → not (is_empty (owner_of caller project tenant)) ≡ true
-owner_named caller project tenant has given =
-    let both = and_both (is_owner project) (is_owner tenant) given in
-    named (value_or caller.project tenant) project (named caller.project tenant has both.1) both.0
-  where
-    named : (old : List ℕ) (g : Given (List ℕ)) → not (is_empty old) ≡ true → is_owner g ≡ true → not (is_empty (value_or old g)) ≡ true
-    named old Absent was h = was
-    named old Null was h = false_true _ h
-    named old (Is name) was h = h
+use Rattle.api_policy.specs.Reserved.{port_for_admin, port_for_owner}
+use Rattle.call_parts.proofs.OwnerLemmas.{owner_named}
 
 -- a caller who is no administrator makes rows for its own project
 pub own_project : (caller : Caller) (project tenant : Given (List ℕ)) → is_for_other caller project tenant ≡ false → owner_of caller project tenant ≡ caller.project
@@ -179,7 +170,7 @@ there rows owner n admin k at tenant = by admin refl (bytes_eq n.project owner) 
 -- what a body's refusals say of it, and those of the creation
 pub record IsAllowed (rows : RowLists) (caller : Caller) (form : PortForm) (n : NetworkRow) (owner : List ℕ) : Type 0 where
   pub groups : list_all (is_group_of rows.groups owner) (value_or [] form.security_groups) ≡ true
-  pub admin : is_for_admin caller form && not caller.admin ≡ false
+  pub admin : port_for_admin caller form && not caller.admin ≡ false
   pub access : not (caller.admin || uses_network rows caller.project n.id) ≡ false
   pub unheld : find (is_address_held rows.ports n.id) (first_known (subnets_on rows.subnets n.id) (mac_at_first rows.ports form n.id) form.fixed_ips) ≡ None
   pub mac : mac_taken (is_mac_held rows.ports n.id) n.id (value_of form.mac_address) ≡ None
@@ -188,16 +179,16 @@ allowed_is : (settings : SettingsParts) (rows : RowLists) (caller : Caller) (for
 allowed_is settings rows caller form n owner h =
     let known = first_known (subnets_on rows.subnets n.id) (mac_at_first rows.ports form n.id) form.fixed_ips in
     let of_groups = unless_all GroupKind (is_group_for rows caller owner) (value_or [] form.security_groups) in
-    let of_admin = admin_only caller (is_for_admin caller form) in
+    let of_admin = admin_only caller (port_for_admin caller form) in
     let of_access = network_access rows caller n.id in
     let of_values = values_taken (is_address_held rows.ports n.id) (is_mac_held rows.ports n.id) n.id known form in
-    let none = none_refused (of_groups ∷ of_admin ∷ network_owner rows caller (is_for_owner form) n.id ∷ of_access ∷ of_values ∷ over_quota settings rows owner PortKind ∷ []) h in
+    let none = none_refused (of_groups ∷ of_admin ∷ network_owner rows caller (port_for_owner form) n.id ∷ of_access ∷ of_values ∷ over_quota settings rows owner PortKind ∷ []) h in
     let of_addresses = address_taken (is_address_held rows.ports n.id) n.id known in
     let of_mac = mac_taken (is_mac_held rows.ports n.id) n.id (value_of form.mac_address) in
     let values = none_refused (of_addresses ∷ of_mac ∷ []) (none 4 of_values refl) in
     record {
       groups = groups_named rows caller owner (value_or [] form.security_groups) (none 0 of_groups refl);
-      admin = not_when (is_for_admin caller form && not caller.admin) _ (none 1 of_admin refl);
+      admin = not_when (port_for_admin caller form && not caller.admin) _ (none 1 of_admin refl);
       access = not_when (not (caller.admin || uses_network rows caller.project n.id)) _ (none 3 of_access refl);
       unheld = unmapped _ (find (is_address_held rows.ports n.id) known) (values 0 of_addresses refl);
       mac = values 1 of_mac refl;
@@ -282,7 +273,7 @@ module _ (settings : SettingsParts) (state : State) (caller : Caller) (form : Po
   -- a tenant's port is its own, on a network that it may use
   tenant_may : IsAllowed state.rows caller form n owner → caller.admin ≡ false → may_use state.rows owner n ≡ true
   tenant_may allowed tenant =
-      let other : is_for_other caller form.project_id form.tenant_id ≡ false = second (is_given form.binding_host_id) (is_for_other caller form.project_id form.tenant_id) (sym (ap (λ b. is_for_admin caller form && not b) tenant) ∙ allowed.admin) in
+      let other : is_for_other caller form.project_id form.tenant_id ≡ false = second (is_given form.binding_host_id) (is_for_other caller form.project_id form.tenant_id) (sym (ap (λ b. port_for_admin caller form && not b) tenant) ∙ allowed.admin) in
       let own = own_project caller form.project_id form.tenant_id other in
       let uses : uses_network state.rows caller.project n.id ≡ true = not_false _ (sym (ap (λ b. not (b || uses_network state.rows caller.project n.id)) tenant) ∙ allowed.access) in
       let found = any-at (λ (m : NetworkRow). ident_eq n.id m.id && (bytes_eq m.project caller.project || is_shared_with state.rows.policies m.id caller.project)) state.rows.networks uses in

@@ -23,7 +23,6 @@ use Rattle.api_types.proofs.NameLemmas.{not_false}
 use Rattle.row_laws.proofs.PortReplaced.{no_own_port}
 use Rattle.row_laws.proofs.PortsGone.{ports_gone}
 use Rattle.api_machine.proofs.Disassociated.{disassociations_keep}
-use Rattle.api_machine.proofs.EditLemmas.{made-append}
 use Rattle.api_machine.proofs.EditedRows.{none_refused}
 use Rattle.api_machine.proofs.NoService.{serves_nothing}
 use Rattle.call_parts.specs.Edits.{Drop, accepted, made}
@@ -40,6 +39,7 @@ use Rattle.call_parts.specs.State.{State, is_last}
 use Rattle.api_machine.proofs.CarriedKept.{IsCarriedEdit, disassociations_carried, made_carried}
 use Rattle.api_ml2.specs.Carrying.{carries}
 use Rattle.net_settings.specs.Settings.{SettingsParts}
+use Rattle.call_parts.proofs.EditLemmas.{made-append}
 
 -- no refusal of the deletion: the port is no service's
 no_service_port : (state : State) (caller : Caller) (p : PortRow) → deletion_refusal state caller p ≡ None → is_service p.owner ≡ false

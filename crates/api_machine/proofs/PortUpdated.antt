@@ -63,7 +63,7 @@ use Rattle.api_types.specs.HeldAddresses.{address_taken, is_address_held, is_hel
 use Rattle.call_parts.specs.InForm.{IsFormed, if_value, is_few, is_pair, is_port_body}
 use Rattle.call_parts.specs.Leaving.{disassociated, disassociations, loses_target}
 use Rattle.api_policy.specs.Permits.{admin_only, network_owner, owner_only}
-use Rattle.plan_ports.specs.PortCalls.{addresses_after, bad_bare_after, bad_next_fixed, changed_port, changes_service, is_for_admin, is_for_owner, is_group_for, items_of, mac_after, mac_taken, pair_of, pairs_after, port_changed, port_edits, port_replaced, port_updated, update_refusal, values_taken, vif_after}
+use Rattle.plan_ports.specs.PortCalls.{addresses_after, bad_bare_after, bad_next_fixed, changed_port, changes_service, is_group_for, items_of, mac_after, mac_taken, pair_of, pairs_after, port_changed, port_edits, port_replaced, port_updated, update_refusal, values_taken, vif_after}
 use Rattle.plan_ports.specs.PortRules.{is_subnet_seen}
 use Rattle.api_policy.specs.Seen.{port_seen}
 use Rattle.call_parts.specs.Typed.{AreTyped, IfGiven}
@@ -79,6 +79,7 @@ use Rattle.api_machine.proofs.ServiceMade.{bound_carried}
 use Rattle.api_ml2.specs.Carrying.{carries}
 use Rattle.api_ml2.specs.Binding.{bound}
 use Rattle.api_types.specs.Consistent.Carried.{is_bound}
+use Rattle.api_policy.specs.Reserved.{port_for_admin, port_for_owner}
 
 -- floating addresses are put whatever the ports are
 puts_any : (rows : RowLists) (ports : List PortRow) (fs : List FloatingRow)
@@ -151,7 +152,7 @@ changeable rows caller form p h =
     let of_groups = unless_all GroupKind (is_group_for rows caller p.project) (value_or [] form.security_groups) in
     let of_service = service_in_use rows caller (changes_service form) p in
     let of_values = values_taken (is_held_by_other rows.ports p) (is_mac_of_other rows.ports p) p.network known form in
-    let none = none_refused (of_fixed ∷ of_bare ∷ of_subnets ∷ of_groups ∷ admin_only caller (is_for_admin caller form) ∷ owner_only caller p.project ∷ network_owner rows caller (is_for_owner form) p.network ∷ of_service ∷ of_values ∷ []) h in
+    let none = none_refused (of_fixed ∷ of_bare ∷ of_subnets ∷ of_groups ∷ admin_only caller (port_for_admin caller form) ∷ owner_only caller p.project ∷ network_owner rows caller (port_for_owner form) p.network ∷ of_service ∷ of_values ∷ []) h in
     let of_addresses = address_taken (is_held_by_other rows.ports p) p.network known in
     let of_mac = mac_taken (is_mac_of_other rows.ports p) p.network (value_of form.mac_address) in
     let values = none_refused (of_addresses ∷ of_mac ∷ []) (none 8 of_values refl) in

@@ -53,6 +53,7 @@ use Rattle.api_machine.proofs.RoomOfPorts.{port_created_room, port_deleted_room,
 use Rattle.api_machine.proofs.RoomOfSubnets.{subnet_created_room, subnet_deleted_room, subnet_updated_room}
 use Rattle.api_machine.proofs.RoomOfGroups.{group_created_room, group_deleted_room, group_updated_room, rule_created_room, rule_deleted_room}
 use Rattle.api_machine.proofs.OutcomeLemmas.{if_some, needing_moved, not_when, unless_moved}
+use Rattle.api_policy.specs.Reserved.{policy_for_admin}
 
 module _ (settings : SettingsParts) (state : State) (caller : Caller) (rows : RowLists) (reply : Reply) where
   -- ids are drawn where there is room
@@ -116,7 +117,7 @@ module _ (settings : SettingsParts) (state : State) (caller : Caller) (rows : Ro
       let used : Option Refusal = policy_in_use state.rows caller (put_in (λ q. q.id) new state.rows.policies) l in
       let equal : Option Refusal = option_map policies.policy_exists (policies.equal_policy (gone_from (λ q. q.id) l.id state.rows.policies) new) in
       let last : Option Refusal = when (is_last state) CountersSpent in
-      not_when (is_last state) CountersSpent (none_refused (admin_only caller (policies.is_for_admin caller form) ∷ owner_only caller l.project ∷ used ∷ equal ∷ last ∷ []) passed.0 4 last refl)
+      not_when (is_last state) CountersSpent (none_refused (admin_only caller (policy_for_admin caller form) ∷ owner_only caller l.project ∷ used ∷ equal ∷ last ∷ []) passed.0 4 last refl)
 
   policy_deleted_room : (name : IdText) → policies.policy_deleted state caller name ≡ Moved rows reply → is_last state ≡ false
   policy_deleted_room name h =

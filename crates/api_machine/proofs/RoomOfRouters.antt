@@ -35,6 +35,7 @@ use Rattle.api_policy.specs.Uses.{floating_in_use, port_in_use, route_in_use, ro
 use Rattle.call_parts.specs.Edits.{Drop, Put, accepted}
 use Rattle.call_parts.specs.State.{State, drawing_at, is_last}
 use Rattle.plan_routers.specs.InterfaceCalls as interfaces
+use Rattle.api_policy.specs.Reserved.{snat_asked}
 use Rattle.plan_routers.specs.RouterCalls as routers
 use Rattle.plan_routers.specs.RouterRules.{bad_interface_port}
 use Rattle.api_machine.proofs.EditedRows.{none_refused}
@@ -53,7 +54,7 @@ module _ (settings : SettingsParts) (state : State) (caller : Caller) (rows : Ro
   made_room form owner (Some n) h =
       let add : List Fixed → ℕ → Drawing → Outcome = λ fixed mac d.
       let r : RouterRow = routers.new_router settings form owner (drawn_id d 0) in
-      routers.gateway_added caller d.rows r (routers.gateway_port settings r n (drawn_id d 1) mac fixed) (unwrap_or (routers.snat_asked form) true) in
+      routers.gateway_added caller d.rows r (routers.gateway_port settings r n (drawn_id d 1) mac fixed) (unwrap_or (snat_asked form) true) in
       let draw : List Fixed → ℕ → Outcome = λ fixed mac. needing CountersSpent (drawing_at state owner 2) (add fixed mac) in
       let with_mac : List Fixed → Outcome = λ fixed. needing CountersSpent (free_mac state.rows.ports n.id) (draw fixed) in
       let fixed = needing_moved (PoolsSpent n.id) (routers.outer_addresses state.rows n) with_mac rows reply h in
@@ -74,7 +75,7 @@ module _ (settings : SettingsParts) (state : State) (caller : Caller) (rows : Ro
       not_when (is_last state) CountersSpent last.0
   moved_room form old new (Some n) h =
       let put : List Fixed → ℕ → Drawing → Outcome = λ fixed mac d.
-      routers.gateway_replaced caller d.rows old new (routers.gateway_port settings old n (drawn_id d 0) mac fixed) (unwrap_or (routers.snat_asked form) (routers.old_snat old.gateway)) in
+      routers.gateway_replaced caller d.rows old new (routers.gateway_port settings old n (drawn_id d 0) mac fixed) (unwrap_or (snat_asked form) (routers.old_snat old.gateway)) in
       let draw : List Fixed → ℕ → Outcome = λ fixed mac. needing CountersSpent (drawing_at state old.project 1) (put fixed mac) in
       let with_mac : List Fixed → Outcome = λ fixed. needing CountersSpent (free_mac state.rows.ports n.id) (draw fixed) in
       let fixed = needing_moved (PoolsSpent n.id) (routers.outer_addresses state.rows n) with_mac rows reply h in

@@ -12,7 +12,7 @@ use Rattle.api_types.specs.HeldAddresses.{address_taken}
 use Rattle.api_ipam.specs.MacChoice.{expected_mac, free_mac}
 use Rattle.api_policy.specs.Permits.{admin_only, owner_only}
 use Rattle.api_policy.specs.Quotas.{over_quota}
-use Rattle.plan_routers.specs.RouterCalls.{bad_first_gateway, changed_router, creation_refusal, deletion_refusal, gateway_added, gateway_edits, gateway_gone, gateway_name, gateway_network, gateway_port, gateway_replaced, kept_gateway, lost_gateway, new_gateway, new_router, old_snat, outer_addresses, outer_taken, router_added, router_changed, router_created, router_deleted, router_moved, router_replaced, router_updated, router_with, snat_asked, update_refusal, with_gateway}
+use Rattle.plan_routers.specs.RouterCalls.{bad_first_gateway, changed_router, creation_refusal, deletion_refusal, gateway_added, gateway_edits, gateway_gone, gateway_name, gateway_network, gateway_port, gateway_replaced, kept_gateway, lost_gateway, new_gateway, new_router, old_snat, outer_addresses, outer_taken, router_added, router_changed, router_created, router_deleted, router_moved, router_replaced, router_updated, router_with, update_refusal, with_gateway}
 use Rattle.api_types.specs.RouterWays.{interfaces_of, touches}
 use Rattle.plan_routers.specs.RouterRules.{bad_gateway, bad_routes}
 use Rattle.api_policy.specs.Seen.{router_seen}
@@ -67,6 +67,7 @@ use Rattle.api_machine.proofs.NearAlike.{chosen_alike, free_mac_same, then_named
 use Rattle.api_machine.proofs.OwnAlike.{admin_passes, drawn_alike, own_here, quota_own, routers_alike}
 use Rattle.api_machine.proofs.ReachAlike.{bad_hop_alike, floating_user_alike, interfaces_hold, lost_hop_alike, port_told, router_project, router_told, target_there}
 use Rattle.api_machine.proofs.ServedAlike.{fixed_printed, gateway_alike, gateway_is, gateway_printed, is_served_for, port_served, router_id, router_printed, served_for}
+use Rattle.api_policy.specs.Reserved.{snat_asked}
 
 -- the last row is found by its id, where no other has it
 pub found_last : {R : Type 0} (test : R → Bool) (xs : List R) (x : R) → list_any test xs ≡ false → test x ≡ true → find test (xs ++ x ∷ []) ≡ Some x

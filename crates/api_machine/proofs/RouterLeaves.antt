@@ -49,9 +49,9 @@ use Rattle.api_types.specs.RouterWays.{interfaces_of}
 use Rattle.api_policy.specs.Seen.{port_seen, router_seen, subnet_seen}
 use Rattle.api_policy.specs.Uses.{floating_in_use, is_interface_of, leads_through, route_in_use, router_in_use, used_by_floating, used_by_port}
 use Rattle.api_machine.proofs.CallLemmas.{unmapped}
-use Rattle.api_machine.proofs.EditLemmas.{made-append}
 use Rattle.api_machine.proofs.LeavingLemmas.{disassociated_rows, leaves}
 use Rattle.api_machine.proofs.RouteLemmas.{others_reach}
+use Rattle.call_parts.proofs.EditLemmas.{made-append}
 
 -- a router that goes
 

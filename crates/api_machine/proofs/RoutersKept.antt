@@ -63,11 +63,11 @@ use Rattle.call_parts.specs.BodyNames.{unless_found}
 use Rattle.call_parts.specs.Edits.{Add, Put, made}
 use Rattle.api_ipam.specs.FixedChoice.{addresses_of, gateway_addresses, gateway_euis}
 use Rattle.api_types.specs.HeldAddresses.{address_taken, is_address_held, is_mac_held, subnets_on}
-use Rattle.call_parts.specs.InForm.{IsFormed, are_hops, are_owners, is_few, is_owner, is_router_body}
+use Rattle.call_parts.specs.InForm.{IsFormed, are_hops, are_owners, is_few, is_router_body}
 use Rattle.api_ipam.specs.MacChoice.{expected_mac, free_mac}
 use Rattle.api_policy.specs.Permits.{admin_only, owner_only}
 use Rattle.api_policy.specs.Quotas.{over_quota}
-use Rattle.plan_routers.specs.RouterCalls.{bad_first_gateway, changed_router, creation_refusal, gateway_added, gateway_edits, gateway_gone, gateway_name, gateway_network, gateway_port, gateway_replaced, kept_gateway, lost_gateway, new_gateway, new_router, old_snat, outer_addresses, outer_mac, outer_taken, router_added, router_changed, router_created, router_moved, router_replaced, router_updated, router_with, snat_asked, update_refusal, with_gateway}
+use Rattle.plan_routers.specs.RouterCalls.{bad_first_gateway, changed_router, creation_refusal, gateway_added, gateway_edits, gateway_gone, gateway_name, gateway_network, gateway_port, gateway_replaced, kept_gateway, lost_gateway, new_gateway, new_router, old_snat, outer_addresses, outer_mac, outer_taken, router_added, router_changed, router_created, router_moved, router_replaced, router_updated, router_with, update_refusal, with_gateway}
 use Rattle.plan_routers.specs.RouterRules.{bad_gateway, bad_routes, overlaps_interface}
 use Rattle.api_policy.specs.Seen.{router_seen}
 use Rattle.api_policy.specs.Uses.{gateway_in_use, gateway_use, leads_by, route_in_use, used_by_floating}
@@ -77,6 +77,8 @@ use Rattle.api_machine.proofs.RouteLemmas.{given_reached, others_reach}
 use Rattle.api_machine.proofs.RouterChanges.{IsChangeable, change_is, change_kept, gateway_made_kept, with_change}
 use Rattle.api_machine.proofs.ServiceMade.{bound_carried, carried_drawn, drawing_is, free_mac_is, made_small_mac}
 use Rattle.row_laws.proofs.PortPushed as pushed
+use Rattle.api_policy.specs.Reserved.{snat_asked}
+use Rattle.call_parts.proofs.OwnerLemmas.{owner_named}
 
 -- routes that a body gives, or those that there are
 
@@ -301,20 +303,6 @@ router_updated_kept settings state caller name form rows reply c typed formed h 
     moved_kept settings state c typed caller form few here.place old here.at (updatable_is state.rows caller form old new passed.0) (new_gateway (gateway_network state.rows caller form) new.gateway) refl rows reply passed.1
 
 -- making a router
-
--- the owner of a new row has a name
-pub owner_named : (caller : Caller) (project tenant : Given (List ℕ)) → not (is_empty caller.project) ≡ true → are_owners project tenant ≡ true → not (is_empty (owner_of caller project tenant)) ≡ true
-owner_named caller project tenant mine h =
-    let both = and_both (is_owner project) (is_owner tenant) h in
-    by (value_or caller.project tenant) project (one caller.project tenant mine both.1) both.0
-  where
-    one : (other : List ℕ) (given : Given (List ℕ)) → not (is_empty other) ≡ true → is_owner given ≡ true → not (is_empty (value_or other given)) ≡ true
-    one other Absent n g = n
-    one other Null n g = n
-    one other (Is name) n g = g
-
-    by : (other : List ℕ) (given : Given (List ℕ)) → not (is_empty other) ≡ true → is_owner given ≡ true → not (is_empty (value_or other given)) ≡ true
-    by = one
 
 pub record IsCreatable (rows : RowLists) (caller : Caller) (form : RouterForm) (owner : List ℕ) : Type 0 where
   pub good : option_and_then (bad_gateway rows owner []) (gateway_network rows caller form) ≡ None

@@ -4,7 +4,7 @@ use Rattle.plan_groups.specs.GroupCalls.{changed_group, egress_rule, group_added
 use Rattle.api_machine.proofs.TypedKept.{HaveKept, drawing_typed}
 use Rattle.api_machine.proofs.EditedRows.{none_refused, put_at}
 use Rattle.api_machine.proofs.CallLemmas.{unmapped}
-use Rattle.api_machine.proofs.ServiceMade.{drawing_is, drawn_is}
+use Rattle.api_machine.proofs.ServiceMade.{drawing_is}
 use Rattle.api_machine.proofs.GivenLemmas.{has_name as has_name_of}
 use Rattle.row_laws.specs.Drawn.{IsDrawing}
 use Rattle.row_laws.specs.Gone.{IsUnusedGroup}
@@ -21,7 +21,6 @@ use Rattle.api_types.proofs.NameLemmas.{and_fails, by_test, bytes_itself, bytes_
 use Rattle.api_types.proofs.ListLemmas.{and_both, both_and, any-last, at-any, each-push, false_true, none-counted, none_some, some_equal, one_row}
 use Rattle.row_laws.proofs.RulePushed.{rule_pushed}
 use Rattle.row_laws.proofs.RulesGone.{rules_gone}
-use Rattle.api_machine.proofs.RoutersKept.{owner_named}
 use Rattle.call_parts.specs.BodyNames.{no_id, text_of, unless_all}
 use Rattle.call_parts.specs.Edits.{Drop, accepted, made, with_put, without_row}
 use Rattle.call_parts.specs.InForm.{IsFormed, are_owners}
@@ -73,6 +72,8 @@ use Rattle.std.proofs.lemmas.Bool.Decides.{nat_tests}
 use Rattle.std.specs.Option.{option_eq}
 use Rattle.std.specs.Prelude.{find, if◌then◌else◌, nat_lt, option_map, option_to_list, ◌&&◌, ◌==◌}
 use Rattle.std.specs.Str.{bytes_eq}
+use Rattle.call_parts.proofs.DrawnLemmas.{drawn_is}
+use Rattle.call_parts.proofs.OwnerLemmas.{owner_named}
 
 -- two ids of one drawing differ
 pub drawn_differ : (d : Drawing) (j k : ℕ) → j < k → ident_eq (drawn_id d k) (drawn_id d j) ≡ false

@@ -8,7 +8,7 @@ use Rattle.net_settings.specs.Settings.{SettingsParts}
 use Rattle.api_types.specs.Ident.{Ident}
 use Rattle.api_types.specs.Lists.{Each, is_empty, is_some_so, stands_so}
 use Rattle.api_types.specs.Owners.{is_dhcp, is_floating, is_gateway, is_interface, is_service}
-use Rattle.api_types.specs.Registration.{Drawing, draw_of}
+use Rattle.api_types.specs.Registration.{Drawing}
 use Rattle.api_types.specs.RowLists.{RowLists}
 use Rattle.api_types.specs.Table.{ident_eq}
 use Rattle.api_types.specs.Consistent.{IsConsistent}
@@ -16,7 +16,7 @@ use Rattle.api_types.specs.Consistent.Carried.{is_bound, AreCarried}
 use Rattle.api_types.specs.declared.network.NetworkRow.{NetworkRow}
 use Rattle.api_types.specs.declared.port.Fixed.{Fixed}
 use Rattle.api_types.specs.declared.port.PortRow.{PortRow}
-use Rattle.call_parts.specs.State.{State, drawing_at, is_last}
+use Rattle.call_parts.specs.State.{State, drawing_at}
 use Rattle.std.proofs.lemmas.Bool.Decides.{nat_tests}
 use Rattle.std.proofs.lemmas.List.Sums.{sum_by-cons}
 use Rattle.net_addr.proofs.AddrLemmas.{addr_same}
@@ -43,6 +43,7 @@ use Rattle.api_ipam.specs.MacChoice.{first_mac, free_mac}
 use Rattle.api_ml2.specs.Placement.{host_or_none}
 use Rattle.api_ml2.specs.ServicePorts.{dhcp_owner, floating_owner, gateway_owner, interface_owner, service_port}
 use Rattle.api_machine.proofs.ChoiceLemmas.{from_passes}
+use Rattle.call_parts.proofs.DrawnLemmas.{drawn_is}
 
 -- the MAC address that is chosen
 
@@ -195,14 +196,6 @@ unserving owner none = record {
   no_dhcp = other_owner owner dhcp_owner none refl;
   no_floating = other_owner owner floating_owner none refl;
 }
-
--- ids are drawn only where the version can rise
-pub drawn_is : (state : State) (project : List ℕ) (many : ℕ) (d : Drawing) → drawing_at state project many ≡ Some d → draw_of state.rows project many ≡ Some d
-drawn_is state project many d h = by (is_last state) h
-  where
-    by : (b : Bool) → (if b then None else draw_of state.rows project many) ≡ Some d → draw_of state.rows project many ≡ Some d
-    by true h = none_some d _ h
-    by false h = h
 
 pub drawing_is : (state : State) (project : List ℕ) (many : ℕ) (d : Drawing) → IsConsistent state.rows → not (is_empty project) ≡ true → 5 + many < 2 ^ 62 → drawing_at state project many ≡ Some d → IsDrawing state.rows project many d
 drawing_is state project many d c named room h = draws state.rows project many d c named room (drawn_is state project many d h)

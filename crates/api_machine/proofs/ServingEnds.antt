@@ -23,12 +23,12 @@ use Rattle.api_types.proofs.ListLemmas.{and_both, at-any, at_filter, at_set, bot
 use Rattle.api_types.proofs.NameLemmas.{fails_by, ident_itself, ident_sym, unless}
 use Rattle.row_laws.proofs.SubnetUnleased.{subnet_unleased}
 use Rattle.api_machine.proofs.Disassociated.{AreDisassociated, disassociations_keep}
-use Rattle.api_machine.proofs.EditLemmas.{made-append}
 use Rattle.api_machine.proofs.EditedRows.{put_at}
 use Rattle.plan_subnets.specs.DhcpUpkeep.{dhcp_port_on, end_serving, giving_back, port_left, unserving}
 use Rattle.call_parts.specs.Edits.{Edit, Put, edited, made, with_put}
 use Rattle.call_parts.specs.Leaving.{disassociated, disassociations, loses_target}
 use Rattle.api_machine.proofs.OutcomeLemmas.{found_at, unfound}
+use Rattle.call_parts.proofs.EditLemmas.{made-append}
 
 -- the rows after the edits, with any subnets, and with the subnet at the place leased no more
 pub record HasEnded (rows : RowLists) (edits : List Edit) (place : ℕ) (new : SubnetRow) : Type 0 where

@@ -22,7 +22,6 @@ use Rattle.api_types.proofs.ListLemmas.{and_both, any-at, any-none, false_true, 
 use Rattle.api_types.proofs.NameLemmas.{by_test, ident_itself, ident_sym, not_false}
 use Rattle.row_laws.proofs.SetLemmas.{set_here}
 use Rattle.row_laws.proofs.SubnetsGone.{subnets_gone}
-use Rattle.api_machine.proofs.EditLemmas.{made-append}
 use Rattle.api_machine.proofs.EditedRows.{none_refused}
 use Rattle.api_machine.proofs.GatewayStays.{unmapped}
 use Rattle.api_machine.proofs.ServingEnds.{serving_ended}
@@ -40,6 +39,7 @@ use Rattle.call_parts.specs.State.{State, is_last}
 use Rattle.api_machine.proofs.CarriedKept.{IsCarriedEdit, end_carried, made_carried}
 use Rattle.api_ml2.specs.Carrying.{carries}
 use Rattle.net_settings.specs.Settings.{SettingsParts}
+use Rattle.call_parts.proofs.EditLemmas.{made-append}
 
 -- a row that goes may be replaced first
 filter_set : {R : Type 0} (keep : R → Bool) (xs : List R) (k : ℕ) (old new : R) → slice_get xs k ≡ Some old → keep old ≡ false → keep new ≡ false → filter keep (slice_set xs k new) ≡ filter keep xs

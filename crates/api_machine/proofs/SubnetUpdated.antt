@@ -15,7 +15,7 @@ use Rattle.api_types.specs.Lists.{Each, if_some, is_empty, is_some_so}
 use Rattle.api_types.specs.Outcome.{Moved, Outcome}
 use Rattle.api_types.specs.Owners.{is_interface}
 use Rattle.api_types.specs.Printed.{OneRow, Reply}
-use Rattle.api_types.specs.Registration.{Drawing, draw_of, drawn_id}
+use Rattle.api_types.specs.Registration.{Drawing, drawn_id}
 use Rattle.api_types.specs.RowLists.{RowLists}
 use Rattle.api_types.specs.Table.{ident_eq, row_of}
 use Rattle.api_types.specs.declared.call.Call.TheVariants.{Update}
@@ -38,7 +38,6 @@ use Rattle.api_types.proofs.ListLemmas.{and_both, both_and, false_true}
 use Rattle.api_types.proofs.NameLemmas.{and_fails, ident_same, not_true}
 use Rattle.row_laws.proofs.SubnetReplaced.{subnet_replaced as subnet_kept}
 use Rattle.api_machine.proofs.ChoiceLemmas.{pool_passes}
-use Rattle.api_machine.proofs.EditLemmas.{made-append}
 use Rattle.api_machine.proofs.EditedRows.{none_refused, put_at}
 use Rattle.api_machine.proofs.GatewayStays.{gateway_stays}
 use Rattle.api_machine.proofs.GivenLemmas.{SubnetBodyParts, body_parts, good_subnet, good_versions, has_name, value_all, value_few}
@@ -58,13 +57,15 @@ use Rattle.plan_subnets.specs.SubnetCalls.{changed_subnet, subnet_changed, subne
 use Rattle.call_parts.specs.Typed.{AreTyped}
 use Rattle.api_policy.specs.Uses.{old_gateway_in_use}
 use Rattle.api_policy.specs.Visibility.{sees_subnet}
-use Rattle.api_machine.proofs.OutcomeLemmas.{found_at, if_some as if_some_moved, moved_rows, named_is, needing_moved, not_when, unless_moved}
+use Rattle.api_machine.proofs.OutcomeLemmas.{found_at, moved_rows, named_is, needing_moved, not_when, unless_moved}
 use Rattle.api_types.specs.Given.{value_or}
 use Rattle.api_types.specs.Refusing.{needing, not_found}
-use Rattle.call_parts.specs.State.{State, drawing_at, is_last}
+use Rattle.call_parts.specs.State.{State, drawing_at}
 use Rattle.net_settings.specs.Settings.{SettingsParts}
 use Rattle.api_machine.proofs.CarriedKept.{IsCarriedEdit, begin_carried, end_carried, made_carried}
 use Rattle.api_ml2.specs.Carrying.{carries}
+use Rattle.call_parts.proofs.EditLemmas.{made-append}
+use Rattle.call_parts.proofs.DrawnLemmas.{drawn_is}
 
 -- modes stand, since a subnet with one isn't freed of DHCP
 modes_still : (am rm : Option Ipv6Mode) (v d : Bool) (g : Given Bool) → not (value_or true g) && (is_some am || is_some rm) ≡ false → (is_none am && is_none rm) || (v && d) ≡ true → (is_none am && is_none rm) || (v && value_or d g) ≡ true
@@ -229,9 +230,6 @@ module _ (settings : SettingsParts) (state : State) (caller : Caller) (form : Su
       room : (b : Bool) → 5 + (if b then 1 else 0) < 2 ^ 62
       room true = lit< tt
       room false = lit< tt
-
-      drawn_is : (state : State) (project : List ℕ) (many : ℕ) (d : Drawing) → drawing_at state project many ≡ Some d → draw_of state.rows project many ≡ Some d
-      drawn_is state project many d h = (if_some_moved (is_last state) (draw_of state.rows project many) d h).1
 
 pub updated_kept : (settings : SettingsParts) (state : State) (caller : Caller) (name : IdText) (form : SubnetForm) (rows : RowLists) (reply : Reply) → IsConsistent state.rows → AreTyped state.rows
     → IsFormed caller (Update name (SubnetOf form)) → subnet_updated settings state caller name form ≡ Moved rows reply → HaveKept settings state.rows rows

@@ -22,7 +22,7 @@ use Rattle.row_laws.specs.Drawn.{IsDrawing}
 use Rattle.api_types.proofs.ListLemmas.{each-filter, each-push}
 use Rattle.api_machine.proofs.FixedFits.{each_append, each_cons, each_map, each_none, each_tail}
 use Rattle.api_machine.proofs.PoolHosts.{free_mac_is}
-use Rattle.plan_subnets.specs.DhcpUpkeep.{begin_serving, dhcp_port_on, end_serving, makes_dhcp_port, new_dhcp_port, outside_subnet, port_left, serving, unserving}
+use Rattle.plan_subnets.specs.DhcpUpkeep.{begin_serving, dhcp_port_on, end_serving, makes_dhcp_port, new_dhcp_port, port_left, serving, unserving}
 use Rattle.call_parts.specs.Edits.{Add, Drop, Edit, Put, edited, made, put_in, with_added, with_put, without_row}
 use Rattle.call_parts.specs.Leaving.{disassociated, disassociations, loses_target}
 use Rattle.api_ipam.specs.MacChoice.{mac_if}
@@ -30,6 +30,7 @@ use Rattle.api_machine.specs.Kept.{HostsCarry}
 use Rattle.call_parts.specs.Typed.{AreTyped}
 use Rattle.api_machine.proofs.OutcomeLemmas.{found_at}
 use Rattle.net_settings.specs.Settings.{SettingsParts}
+use Rattle.row_laws.specs.Leased.{outside}
 
 -- what an accepted call keeps of rows, where what types and hosts ask of them is taken as it comes
 pub record HaveKept (settings : SettingsParts) (before after : RowLists) : Type 0 where
@@ -135,7 +136,7 @@ end_typed rows network true subnet t = by (dhcp_port_on rows.ports network) refl
     by None e = each_none IsTypedEdit
     by (Some p) e =
         let found = found_at (is_dhcp_of network) rows.ports p e in
-        let fs = outside_subnet subnet p.fixed in
+        let fs = outside subnet p.fixed in
         each_append IsTypedEdit (disassociations rows.floatings p.id fs) (port_left p fs ∷ []) (disassociations_typed rows.floatings p.id fs)
         (each_cons IsTypedEdit (port_left p fs) [] (left p fs (t.macs found.0 p found.1)) (each_none IsTypedEdit))
 

@@ -119,9 +119,8 @@ impl Machine {
     }
 
     /// What a call comes to: its answer, and the change that leads to the rows after it, which fits
-    /// the rows of now and leaves rows that are as sound. Nothing changes. What isn't built yet is
-    /// refused. A tenant is answered as at any other state in which it has the same footing. Its
-    /// cost grows with the rows.
+    /// the rows of now and leaves rows that are as sound. Nothing changes. A tenant is answered as
+    /// at any other state in which it has the same footing. Its cost grows with the rows.
     pub fn plan(&self, alloc: Global, caller: &Caller, call: &Call) -> Result<Planned, Refusal>
         requires in_form { IsInForm caller.now call.now }
         ensures ok { IfOk result

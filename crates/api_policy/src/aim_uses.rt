@@ -41,8 +41,9 @@ fn is_other(own: &Option<Id>, floating: &FloatingRow) -> bool
     }
 }
 
-// The first floating address but one that stands for this address of the port.
-fn leading<'r>(
+/// The first floating address of the network but `own`, where there is one, that stands for this
+/// address of the port. Its cost grows with the floating addresses.
+pub fn leading<'r>(
     floatings: &'r [Shared<FloatingRow>],
     own: &Option<Id>,
     network: Id,

@@ -36,8 +36,9 @@ fn floating_named<'r>(
         .find(|floating| device_is(device, floating.id))
 }
 
-// The router, or else the floating address, that a service's port names by its device.
-fn named_by_device(rows: &Rows, device: &Text) -> Option<(Kind, Id)>
+/// The router, or else the floating address, that a device names. Its cost grows with the routers
+/// and the floating addresses.
+pub fn named_by_device(rows: &Rows, device: &Text) -> Option<(Kind, Id)>
     ensures { result ≡ named_by rows.now device.now }
 {
     if let Some(router) = router_named(rows.routers().rows(), device) {

@@ -6,8 +6,9 @@
 //! networks that are its own or shared with it, and each port on its own networks. `may` names the
 //! rule of policy that forbids a call; `admin_only` and its like refuse by one rule. `within_quota`
 //! counts what a project has. The others refuse what a row uses, each by one use, and tell the
-//! using row where the caller sees it. What is printed of rows, and what is shown and listed of
-//! them, is defined in specs/. No call takes memory.
+//! using row where the caller sees it; `unless_last` refuses a change for which no version is left.
+//! What is printed of rows, and what is shown and listed of them, is defined in specs/. No call
+//! takes memory.
 #![tactic(auto)]
 
 mod aim_uses;
@@ -24,10 +25,12 @@ mod router_uses;
 mod seen;
 mod standing;
 mod told;
+mod versions;
 mod visible;
 
-pub use aim_uses::aim_in_use;
-pub use device_uses::{port_in_use, service_in_use};
+pub use aim_uses::{aim_in_use, leading};
+pub use device_uses::{named_by_device, port_in_use, service_in_use};
+pub use empty::is_empty;
 pub use marked::{is_marked, may_use};
 pub use permits::{admin_only, network_access, network_owner, owner_only, port_delete};
 pub use policy_rules::{Forbidden, may};
@@ -40,10 +43,14 @@ pub use reserved::{
     floating_for_admin, is_snat_asked, network_for_admin, policy_for_admin, port_for_admin,
     port_for_owner, router_for_admin,
 };
-pub use router_uses::{floating_in_use, gateway_in_use, gateway_use, route_in_use};
+pub use router_uses::{
+    floating_by, floating_in_use, floating_through, gateway_in_use, gateway_use, loses_route,
+    route_in_use,
+};
 pub use seen::{
     floating_seen, group_seen, named, network_seen, policy_seen, port_seen, router_seen, rule_seen,
     subnet_seen,
 };
 pub use standing::Standing;
+pub use versions::unless_last;
 pub use visible::{Visible, sees};

@@ -50,7 +50,9 @@ fn is_lost_hop(
     reaches(subnets, &hop.next, port) && !is_reached(subnets, ports, router, port.id, &hop.next)
 }
 
-fn loses_route(
+/// Whether the port's going leaves the next hop of one of these routes unreached. Its cost grows
+/// with the routes times the ports, and for each port of the router with the subnets.
+pub fn loses_route(
     subnets: &[Shared<SubnetRow>],
     ports: &[Shared<PortRow>],
     router: &RouterRow,
@@ -145,7 +147,9 @@ fn leads_through(
     }
 }
 
-fn floating_through<'r>(
+/// The first floating address that leads by the router to an address in a subnet of the port. Its
+/// cost grows with the floating addresses, and for each of the router with the subnets.
+pub fn floating_through<'r>(
     subnets: &[Shared<SubnetRow>],
     floatings: &'r [Shared<FloatingRow>],
     router: Id,
@@ -190,7 +194,8 @@ fn leads_by(router: Id, floating: &FloatingRow) -> bool
     }
 }
 
-fn floating_by(floatings: &[Shared<FloatingRow>], router: Id) -> Option<&Shared<FloatingRow>>
+/// The first floating address that leads by the router. Its cost grows with the floating addresses.
+pub fn floating_by(floatings: &[Shared<FloatingRow>], router: Id) -> Option<&Shared<FloatingRow>>
     ensures { option_copied result ≡ find (led_by router) floatings.now }
 {
     floatings.iter().find(|floating| leads_by(router, floating))

@@ -5,7 +5,7 @@ ghost use Rattle.std.specs.HashMap.{get};
 ghost use Rattle.std.specs.HashSet.{contains};
 ghost use Rattle.std.specs.List.{filter};
 ghost use Rattle.api_types.specs.Ident.{Ident};
-ghost use Rattle.api_types.specs.Members.{members as members_of};
+ghost use Rattle.api_types.specs.Members.{members as members_of, names_group};
 ghost use Rattle.api_types.specs.Table.{ident_eq};
 ghost use Rattle.api_secgroup.specs.Named.{names};
 
@@ -41,22 +41,39 @@ impl<'r> Model for Memberships<'r> {
         ≡ filter (names g) m.rows.now.ports };
 }
 
-// Takes the ports of a group out.
-fn taken<'r>(
+// Has a group of which there were none have these ports.
+fn put_in<'r>(
+    by_group: &mut HashMap<Id, Vec<&'r PortRow>>,
+    group: Id,
+    ports: Vec<&'r PortRow>,
+) -> Result<(), OutOfMemory>
+    ensures { OnOk result
+        ((q : Ident)
+        → get ident_eq by_group.new q ≡ if ident_eq group q then Some ports.entry
+        else get ident_eq by_group.old q) }
+{
+    by_group.insert(group, ports)?;
+    Ok(())
+}
+
+// Adds the first port of a group.
+fn add_first<'r>(
     alloc: Global,
     by_group: &mut HashMap<Id, Vec<&'r PortRow>>,
     group: Id,
-) -> Vec<&'r PortRow>
-    ensures listed { map (λ p. p.now) result.items
-        ≡ elim (get ident_eq by_group.old group) [ None ↦ [] | Some v ↦ map (λ p. p.now) v.items ] }
-    ensures rest { (q : Ident)
-        → get ident_eq by_group.new q ≡ if ident_eq group q then None
-        else get ident_eq by_group.old q }
+    port: &'r PortRow,
+) -> Result<(), OutOfMemory>
+    requires { get ident_eq by_group.old group ≡ None }
+    ensures { OnOk result
+        ((q : Ident)
+        → elim (get ident_eq by_group.new q) [ None ↦ [] | Some v ↦ map (λ p. p.now) v.items ]
+        ≡ elim (get ident_eq by_group.old q)
+        [ None ↦ [] | Some v ↦ map (λ p. p.now) v.items ]
+        ++ (if ident_eq group q then port.now ∷ [] else [])) }
 {
-    match by_group.remove(&group) {
-        Some(ports) => ports,
-        None => Vec::new(alloc),
-    }
+    let mut ports = Vec::new(alloc);
+    ports.push(port)?;
+    put_in(by_group, group, ports)
 }
 
 // Adds a port to those of a group, last.
@@ -73,10 +90,11 @@ fn add_to<'r>(
         [ None ↦ [] | Some v ↦ map (λ p. p.now) v.items ]
         ++ (if ident_eq group q then port.now ∷ [] else [])) }
 {
-    let mut ports = taken(alloc, by_group, group);
-    ports.push(port)?;
-    by_group.insert(group, ports)?;
-    Ok(())
+    if let Some(ports) = by_group.get_mut(&group) {
+        ports.push(port)?;
+        return Ok(());
+    }
+    add_first(alloc, by_group, group, port)
 }
 
 // Adds a group, and tells whether it wasn't there.
@@ -114,7 +132,29 @@ fn add_once<'r>(
     add_to(alloc, by_group, group, port)
 }
 
-// Adds a port to those of each group that it names, once where it names one twice.
+// Adds a port to those of each of these groups, once where one is among them twice.
+fn add_to_each<'r>(
+    alloc: Global,
+    by_group: &mut HashMap<Id, Vec<&'r PortRow>>,
+    groups: &[Id],
+    port: &'r PortRow,
+) -> Result<(), OutOfMemory>
+    ensures { OnOk result
+        ((q : Ident)
+        → elim (get ident_eq by_group.new q) [ None ↦ [] | Some v ↦ map (λ p. p.now) v.items ]
+        ≡ elim (get ident_eq by_group.old q)
+        [ None ↦ [] | Some v ↦ map (λ p. p.now) v.items ]
+        ++ (if names_group q groups.now then port.now ∷ [] else [])) }
+{
+    let mut seen = HashSet::new(alloc);
+    for group in groups {
+        add_once(alloc, by_group, &mut seen, *group, port)?;
+    }
+    Ok(())
+}
+
+// Adds a port to those of each group that it names. Where it names one, as most do, there is nothing
+// to be named twice, and no set is made.
 fn add_port<'r>(
     alloc: Global,
     by_group: &mut HashMap<Id, Vec<&'r PortRow>>,
@@ -127,11 +167,10 @@ fn add_port<'r>(
         [ None ↦ [] | Some v ↦ map (λ p. p.now) v.items ]
         ++ (if names q port.now then port.now ∷ [] else [])) }
 {
-    let mut seen = HashSet::new(alloc);
-    for group in port.groups.as_slice() {
-        add_once(alloc, by_group, &mut seen, *group, port)?;
+    match port.groups.as_slice() {
+        [group] => add_to(alloc, by_group, *group, port),
+        groups => add_to_each(alloc, by_group, groups, port),
     }
-    Ok(())
 }
 
 // The ports that name each group.

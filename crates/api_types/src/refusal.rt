@@ -44,8 +44,6 @@ pub enum Value {
 /// Why a request is refused, with what the message says. After each of them all is as before.
 #[derive(Drop)]
 pub enum Refusal {
-    /// 501: the server has no such call yet.
-    NotBuilt,
     /// 400: the bytes are no request.
     Malformed,
     /// 431: the head has more than 16,384 bytes or 64 fields.

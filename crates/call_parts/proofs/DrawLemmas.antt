@@ -19,26 +19,16 @@ use Rattle.api_types.proofs.ListLemmas.{any-none}
 use Rattle.api_types.proofs.NameLemmas.{first_fails, ident_itself}
 use Rattle.call_parts.specs.Drafts.{AreRulesNew, raised}
 use Rattle.call_parts.proofs.EditLaws.{once_own, put_once}
+use Rattle.call_parts.proofs.AbsentLemmas.{absent_pushed, later_id}
 
 unequal : (a b : ℕ) → (a ≡ b → ⊥) → (a == b) ≡ false
 unequal a b ne = grind (arith, nat_tests)
-
-counts_differ : (k a b : ℕ) → b < a → (k == k) && (a == b) ≡ false
-counts_differ k a b lt = grind (arith, nat_tests)
 
 -- no row has an id from which each row's id differs
 none_by : {R : Type 0} (id_of : R → Ident) (i : Ident) (rows : List R) → ((k : ℕ) (r : R) → slice_get rows k ≡ Some r → ident_eq i (id_of r) ≡ false) → row_of id_of i rows ≡ None
 none_by id_of i [] differs = refl
 none_by id_of i (r ∷ rows) differs =
     ap (λ b. cond b (Some r) (row_of id_of i rows)) (differs 0 r refl) ∙ none_by id_of i rows (λ k x at. differs (suc k) x at)
-
-none-push : {R : Type 0} (id_of : R → Ident) (i : Ident) (rows : List R) (r : R) → row_of id_of i rows ≡ None → ident_eq i (id_of r) ≡ false → row_of id_of i (rows ++ r ∷ []) ≡ None
-none-push id_of i [] r none differs = ap (λ b. cond b (Some r) None) differs
-none-push id_of i (x ∷ rows) r none differs = by (ident_eq i (id_of x)) none (λ h. none-push id_of i rows r h differs)
-  where
-    by : (b : Bool) → cond b (Some x) (row_of id_of i rows) ≡ None → (row_of id_of i rows ≡ None → row_of id_of i (rows ++ r ∷ []) ≡ None) → cond b (Some x) (row_of id_of i (rows ++ r ∷ [])) ≡ None
-    by true h rest = cc
-    by false h rest = rest h
 
 module _ (rows : RowLists) (n : IsConsistent rows) (k : ℕ) (next : k ≡ length rows.projects + 1) where
   ordinals_differ : (j : ℕ) (q : ProjectRow) → slice_get rows.projects j ≡ Some q → q.ordinal ≡ k → ⊥
@@ -71,10 +61,10 @@ module _ (rules : List RuleRow) (name : List ℕ) (k : ℕ) (new : AreRulesNew r
   r4 = default_rule name k 4 Ingress Ipv4
 
   behind_one : (c : ℕ) → 2 < c → row_of (λ (r : RuleRow). r.id) (ident k c) (rules ++ r2 ∷ []) ≡ None
-  behind_one c later = none-push (λ r. r.id) (ident k c) rules r2 (new c) (counts_differ k c 2 later)
+  behind_one c later = absent_pushed (λ r. r.id) (ident k c) rules r2 (new c) (later_id k c 2 later)
 
   behind_two : (c : ℕ) → 3 < c → row_of (λ (r : RuleRow). r.id) (ident k c) ((rules ++ r2 ∷ []) ++ r3 ∷ []) ≡ None
-  behind_two c later = none-push (λ r. r.id) (ident k c) (rules ++ r2 ∷ []) r3 (behind_one c (omega arith)) (counts_differ k c 3 later)
+  behind_two c later = absent_pushed (λ r. r.id) (ident k c) (rules ++ r2 ∷ []) r3 (behind_one c (omega arith)) (later_id k c 3 later)
 
   pub third_new : row_of (λ (r : RuleRow). r.id) (ident k 3) (rules ++ r2 ∷ []) ≡ None
   third_new = behind_one 3 (omega arith)
@@ -83,7 +73,7 @@ module _ (rules : List RuleRow) (name : List ℕ) (k : ℕ) (new : AreRulesNew r
   fourth_new = behind_two 4 (omega arith)
 
   pub fifth_new : row_of (λ (r : RuleRow). r.id) (ident k 5) (((rules ++ r2 ∷ []) ++ r3 ∷ []) ++ r4 ∷ []) ≡ None
-  fifth_new = none-push (λ r. r.id) (ident k 5) ((rules ++ r2 ∷ []) ++ r3 ∷ []) r4 (behind_two 5 (omega arith)) (counts_differ k 5 4 (omega arith))
+  fifth_new = absent_pushed (λ r. r.id) (ident k 5) ((rules ++ r2 ∷ []) ++ r3 ∷ []) r4 (behind_two 5 (omega arith)) (later_id k 5 4 (omega arith))
 
 pub one_by_one : {R : Type 0} (xs : List R) (a b c d : R) → (((xs ++ a ∷ []) ++ b ∷ []) ++ c ∷ []) ++ d ∷ [] ≡ xs ++ a ∷ b ∷ c ∷ d ∷ []
 one_by_one xs a b c d = simp append_assoc

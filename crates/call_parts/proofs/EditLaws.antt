@@ -129,3 +129,7 @@ no_place {X = X} test xs none = by (nat_lt (position_or_len test xs) (length xs)
 pub ok_by : {X E : Type 0} (P Q : X → Type 0) (r : Result X E) → ((x : X) → P x → Q x) → IfOk r P → IfOk r Q
 ok_by P Q (Ok x) f h = f x h
 ok_by P Q (Err e) f h = tt
+
+pub ok_by_both : {X E : Type 0} (P Q S : X → Type 0) (r : Result X E) → ((x : X) → P x → Q x → S x) → IfOk r P → IfOk r Q → IfOk r S
+ok_by_both P Q S (Ok x) f p q = f x p q
+ok_by_both P Q S (Err e) f p q = tt

@@ -2,17 +2,22 @@
 //!
 //! What bodies give, refusals that name what is wrong or missing, and a `Draft`: the rows that a
 //! call leads to and the change that leads there, edit by edit, with ids that are drawn for a
-//! project. It stands on the rows of `api_types`.
+//! project. Floating addresses are disassociated where an address leaves its port. It stands on the
+//! rows of `api_types`.
 #![tactic(auto)]
 
 mod draft;
 mod drawing;
 mod editable;
+mod fixed;
 mod given;
+mod leaving;
 mod refusals;
 
 pub use draft::Draft;
 pub use drawing::{Drawn, draw};
 pub use editable::Editable;
+pub use fixed::one_fixed;
 pub use given::{are_unlike, is_for_other, is_given, owner, text_or, value_of, value_or};
+pub use leaving::disassociate;
 pub use refusals::{invalid, none_with_id, not_found};

@@ -27,8 +27,9 @@ use Rattle.plane_types.specs.declared.ask.LabCall.{LabCall}
 use Rattle.plane_types.specs.declared.ask.LabCall.TheVariants.{Deliver, Explain, Forget, Frames, Hosts, Resync, Restart, Settle, Tables}
 use Rattle.plane_types.specs.declared.event.Event.{Event}
 use Rattle.plane_types.specs.declared.event.Event.TheVariants.{FromPort, FromWire}
-use Rattle.lab_world.specs.Lab.{LabOutcome, WorldState, event_refusal, lab_outcome, unless_barred}
-use Rattle.lab_world.specs.World.{ByLab, ByMachine, ask_outcome, told_of}
+use Rattle.world_laws.specs.World.{World}
+use Rattle.lab_world.specs.Lab.{LabOutcome, event_refusal, for_admins, lab_outcome, unless_barred}
+use Rattle.lab_world.specs.World.{ByLab, OfApi, ask_outcome, state_of, told_of}
 
 -- what is seen stands among what is seen
 seen_there : (i : Ident) (sees : PortRow → Bool) (ports : List PortRow) → stands_so (λ (p : PortRow). p.id) i sees ports ≡ list_any (λ (p : PortRow). ident_eq i p.id) (filter sees ports)
@@ -45,19 +46,19 @@ seen_there i sees (p ∷ ps) = go (ident_eq i p.id) refl (sees p) refl (seen_the
     go false e true f rest = rest ∙ sym (ap (λ t. t || list_any (λ (q : PortRow). ident_eq i q.id) kept) e)
     go false e false f rest = rest
 
-module _ (caller : Caller) (v w : WorldState) (tenant : caller.admin ≡ false) (same : footing v.settings v.state caller ≡ footing w.settings w.state caller) where
-  port_alike : (i : Ident) → sees_row v.state.rows caller PortKind i ≡ sees_row w.state.rows caller PortKind i
+module _ (caller : Caller) (v w : World) (tenant : caller.admin ≡ false) (same : footing v.settings (state_of v) caller ≡ footing w.settings (state_of w) caller) where
+  port_alike : (i : Ident) → sees_row v.history.rows caller PortKind i ≡ sees_row w.history.rows caller PortKind i
   port_alike i =
-      seen_there i (sees_port v.state.rows caller) v.state.rows.ports
+      seen_there i (sees_port v.history.rows caller) v.history.rows.ports
       ∙ ap (λ (f : Footing). list_any (λ (p : PortRow). ident_eq i p.id) f.ports) same
-      ∙ sym (seen_there i (sees_port w.state.rows caller) w.state.rows.ports)
+      ∙ sym (seen_there i (sees_port w.history.rows caller) w.history.rows.ports)
 
-  event_alike : (event : Event) → event_refusal v.state.rows caller event ≡ event_refusal w.state.rows caller event
+  event_alike : (event : Event) → event_refusal v.history.rows caller event ≡ event_refusal w.history.rows caller event
   event_alike (FromPort port frame) =
       ap (λ b. first_refusal (when (not b) (not_found PortKind (ident_text port)) ∷ when (not caller.admin) (Forbidden AdminOnly) ∷ [])) (port_alike port)
   event_alike (FromWire physical tag frame) =
-      ap (λ b. first_refusal (when (not b) (Forbidden AdminOnly) ∷ when (not (is_some (network_on v.state.rows (record { physical = physical; tag = tag })))) (Invalid (codes "physical_network")) ∷ [])) tenant
-      ∙ sym (ap (λ b. first_refusal (when (not b) (Forbidden AdminOnly) ∷ when (not (is_some (network_on w.state.rows (record { physical = physical; tag = tag })))) (Invalid (codes "physical_network")) ∷ [])) tenant)
+      ap (λ b. first_refusal (when (not b) (Forbidden AdminOnly) ∷ when (not (is_some (network_on v.history.rows (record { physical = physical; tag = tag })))) (Invalid (codes "physical_network")) ∷ [])) tenant
+      ∙ sym (ap (λ b. first_refusal (when (not b) (Forbidden AdminOnly) ∷ when (not (is_some (network_on w.history.rows (record { physical = physical; tag = tag })))) (Invalid (codes "physical_network")) ∷ [])) tenant)
 
   -- a tenant is refused
   seen_or_not : (b : Bool) (refusal : Refusal) → is_some (first_refusal (when b refusal ∷ when (not caller.admin) (Forbidden AdminOnly) ∷ [])) ≡ true
@@ -73,32 +74,32 @@ module _ (caller : Caller) (v w : WorldState) (tenant : caller.admin ≡ false) 
   barred_alike None p x y e some = absurd (true≢false (sym some))
   barred_alike (Some r) p x y e some = ap (λ o. unless_barred o y) e
 
-  admin_alike : (x y : LabOutcome) → unless_barred (when (not caller.admin) (Forbidden AdminOnly)) x ≡ unless_barred (when (not caller.admin) (Forbidden AdminOnly)) y
+  admin_alike : (x y : LabOutcome) → for_admins caller x ≡ for_admins caller y
   admin_alike x y = ap (λ b. unless_barred (when (not b) (Forbidden AdminOnly)) x) tenant ∙ sym (ap (λ b. unless_barred (when (not b) (Forbidden AdminOnly)) y) tenant)
 
   lab_apart : (call : LabCall) → lab_outcome v caller call ≡ lab_outcome w caller call
-  lab_apart (Frames event) = barred_alike (event_refusal v.state.rows caller event) (event_refusal w.state.rows caller event) _ _ (event_alike event) (is_barred v.state.rows event)
-  lab_apart (Explain event) = barred_alike (event_refusal v.state.rows caller event) (event_refusal w.state.rows caller event) _ _ (event_alike event) (is_barred v.state.rows event)
+  lab_apart (Frames event) = barred_alike (event_refusal v.history.rows caller event) (event_refusal w.history.rows caller event) _ _ (event_alike event) (is_barred v.history.rows event)
+  lab_apart (Explain event) = barred_alike (event_refusal v.history.rows caller event) (event_refusal w.history.rows caller event) _ _ (event_alike event) (is_barred v.history.rows event)
   lab_apart Hosts = admin_alike _ _
   lab_apart (Tables name) = admin_alike _ _
-  lab_apart (Deliver host number) = refl
-  lab_apart (Resync host) = refl
-  lab_apart (Restart host) = refl
-  lab_apart (Forget host) = refl
-  lab_apart Settle = refl
+  lab_apart (Deliver host number) = admin_alike _ _
+  lab_apart (Resync host) = admin_alike _ _
+  lab_apart (Restart host) = admin_alike _ _
+  lab_apart (Forget host) = admin_alike _ _
+  lab_apart Settle = admin_alike _ _
 
 -- a call, at states under one and the same settings
-call_apart : (caller : Caller) (v w : WorldState) → caller.admin ≡ false → not (is_empty caller.project) ≡ true → IsConsistent v.state.rows → IsConsistent w.state.rows → v.settings ≡ w.settings
-    → footing v.settings v.state caller ≡ footing w.settings w.state caller → (call : Call) → told (api_step v.settings v.state caller call) ≡ told (api_step w.settings w.state caller call)
+call_apart : (caller : Caller) (v w : World) → caller.admin ≡ false → not (is_empty caller.project) ≡ true → IsConsistent v.history.rows → IsConsistent w.history.rows → v.settings ≡ w.settings
+    → footing v.settings (state_of v) caller ≡ footing w.settings (state_of w) caller → (call : Call) → told (api_step v.settings (state_of v) caller call) ≡ told (api_step w.settings (state_of w) caller call)
 call_apart caller v w tenant named c d one same call = subst At one here same
   where
     At : SettingsParts → Type 0
-    At settings = footing v.settings v.state caller ≡ footing settings w.state caller → told (api_step v.settings v.state caller call) ≡ told (api_step settings w.state caller call)
+    At settings = footing v.settings (state_of v) caller ≡ footing settings (state_of w) caller → told (api_step v.settings (state_of v) caller call) ≡ told (api_step settings (state_of w) caller call)
 
-    here : footing v.settings v.state caller ≡ footing v.settings w.state caller → told (api_step v.settings v.state caller call) ≡ told (api_step v.settings w.state caller call)
-    here alike = step_apart v.settings caller v.state w.state tenant named c d alike call
+    here : footing v.settings (state_of v) caller ≡ footing v.settings (state_of w) caller → told (api_step v.settings (state_of v) caller call) ≡ told (api_step v.settings (state_of w) caller call)
+    here alike = step_apart v.settings caller (state_of v) (state_of w) tenant named c d alike call
 
-pub ask_apart : (caller : Caller) (v w : WorldState) → caller.admin ≡ false → not (is_empty caller.project) ≡ true → IsConsistent v.state.rows → IsConsistent w.state.rows → v.settings ≡ w.settings
-    → footing v.settings v.state caller ≡ footing w.settings w.state caller → (ask : Ask) → told_of (ask_outcome v caller ask) ≡ told_of (ask_outcome w caller ask)
-ask_apart caller v w tenant named c d one same (Api call) = ap ByMachine (call_apart caller v w tenant named c d one same call)
+pub ask_apart : (caller : Caller) (v w : World) → caller.admin ≡ false → not (is_empty caller.project) ≡ true → IsConsistent v.history.rows → IsConsistent w.history.rows → v.settings ≡ w.settings
+    → footing v.settings (state_of v) caller ≡ footing w.settings (state_of w) caller → (ask : Ask) → told_of (ask_outcome v caller ask) ≡ told_of (ask_outcome w caller ask)
+ask_apart caller v w tenant named c d one same (Api call) = ap OfApi (call_apart caller v w tenant named c d one same call)
 ask_apart caller v w tenant named c d one same (Lab call) = ap (λ o. told_of (ByLab o)) (lab_apart caller v w tenant same call)

@@ -1,5 +1,12 @@
-pub mod AskApart
-pub mod HostLaws
-pub mod Placing
 pub mod SoFar
+pub mod Placing
+pub mod Seen
+pub mod One
+pub mod Parts
+pub mod Asking
+pub mod FrameLaws
+pub mod Keeping
+pub mod Planning
+pub mod MessageLaws
 pub mod WorldLaws
+pub mod AskApart

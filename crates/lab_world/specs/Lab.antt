@@ -1,43 +1,37 @@
--- What calls of the lab come to: what hosts make of an event, what the rows say of it, the hosts and their tables. They are for
--- administrators alone.
+-- What calls of the lab come to: what hosts make of an event, what the rows say of it, the hosts and their tables, and messages that
+-- hosts get or lose. They are for administrators alone.
 use Rattle.std.specs.Prelude.{◌≡◌, ◌⊎◌, ℕ, ◌∷◌, [], not, List, Option, Some, None, codes, find, is_some, map}
+use Rattle.std.specs.Str.{bytes_eq}
 use Rattle.api_types.specs.Ident.{ident_text}
+use Rattle.api_types.specs.Refusing.{first_refusal, not_found, when}
 use Rattle.api_types.specs.RowLists.{RowLists}
+use Rattle.api_types.specs.Wires.{network_on}
 use Rattle.api_types.specs.declared.call.Caller.{Caller}
+use Rattle.api_types.specs.declared.change.Item.{Item}
 use Rattle.api_types.specs.declared.kind.Kind.TheVariants.{Port as PortKind}
 use Rattle.api_types.specs.declared.refusal.PolicyRule.TheVariants.{AdminOnly}
 use Rattle.api_types.specs.declared.refusal.Refusal.{Refusal}
-use Rattle.api_types.specs.declared.refusal.Refusal.TheVariants.{Forbidden, Invalid, NoHost, NotBuilt, OutOfMemory}
+use Rattle.api_types.specs.declared.refusal.Refusal.TheVariants.{Forbidden, Invalid, NoHost, NoMessage, OutOfMemory}
 use Rattle.api_policy.specs.Visibility.{sees_row}
-use Rattle.api_types.specs.Refusing.{first_refusal, not_found, when}
-use Rattle.api_machine.specs.Machine.{state_at}
-use Rattle.call_parts.specs.State.{State}
-use Rattle.net_settings.specs.Settings.{SettingsParts}
-use Rattle.plane_types.specs.Hosts.{Host, all_entries, is_named}
-use Rattle.api_types.specs.Wires.{network_on}
-use Rattle.plane_types.specs.Told.{fabric_verdict, hosts_after, rows_verdict}
+use Rattle.plane_types.specs.Hosts.{all_entries}
+use Rattle.plane_types.specs.Node.{heard}
+use Rattle.plane_types.specs.Told.{fabric_verdict, rows_verdict}
 use Rattle.plane_types.specs.declared.ask.HostState.{HostState}
 use Rattle.plane_types.specs.declared.ask.LabAnswer.{LabAnswer}
-use Rattle.plane_types.specs.declared.ask.LabAnswer.TheVariants.{Hosts, Seen, Tables}
+use Rattle.plane_types.specs.declared.ask.LabAnswer.TheVariants.{Hosts, Seen, Tables, Told}
 use Rattle.plane_types.specs.declared.ask.LabCall.{LabCall}
 use Rattle.plane_types.specs.declared.ask.LabCall.TheVariants as call
 use Rattle.plane_types.specs.declared.event.Event.{Event}
 use Rattle.plane_types.specs.declared.event.Event.TheVariants.{FromPort, FromWire}
+use Rattle.bus_core.specs.History.{change_at, first_kept}
+use Rattle.world_laws.specs.Agents.{Agent}
+use Rattle.world_laws.specs.Steps.{Deliver, Forget, Resync, Restart, Send, Settle, Step, step}
+use Rattle.world_laws.specs.World.{World, seats}
 
--- a server: its settings, the machine's rows with their version, and the hosts that hold them, with their tables and tracked entries
-pub record WorldState : Type 0 where
-  pub settings : SettingsParts
-  pub state : State
-  pub hosts : List Host
-
--- a server by the machine's parts and its hosts
-abbrev pub world_of : SettingsParts → RowLists → ℕ → List Host → WorldState
-world_of settings rows version hosts = record { settings = settings; state = state_at rows version; hosts = hosts }
-
--- a call of the lab is refused, or answered, and then the hosts are these
+-- a call of the lab is refused, or answered, and then the world is this
 pub data LabOutcome : Type 0 where
   Barred : Refusal → LabOutcome
-  Answered : LabAnswer → List Host → LabOutcome
+  Answered : LabAnswer → World → LabOutcome
 
 abbrev pub unless_barred : Option Refusal → LabOutcome → LabOutcome
 unless_barred None outcome = outcome
@@ -54,25 +48,43 @@ event_refusal rows caller (FromWire physical tag frame) = first_refusal (
     ∷ when (not (is_some (network_on rows (record { physical = physical; tag = tag })))) (Invalid (codes "physical_network"))
     ∷ [])
 
--- each host has the rows of now
-abbrev pub host_told : ℕ → Host → HostState
-host_told version h = record { name = h.name; held = Some version }
+-- a caller who is no administrator is refused before anything else is looked at
+abbrev pub for_admins : Caller → LabOutcome → LabOutcome
+for_admins caller outcome = unless_barred (when (not caller.admin) (Forbidden AdminOnly)) outcome
 
-abbrev pub tables_told : List ℕ → List Host → Option Host → LabOutcome
-tables_told name hosts None = Barred (NoHost name)
-tables_told name hosts (Some h) = Answered (Tables h.tables) hosts
+abbrev pub host_named : World → List ℕ → Option Agent
+host_named w name = find (λ (a : Agent). bytes_eq name a.name) w.agents
 
--- a caller who is no administrator is refused before a host is looked for; messages to hosts aren't built yet
-abbrev pub lab_outcome : WorldState → Caller → LabCall → LabOutcome
-lab_outcome w caller (call.Frames event) = unless_barred (event_refusal w.state.rows caller event) (Answered (Seen (fabric_verdict w.hosts event)) (hosts_after w.hosts event))
-lab_outcome w caller (call.Explain event) = unless_barred (event_refusal w.state.rows caller event) (Answered (Seen (rows_verdict w.state.rows (all_entries w.hosts) event)) w.hosts)
-lab_outcome w caller call.Hosts = unless_barred (when (not caller.admin) (Forbidden AdminOnly)) (Answered (Hosts (map (host_told w.state.version) w.hosts)) w.hosts)
-lab_outcome w caller (call.Tables name) = unless_barred (when (not caller.admin) (Forbidden AdminOnly)) (tables_told name w.hosts (find (is_named name) w.hosts))
-lab_outcome w caller (call.Deliver host number) = Barred NotBuilt
-lab_outcome w caller (call.Resync host) = Barred NotBuilt
-lab_outcome w caller (call.Restart host) = Barred NotBuilt
-lab_outcome w caller (call.Forget host) = Barred NotBuilt
-lab_outcome w caller call.Settle = Barred NotBuilt
+abbrev pub with_host : List ℕ → Option Agent → (Agent → LabOutcome) → LabOutcome
+with_host name None on = Barred (NoHost name)
+with_host name (Some a) on = on a
+
+-- each host and the version that it holds
+abbrev pub host_state : Agent → HostState
+host_state a = record { name = a.name; held = a.held }
+
+abbrev pub hosts_told : World → LabAnswer
+hosts_told w = Hosts (map host_state w.agents)
+
+-- after a step the hosts are told
+abbrev pub stepped : World → Step → LabOutcome
+stepped w s = Answered (hosts_told (step w s)) (step w s)
+
+-- a host is looked for before the number, which is refused with the first and the last number that are kept
+abbrev pub delivered : World → List ℕ → ℕ → Agent → Option (List Item) → LabOutcome
+delivered w name number a None = Barred (NoMessage number (first_kept w.history) w.history.version)
+delivered w name number a (Some c) = Answered (Told (heard number a.held)) (step w (Deliver name number))
+
+abbrev pub lab_outcome : World → Caller → LabCall → LabOutcome
+lab_outcome w caller (call.Frames event) = unless_barred (event_refusal w.history.rows caller event) (Answered (Seen (fabric_verdict (seats w) event)) (step w (Send event)))
+lab_outcome w caller (call.Explain event) = unless_barred (event_refusal w.history.rows caller event) (Answered (Seen (rows_verdict w.history.rows (all_entries (seats w)) event)) w)
+lab_outcome w caller call.Hosts = for_admins caller (Answered (hosts_told w) w)
+lab_outcome w caller (call.Tables name) = for_admins caller (with_host name (host_named w name) (λ a. Answered (Tables a.tables) w))
+lab_outcome w caller (call.Deliver name number) = for_admins caller (with_host name (host_named w name) (λ a. delivered w name number a (change_at w.history number)))
+lab_outcome w caller (call.Resync name) = for_admins caller (with_host name (host_named w name) (λ a. stepped w (Resync name)))
+lab_outcome w caller (call.Restart name) = for_admins caller (with_host name (host_named w name) (λ a. stepped w (Restart name)))
+lab_outcome w caller (call.Forget name) = for_admins caller (with_host name (host_named w name) (λ a. stepped w (Forget name)))
+lab_outcome w caller call.Settle = for_admins caller (stepped w Settle)
 
 -- the refusal is the outcome's, or memory could not be had
 abbrev pub IsBarred : LabOutcome → Refusal → Type 0

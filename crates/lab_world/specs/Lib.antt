@@ -1,5 +1,5 @@
-pub mod Hosts
 pub mod Lab
-pub mod World
-pub mod Steps
 pub mod Opening
+pub mod Parts
+pub mod Steps
+pub mod World

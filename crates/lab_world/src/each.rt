@@ -3,23 +3,58 @@ ghost use Rattle.std.specs.List.{filter_map};
 ghost use Rattle.api_types.specs.Lists.{Each};
 ghost use Rattle.plane_types.specs.Placed.{IsPlaced};
 ghost use Rattle.plane_types.specs.Told.{kept, made_at};
-ghost use Rattle.plane_types.specs.Node.{Node, host_of, with_entries};
-ghost use Rattle.lab_world.specs.Steps.{AreFor, ArePut, IsKeptAt, Stepwise};
+ghost use Rattle.plane_types.specs.Node.{CanFollow, Node, Ready, host_of, with_entries};
+ghost use Rattle.lab_world.specs.Steps.{AreFor, IsKeptAt, IsSettledAt, IsToldAt, IsToldNode, Stepwise, settled_node};
 
 use agent_node::{AgentNode, ReadyNode};
+use api_types::Change;
 use net_addr::OutOfMemory;
 use plane_types::{Entries, Entry, Made};
 use std::alloc::Global;
 
-/// Puts in place at each host what was made ready for it.
-pub(crate) fn put_all(nodes: &mut [AgentNode], ready: Vec<ReadyNode>)
-    requires { AreFor ready.items nodes.old }
-    ensures { ArePut ready.items nodes.old nodes.new }
+// Tells a host a change, or leaves it as it is where memory is wanting.
+fn tell(alloc: Global, node: &mut AgentNode, number: u64, change: &Change)
+    requires { CanFollow node.old number change.now }
+    ensures { IsToldNode number change.now node.old node.new }
+{
+    match node.deliver(alloc, number, change) {
+        Ok(_) => {}
+        Err(_) => {}
+    }
+}
+
+/// Tells each host a change; those that find no memory stay as they are.
+pub(crate) fn tell_all(alloc: Global, nodes: &mut [AgentNode], number: u64, change: &Change)
+    requires { Each (λ (n : Node). CanFollow n number change.now) nodes.old }
+    ensures { Stepwise (IsToldAt number change.now) nodes.old nodes.new }
+{
+    for node in nodes.iter_mut() {
+        tell(alloc, node, number, change);
+    }
+}
+
+// Puts in place what was made ready for a host, where it doesn't hold the version.
+fn settle_one(node: &mut AgentNode, ready: ReadyNode, version: u64)
+    requires name { ready.name ≡ node.old.name }
+    requires tags { ready.old ≡ node.old.tables.tags }
+    requires version { ready.version ≡ version }
+    ensures { node.new ≡ settled_node version ready.rows node.old node.new.spare }
+{
+    if node.held() != Some(version) {
+        node.put(ready);
+    }
+}
+
+/// Puts in place at each host what was made ready for it, where it doesn't hold the version.
+pub(crate) fn settle_all(nodes: &mut [AgentNode], ready: Vec<ReadyNode>, version: u64)
+    requires each { AreFor ready.items nodes.old }
+    requires version { Each (λ (r : Ready). r.version ≡ version) ready.items }
+    ensures { Stepwise (IsSettledAt version ready.items) nodes.old nodes.new }
 {
     let mut left = ready.into_iter();
     for node in nodes.iter_mut() {
         if let Some(ready) = left.next() {
-            node.put(ready);
+            settle_one(node, ready, version);
         }
     }
 }

@@ -1,19 +1,20 @@
-ghost use Rattle.std.specs.Prelude.{◌≡◌, ◌≤◌, ◌++◌, ◌∷◌, [], ℕ, IfOk, OnErr, OnOk, find, flat_map, length, map, option_copied, option_map};
+ghost use Rattle.std.specs.Prelude.{◌≡◌, ◌↔◌, ◌<◌, ◌≤◌, ◌++◌, ◌∷◌, [], ℕ, None, Some, IfNone, IfOk, IfSome, IsTrue, OnErr, OnOk, find, flat_map, if◌then◌else◌, length, map, option_copied, option_map};
+ghost use Rattle.std.specs.Str.{bytes_eq};
 ghost use Rattle.api_types.specs.Consistent.{IsConsistent};
 ghost use Rattle.api_types.specs.Lists.{Each};
 ghost use Rattle.plane_types.specs.Hosts.{is_named};
 ghost use Rattle.plane_types.specs.Placed.{IsPlaced};
 ghost use Rattle.plane_types.specs.Told.{kept};
-ghost use Rattle.plane_types.specs.Node.{Node, host_of, started, with_entries};
+ghost use Rattle.plane_types.specs.Node.{CanFollow, Node, Ready, heard as heard_of, host_of, resynced, started, told, with_entries};
 ghost use Rattle.plane_types.specs.Tables.{Tables};
-ghost use Rattle.lab_world.specs.Steps.{AreFor, ArePut, IsKeptAt, Stepwise, ready_for};
+ghost use Rattle.lab_world.specs.Steps.{AreFor, AreTold, IsDoneAt, IsKeptAt, IsNamedAt, IsSettledAt, Stepwise, named_node, node_state, ready_for, state_at_version, state_with};
 
-use crate::each::{add_entries, keep_all, put_all, reserve_all};
+use crate::each::{add_entries, keep_all, reserve_all, settle_all, tell_all};
 use agent_node::{AgentNode, ReadyNode};
-use api_types::Rows;
+use api_types::{Change, Rows};
 use fabric_run::Fleet;
 use net_addr::{Copies, OutOfMemory, Seq, Text};
-use plane_types::{Entries, HostState, HostTables, Made};
+use plane_types::{Entries, Heard, HostState, HostTables, Made};
 use std::alloc::Global;
 use std::marker::Model;
 
@@ -79,13 +80,96 @@ impl Hosts {
         Ok(ready)
     }
 
-    /// Puts in place what was made ready for each host. It takes no memory. Its cost grows with the
-    /// entries of each host times its taps and routers.
-    pub fn put(&mut self, ready: Vec<ReadyNode>)
-        requires { AreFor ready.items self.old }
-        ensures { ArePut ready.items self.old self.new }
+    /// Puts in place what was made ready for each host with rows of a version, where the host doesn't
+    /// hold that. It takes no memory. Its cost grows with the entries of each host times its taps
+    /// and routers.
+    pub fn settle(&mut self, ready: Vec<ReadyNode>, version: u64)
+        requires each { AreFor ready.items self.old }
+        requires version { Each (λ (r : Ready). r.version ≡ version) ready.items }
+        ensures { Stepwise (IsSettledAt version ready.items) self.old self.new }
     {
-        put_all(self.nodes.as_mut_slice(), ready);
+        settle_all(self.nodes.as_mut_slice(), ready, version);
+    }
+
+    /// Tells each host a change with its number, unless delivery is by hand alone. Those that find
+    /// no memory stay as they are. Its cost is that of wiring each host.
+    pub fn tell(&mut self, alloc: Global, manual: bool, number: u64, change: &Change)
+        requires { Each (λ (n : Node). CanFollow n number change.now) self.old }
+        ensures { AreTold manual number change.now self.old self.new }
+    {
+        if !manual {
+            tell_all(alloc, self.nodes.as_mut_slice(), number, change);
+        }
+    }
+
+    /// The place of the first host of this name.
+    pub fn place(&self, name: &Text) -> Option<usize>
+        ensures some { IfSome result (IsNamedAt name.now self.now) }
+        ensures none { IfNone result (named_node name.now self.now ≡ None) }
+    {
+        for (at, node) in self.nodes.iter().enumerate() {
+            if *name == *node.host() {
+                return Some(at);
+            }
+        }
+        None
+    }
+
+    /// Tells the host at a place a change with its number, and answers what it makes of it. Its cost
+    /// is that of wiring the host.
+    pub fn deliver(
+        &mut self,
+        alloc: Global,
+        at: usize,
+        number: u64,
+        change: &Change,
+    ) -> Result<Heard, OutOfMemory>
+        requires within { at < length self.old }
+        requires fits { Each (λ (n : Node). CanFollow n number change.now) self.old }
+        ensures ok { IfOk result
+            (λ heard.
+            IsDoneAt
+            (λ n m. (m ≡ told n number change.now m.spare) × (heard ≡ heard_of number n.held))
+            at self.old self.new) }
+        ensures err { OnErr result (self.new ≡ self.old) }
+    {
+        let heard = self.nodes[at].deliver(alloc, number, change)?;
+        Ok(heard)
+    }
+
+    /// Gives the host at a place rows of a version, which it then holds. Its cost is that of wiring
+    /// the host.
+    pub fn resync(
+        &mut self,
+        alloc: Global,
+        at: usize,
+        version: u64,
+        rows: &Rows,
+    ) -> Result<(), OutOfMemory>
+        requires within { at < length self.old }
+        requires consistent { IsConsistent rows.now }
+        ensures ok { OnOk result
+            (IsDoneAt (λ n m. m ≡ resynced n version rows.now m.spare) at self.old self.new) }
+        ensures err { OnErr result (self.new ≡ self.old) }
+    {
+        self.nodes[at].resync(alloc, version, rows)?;
+        Ok(())
+    }
+
+    /// The host at a place holds nothing from now on. It takes no memory.
+    pub fn restart(&mut self, at: usize)
+        requires { at < length self.old }
+        ensures { IsDoneAt (λ n m. m ≡ record n { held = None }) at self.old self.new }
+    {
+        self.nodes[at].restart();
+    }
+
+    /// The host at a place has no entries from now on. It takes no memory.
+    pub fn forget(&mut self, at: usize)
+        requires { at < length self.old }
+        ensures { IsDoneAt (λ n m. m ≡ with_entries n [] m.spare) at self.old self.new }
+    {
+        self.nodes[at].forget();
     }
 
     /// Makes room at each host for the entries of one event. All else stays.
@@ -120,25 +204,53 @@ impl Hosts {
 
     /// Each host, and the version that it holds.
     pub fn states(&self, alloc: Global) -> Result<Seq<HostState>, OutOfMemory>
-        ensures { IfOk result
-            (λ states. states
-            ≡ map (λ (n : Node). record { name = n.name; held = n.held }) self.now) }
+        ensures { IfOk result (λ states. states ≡ map node_state self.now) }
     {
         let mut states = Seq::new(alloc);
         for node in &self.nodes {
-            states.push(HostState {
-                name: node.host().copy(alloc)?,
-                held: node.held(),
-            })?;
+            states.push(state(alloc, node, node.held())?)?;
         }
         Ok(states)
+    }
+
+    /// Each host, and the version that it would hold if the host of this name held that one.
+    pub fn states_with(
+        &self,
+        alloc: Global,
+        name: &Text,
+        held: Option<u64>,
+    ) -> Result<Seq<HostState>, OutOfMemory>
+        ensures { IfOk result (λ states. states ≡ map (state_with name.now held) self.now) }
+    {
+        let mut states = Seq::new(alloc);
+        for node in &self.nodes {
+            states.push(state(alloc, node, held_with(node, name, held))?)?;
+        }
+        Ok(states)
+    }
+
+    /// Each host, as if it held this version.
+    pub fn states_at(&self, alloc: Global, version: u64) -> Result<Seq<HostState>, OutOfMemory>
+        ensures { IfOk result (λ states. states ≡ map (state_at_version version) self.now) }
+    {
+        let mut states = Seq::new(alloc);
+        for node in &self.nodes {
+            states.push(state(alloc, node, Some(version))?)?;
+        }
+        Ok(states)
+    }
+
+    /// Whether each host holds this version.
+    pub fn all_hold(&self, version: u64) -> bool
+        ensures { IsTrue result ↔ Each (λ (n : Node). n.held ≡ Some version) self.now }
+    {
+        self.nodes.iter().all(|node| node.held() == Some(version))
     }
 
     /// The tables of the host with this name, which are those that its rows give to it.
     pub fn tables_of(&self, name: &Text) -> Option<&HostTables>
         ensures { option_map (λ (t : Tables). t.lists) (option_copied result)
-            ≡ option_map (λ (n : Node). n.tables)
-            (find (λ (n : Node). is_named name.now (host_of n)) self.now) }
+            ≡ option_map (λ (n : Node). n.tables) (named_node name.now self.now) }
     {
         for node in &self.nodes {
             if *name == *node.host() {
@@ -146,6 +258,27 @@ impl Hosts {
             }
         }
         None
+    }
+}
+
+// A host's name, and this version.
+fn state(alloc: Global, node: &AgentNode, held: Option<u64>) -> Result<HostState, OutOfMemory>
+    ensures { IfOk result (λ s. s ≡ record { name = node.now.name; held = held }) }
+{
+    Ok(HostState {
+        name: node.host().copy(alloc)?,
+        held,
+    })
+}
+
+// What a host would hold if the host of this name held that version.
+fn held_with(node: &AgentNode, name: &Text, held: Option<u64>) -> Option<u64>
+    ensures { result ≡ (if bytes_eq name.now node.now.name then held else node.now.held) }
+{
+    if *name == *node.host() {
+        held
+    } else {
+        node.held()
     }
 }
 

@@ -1,16 +1,19 @@
-//! What is asked of the lab, and by whom it may be asked.
-ghost use Rattle.std.specs.Prelude.{◌≡◌, ◌⊎◌, None, Some, false, find, IfErr, IfOk, OnOk, map, true};
+//! What is asked of the lab, by whom it may be asked, and what it needs.
+ghost use Rattle.std.specs.Prelude.{◌≡◌, ◌⊎◌, None, Some, false, IfErr, IfOk, OnOk, true};
 ghost use Rattle.api_types.specs.Ident.{ident_text};
 ghost use Rattle.api_types.specs.declared.refusal.PolicyRule.TheVariants.{AdminOnly as ForAdmins};
-ghost use Rattle.api_types.specs.declared.refusal.Refusal.TheVariants.{Forbidden as ForbiddenBy};
+ghost use Rattle.api_types.specs.declared.refusal.Refusal.TheVariants.{Forbidden as ForbiddenBy, NoHost as NoHostOf, NoMessage as NoMessageOf};
 ghost use Rattle.api_types.specs.Refusing.{not_found as not_found_of};
-ghost use Rattle.plane_types.specs.Hosts.{is_named};
-ghost use Rattle.plane_types.specs.Node.{host_of};
-ghost use Rattle.lab_world.specs.Lab.{Answered, IsBarred, event_refusal, tables_told};
+ghost use Rattle.plane_types.specs.Node.{Node};
+ghost use Rattle.plane_types.specs.declared.ask.LabAnswer.TheVariants.{Tables as TablesOf};
+ghost use Rattle.bus_core.specs.Kept.{IsGone, change_of, first_of};
+ghost use Rattle.lab_world.specs.Lab.{event_refusal};
+ghost use Rattle.lab_world.specs.Steps.{IsNamedAt, named_node};
 
 use crate::hosts::Hosts;
 use api_policy::sees;
-use api_types::{Caller, Id, Kind, PolicyRule, Refusal, Rows};
+use api_types::{Caller, Change, Id, Kind, PolicyRule, Refusal, Rows};
+use bus_core::Bus;
 use net_addr::{Copies, OutOfMemory, Text};
 use plane_rows::network_on;
 use plane_types::{Event, LabAnswer};
@@ -72,17 +75,48 @@ pub(crate) fn bar_event(
     }
 }
 
-/// The tables of the host with this name.
+/// The place of the host of this name.
+pub(crate) fn place_of(alloc: Global, hosts: &Hosts, name: &Text) -> Result<usize, Refusal>
+    ensures ok { IfOk result (IsNamedAt name.now hosts.now) }
+    ensures err { IfErr result
+        (λ refusal. (refusal ≡ Refusal.OutOfMemory)
+        ⊎ ((refusal ≡ NoHostOf name.now) × (named_node name.now hosts.now ≡ None))) }
+{
+    match hosts.place(name) {
+        Some(at) => Ok(at),
+        None => Err(Refusal::NoHost {
+            name: name.copy(alloc)?,
+        }),
+    }
+}
+
+/// The kept change with a number, or the refusal that tells which are kept.
+pub(crate) fn kept_change(bus: &Bus, number: u64) -> Result<&Change, Refusal>
+    ensures ok { IfOk result
+        (λ change. change_of bus.now.last bus.now.changes number ≡ Some change.now) }
+    ensures err { IfErr result
+        (λ refusal.
+        (refusal ≡ NoMessageOf number (first_of bus.now.last bus.now.changes) bus.now.last)
+        × IsGone bus.now number) }
+{
+    match bus.get(number) {
+        Ok(change) => Ok(change),
+        Err(gone) => Err(Refusal::NoMessage {
+            asked: number,
+            first: gone.first,
+            last: gone.last,
+        }),
+    }
+}
+
+/// The tables of the host of this name.
 pub(crate) fn tables_of(alloc: Global, hosts: &Hosts, name: &Text) -> Result<LabAnswer, Refusal>
     ensures ok { IfOk result
-        (λ answer.
-        tables_told name.now (map host_of hosts.now)
-        (find (is_named name.now) (map host_of hosts.now))
-        ≡ Answered answer (map host_of hosts.now)) }
+        (λ answer. (n : Node) × (named_node name.now hosts.now ≡ Some n)
+        × (answer ≡ TablesOf n.tables)) }
     ensures err { IfErr result
-        (IsBarred
-        (tables_told name.now (map host_of hosts.now)
-        (find (is_named name.now) (map host_of hosts.now)))) }
+        (λ refusal. (refusal ≡ Refusal.OutOfMemory)
+        ⊎ ((refusal ≡ NoHostOf name.now) × (named_node name.now hosts.now ≡ None))) }
 {
     match hosts.tables_of(name) {
         Some(tables) => Ok(LabAnswer::Tables(tables.lists(alloc)?)),

@@ -3,23 +3,27 @@
 //!
 //! `World::open` puts rows into service under any settings, where they are consistent.
 //! `World::handle` answers what a caller asks. A change is planned and prepared before the keeper
-//! gets it, for the machine and for each host, and put in place after it, so that nothing can fail
-//! in between: the kept rows are the world's, and each host's tables are those of these rows,
-//! always. `Hosts` is the list of the hosts, each an `AgentNode`: `prepare` makes what each would
-//! be given, `put` puts it in place and takes no memory, and frames go over them as a `Fleet`.
-//! Calls of the lab send frames through the tables, tell what the rows say of them, and show the
-//! tables. Messages to hosts aren't built yet. `tenants_stay_apart` is a law: what a tenant is told
-//! depends on its footing alone.
+//! gets it, and put in place after it, so that nothing can fail in between: the kept rows are the
+//! world's, always. It is kept as a message with its number (`bus_core`), which each host is told at
+//! once, or, in manual delivery, by a call of the lab. A host that misses a message falls behind,
+//! and its tables are those of the rows that it has, always. `Hosts` is the list of the hosts, each
+//! an `AgentNode`; frames go over them as a `Fleet`. Calls of the lab deliver messages, restart
+//! hosts, give them the rows of now, send frames through the tables, tell what the rows say of them,
+//! and show the tables. Each call is a step of the world of `world_laws`, whose laws so hold of every
+//! list of calls. `tenants_stay_apart` is a law: what a tenant is told depends on its footing alone.
 #![tactic(auto)]
 
+mod changes;
 mod each;
+mod frames;
 mod hosts;
 mod lab;
 mod laws;
+mod messages;
 mod opening;
 mod world;
 
 pub use hosts::Hosts;
-pub use laws::{frames_mean_what_rows_say, tenants_stay_apart, worlds_hold_their_rows};
+pub use laws::{asks_keep_worlds, tenants_stay_apart};
 pub use opening::OpenRefusal;
 pub use world::World;

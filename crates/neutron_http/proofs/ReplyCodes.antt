@@ -59,10 +59,7 @@ all_readable = (
                         record { code_is = (lit≤ tt, lit< tt); three = refl; digits_are = refl; value = refl; phrase = refl },
                         (
                           record { code_is = (lit≤ tt, lit< tt); three = refl; digits_are = refl; value = refl; phrase = refl },
-                          (
-                            record { code_is = (lit≤ tt, lit< tt); three = refl; digits_are = refl; value = refl; phrase = refl },
-                            (record { code_is = (lit≤ tt, lit< tt); three = refl; digits_are = refl; value = refl; phrase = refl }, tt),
-                          ),
+                          (record { code_is = (lit≤ tt, lit< tt); three = refl; digits_are = refl; value = refl; phrase = refl }, tt),
                         ),
                       ),
                     ),

@@ -14,11 +14,10 @@ use Rattle.api_types.specs.declared.refusal.UseRule.TheVariants.{NetworkInUse, S
 use Rattle.api_types.specs.declared.refusal.Value.{Value}
 use Rattle.api_types.specs.declared.refusal.Value.TheVariants.{Address, Mac}
 use Rattle.api_types.specs.declared.refusal.Refusal.{Refusal}
-use Rattle.api_types.specs.declared.refusal.Refusal.TheVariants.{NotBuilt, Malformed, HeadLarge, BodyLarge, NoLength, NoCaller, NoRoute, NoMethod, BadBody, Invalid, NotFound, Forbidden, InUse, Taken, Exists, SegmentInUse, NoGateway, OverQuota, PoolsSpent, NoNetwork, CountersSpent, StoreFault, OutOfMemory, NoHost, NoMessage}
+use Rattle.api_types.specs.declared.refusal.Refusal.TheVariants.{Malformed, HeadLarge, BodyLarge, NoLength, NoCaller, NoRoute, NoMethod, BadBody, Invalid, NotFound, Forbidden, InUse, Taken, Exists, SegmentInUse, NoGateway, OverQuota, PoolsSpent, NoNetwork, CountersSpent, StoreFault, OutOfMemory, NoHost, NoMessage}
 
 -- the status code
 abbrev pub code_of : Refusal → ℕ
-code_of NotBuilt = 501
 code_of Malformed = 400
 code_of HeadLarge = 431
 code_of BodyLarge = 413
@@ -79,7 +78,6 @@ segment_type (Vxlan number) = codes "TunnelIdInUse"
 
 -- the type; that of a row that isn't found begins with its kind
 abbrev pub type_of : Refusal → List ℕ
-type_of NotBuilt = codes "NotBuilt"
 type_of Malformed = codes "MalformedRequest"
 type_of HeadLarge = codes "HeadTooLarge"
 type_of BodyLarge = codes "BodyTooLarge"
@@ -140,7 +138,6 @@ value_text (Mac mac) = codes "MAC address " ++ mac_text mac
 
 -- the message
 abbrev pub message_of : Refusal → List ℕ
-message_of NotBuilt = codes "This request is not built yet."
 message_of Malformed = codes "The request could not be read."
 message_of HeadLarge = codes "The request head is larger than 16384 bytes or 64 fields."
 message_of BodyLarge = codes "The request body is larger than 65536 bytes."

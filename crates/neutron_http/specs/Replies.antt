@@ -67,7 +67,7 @@ no_memory_body = codes "{\"NeutronError\":{\"detail\":\"\",\"message\":\"Memory 
 -- the codes of the API's replies: the phrases that clients read stand in RFC 9110, section 15, and RFC 6585
 abbrev pub reply_codes : List ℕ
 reply_codes =
-    200 ∷ 201 ∷ 204 ∷ 400 ∷ 401 ∷ 403 ∷ 404 ∷ 405 ∷ 409 ∷ 411 ∷ 413 ∷ 431 ∷ 501 ∷ 503 ∷ 507 ∷ []
+    200 ∷ 201 ∷ 204 ∷ 400 ∷ 401 ∷ 403 ∷ 404 ∷ 405 ∷ 409 ∷ 411 ∷ 413 ∷ 431 ∷ 503 ∷ 507 ∷ []
 
 -- one of them
 abbrev pub IsReplyCode : ℕ → Type 0

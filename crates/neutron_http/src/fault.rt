@@ -25,7 +25,6 @@ fn code(refusal: &Refusal) -> u16
     ensures reply { IsReplyCode result }
 {
     match refusal {
-        Refusal::NotBuilt => 501,
         Refusal::HeadLarge => 431,
         Refusal::BodyLarge => 413,
         Refusal::NoLength => 411,
@@ -100,7 +99,6 @@ fn type_text(alloc: Global, refusal: &Refusal) -> Result<Text, OutOfMemory>
     ensures { IfOk result (λ t. t ≡ type_of refusal.now) }
 {
     match refusal {
-        Refusal::NotBuilt => Text::of(alloc, "NotBuilt"),
         Refusal::Malformed => Text::of(alloc, "MalformedRequest"),
         Refusal::HeadLarge => Text::of(alloc, "HeadTooLarge"),
         Refusal::BodyLarge => Text::of(alloc, "BodyTooLarge"),
@@ -316,7 +314,6 @@ fn message(alloc: Global, refusal: &Refusal) -> Result<Text, OutOfMemory>
     ensures { IfOk result (λ t. t ≡ message_of refusal.now) }
 {
     match refusal {
-        Refusal::NotBuilt => Text::of(alloc, "This request is not built yet."),
         Refusal::Malformed => Text::of(alloc, "The request could not be read."),
         Refusal::HeadLarge => Text::of(alloc, HEAD_LARGE),
         Refusal::BodyLarge => Text::of(alloc, "The request body is larger than 65536 bytes."),

@@ -1,26 +1,43 @@
--- By what a request is answered: by the step, or because the store failed or memory was wanting.
-use Rattle.std.specs.Prelude.{not, Bool, false}
+-- By what a request is answered: by the step, or because the store failed or memory was wanting; and whether hosts may have moved.
+use Rattle.std.specs.Prelude.{not, Bool, false, true}
 use Rattle.api_types.specs.Lists.{is_empty}
 use Rattle.api_types.specs.declared.refusal.Refusal.{Refusal}
 use Rattle.api_types.specs.declared.refusal.Refusal.TheVariants as refusal
 use Rattle.neutron_serve.specs.declared.api.Cause.{Cause}
 use Rattle.neutron_serve.specs.declared.api.Cause.TheVariants.{Step, StoreFault, NoMemory}
+use Rattle.plane_types.specs.declared.ask.Ask.{Ask}
+use Rattle.plane_types.specs.declared.ask.Ask.TheVariants.{Api, Lab}
 use Rattle.plane_types.specs.declared.ask.LabAnswer.{LabAnswer}
 use Rattle.plane_types.specs.declared.ask.LabAnswer.TheVariants.{Hosts, Seen, Tables, Told}
+use Rattle.plane_types.specs.declared.ask.LabCall.{LabCall}
+use Rattle.plane_types.specs.declared.ask.LabCall.TheVariants as call
 use Rattle.plane_types.specs.declared.ask.Reply.{Reply}
 use Rattle.plane_types.specs.declared.ask.Reply.TheVariants.{Done, LabDone, Refused}
 
--- whether a reply tells of entries that hosts may have kept
-abbrev pub tells_in : LabAnswer → Bool
-tells_in (Seen verdict) = not (is_empty verdict.fresh)
-tells_in (Told heard) = false
-tells_in (Hosts hosts) = false
-tells_in (Tables tables) = false
+-- whether hosts may be others than before, by what was asked of them and what is answered: messages move them, and frames that make
+-- entries
+abbrev pub tells_entries : LabAnswer → Bool
+tells_entries (Seen verdict) = not (is_empty verdict.fresh)
+tells_entries (Told heard) = false
+tells_entries (Hosts hosts) = false
+tells_entries (Tables tables) = false
 
-abbrev pub tells_entries : Reply → Bool
-tells_entries (Done answer) = false
-tells_entries (LabDone answer) = tells_in answer
-tells_entries (Refused refused) = false
+abbrev pub moves_hosts : LabCall → LabAnswer → Bool
+moves_hosts (call.Frames event) answer = tells_entries answer
+moves_hosts (call.Explain event) answer = false
+moves_hosts call.Hosts answer = false
+moves_hosts (call.Tables name) answer = false
+moves_hosts (call.Deliver name number) answer = true
+moves_hosts (call.Resync name) answer = true
+moves_hosts (call.Restart name) answer = true
+moves_hosts (call.Forget name) answer = true
+moves_hosts call.Settle answer = true
+
+abbrev pub may_move : Ask → Reply → Bool
+may_move (Api c) reply = false
+may_move (Lab c) (Done answer) = false
+may_move (Lab c) (LabDone answer) = moves_hosts c answer
+may_move (Lab c) (Refused refused) = false
 
 abbrev pub cause_by : Refusal → Cause
 cause_by refusal.OutOfMemory = NoMemory

@@ -2,23 +2,31 @@
 --
 -- Whole requests are answered once each, in their order, by one whole reply before more is read (`Serves`). Where the store fails to keep a
 -- change, or memory is wanting, the reply says so and nothing has moved; want of memory may come in the place of any reply. Each other
--- request is promised what follows.
-use Rattle.std.specs.Prelude.{◌≡◌, ℕ, Bool, true, false, List, Ok, None}
+-- request is promised what follows: the reply and the rows are those of the machine of the Networking API; a tenant's reply depends on its
+-- footing alone; and after any messages that hosts missed, got twice or lost in a restart, whenever every host holds the version of now,
+-- each frame that is sent through the tables has exactly the outcome, path and tracked entries that the rows give.
+use Rattle.std.specs.Prelude.{◌≡◌, ℕ, ◌+◌, ◌≤◌, Bool, true, false, List, Ok, None, Some, map}
 use Rattle.api_types.specs.Consistent.{IsConsistent}
+use Rattle.api_types.specs.Lists.{Each}
 use Rattle.api_types.specs.Outcome.{Moved, Refused, Told}
 use Rattle.api_types.specs.declared.call.Caller.{Caller}
 use Rattle.api_machine.specs.Footing.{footing}
 use Rattle.plane_types.specs.Crossing.{CrossesAtRouters}
 use Rattle.plane_types.specs.Hosts.{all_entries}
-use Rattle.plane_types.specs.Told.{rows_verdict, without_hosts}
+use Rattle.plane_types.specs.Realises.{Realises}
+use Rattle.plane_types.specs.Told.{fabric_verdict, fabric_verdicts, hosts_after, rows_verdict, rows_verdicts, without_hosts}
 use Rattle.plane_types.specs.declared.ask.Ask.{Ask}
 use Rattle.plane_types.specs.declared.ask.Ask.TheVariants.{Lab}
 use Rattle.plane_types.specs.declared.ask.LabAnswer.TheVariants.{Seen}
 use Rattle.plane_types.specs.declared.ask.LabCall.TheVariants.{Frames}
 use Rattle.plane_types.specs.declared.event.Event.{Event}
-use Rattle.plane_types.specs.declared.verdict.Verdict.{Verdict}
-use Rattle.lab_world.specs.Lab.{Answered, Barred, WorldState, event_refusal}
-use Rattle.lab_world.specs.World.{AskOutcome, ByLab, ByMachine, HoldsRows, ask_outcome}
+use Rattle.bus_core.specs.History.{first_kept, rows_at}
+use Rattle.world_laws.specs.Agents.{Agent}
+use Rattle.world_laws.specs.Lead.{IsWorld}
+use Rattle.world_laws.specs.Steps.{Send, step}
+use Rattle.world_laws.specs.World.{IsSynced, World, seats}
+use Rattle.lab_world.specs.Lab.{Answered, Barred, event_refusal}
+use Rattle.lab_world.specs.World.{AskOutcome, ByLab, ByMachine, ask_outcome, state_of}
 use Rattle.http_heads.specs.Fields.{closes}
 use Rattle.http_heads.specs.Heads.{Asked}
 use Rattle.http_session.specs.Serves.{Moment, Serves}
@@ -27,38 +35,54 @@ use Rattle.neutron_serve.specs.Replies.{lab_bytes, outcome_bytes}
 use Rattle.neutron_serve.specs.Requests.{request_of}
 use Rattle.neutron_serve.specs.Steps.{Steps, fixed_replies, request_outcome}
 
--- the reply tells a verdict: the outcome, path and entries that the rows give, hosts left aside, and a path that crosses between
--- networks at routers alone
-pub record FrameTold (world : WorldState) (event : Event) (close : Bool) (reply : List ℕ) : Type 0 where
-  pub verdict : Verdict
-  pub told : reply ≡ lab_bytes close (Seen verdict)
-  pub means : without_hosts verdict ≡ rows_verdict world.state.rows (all_entries world.hosts) event
-  pub crosses : CrossesAtRouters world.state.rows verdict
+-- the reply tells what the hosts' tables make of an event. Where every host holds the version of now these are the outcome, path and
+-- entries that the rows give, hosts left aside, and the path crosses between networks at routers alone
+pub record FrameTold (world : World) (event : Event) (close : Bool) (reply : List ℕ) : Type 0 where
+  pub told : reply ≡ lab_bytes close (Seen (fabric_verdict (seats world) event))
+  pub means : IsSynced world → without_hosts (fabric_verdict (seats world) event) ≡ rows_verdict world.history.rows (all_entries (seats world)) event
+  pub crosses : IsSynced world → CrossesAtRouters world.history.rows (fabric_verdict (seats world) event)
+
+-- where every host holds the version of now, so it is with events one after the other, of which each sees the entries that those before
+-- it made; and they leave it so
+pub record FramesTold (world : World) : Type 0 where
+  pub means : IsSynced world → (events : List Event) → map without_hosts (fabric_verdicts (seats world) events) ≡ rows_verdicts world.history.rows (all_entries (seats world)) events
+  pub crosses : IsSynced world → (events : List Event) → Each (CrossesAtRouters world.history.rows) (fabric_verdicts (seats world) events)
+  pub follows : (event : Event) → seats (step world (Send event)) ≡ hosts_after (seats world) event
+  pub stays : IsSynced world → (event : Event) → IsSynced (step world (Send event))
+
+-- a host that holds a version, while the change behind it is kept, has the rows of that version, and one that holds the version of now
+-- has the rows of now; its tables are those that its rows give to it, also while it is behind or holds nothing
+pub record HostsFollow (world : World) : Type 0 where
+  pub told : Each (λ (a : Agent). (v : ℕ) → a.held ≡ Some v → first_kept world.history ≤ v + 1 → a.rows ≡ rows_at world.history v) world.agents
+  pub now : Each (λ (a : Agent). a.held ≡ Some world.history.version → a.rows ≡ world.history.rows) world.agents
+  pub realised : Each (λ (a : Agent). Realises a.rows a.name a.tables) world.agents
 
 abbrev pub is_refusal : AskOutcome → Bool
 is_refusal (ByMachine (Refused refusal)) = true
 is_refusal (ByMachine (Told reply)) = false
 is_refusal (ByMachine (Moved rows reply)) = false
 is_refusal (ByLab (Barred refusal)) = true
-is_refusal (ByLab (Answered answer hosts)) = false
+is_refusal (ByLab (Answered answer world)) = false
 
 -- what is promised of a request
-pub record Promised (old : WorldState) (asked : Asked) (reply : List ℕ) (new : WorldState) : Type 0 where
-  -- it is answered by the step of the Networking API or of the lab, which alone moves rows and hosts
+pub record Promised (old : World) (asked : Asked) (reply : List ℕ) (new : World) : Type 0 where
+  -- it is answered by the step of the Networking API or of the lab, which alone moves rows, messages and hosts
   pub steps : Steps old asked reply new
-  -- before it the rows are consistent, and each host has the tables that they give to it
-  pub holds : HoldsRows old
-  -- a frame that it sends goes by those tables, and comes to what the rows say
-  pub frames : (caller : Caller) (event : Event) → request_of asked ≡ Ok (caller, Lab (Frames event)) → event_refusal old.state.rows caller event ≡ None
+  -- before it the rows are consistent, kept changes lead from version to version, and hosts follow them
+  pub world : IsWorld old
+  pub hosts : HostsFollow old
+  -- a frame that it sends goes by the hosts' tables, and, where they hold the version of now, comes to what the rows say
+  pub frame : (caller : Caller) (event : Event) → request_of asked ≡ Ok (caller, Lab (Frames event)) → event_refusal old.history.rows caller event ≡ None
       → FrameTold old event (closes asked.head) reply
+  pub frames : FramesTold old
   -- a tenant is told what it would be told at any server of these settings with consistent rows in which it has the same footing
   pub apart : (caller : Caller) (ask : Ask) → request_of asked ≡ Ok (caller, ask) → caller.admin ≡ false
-      → (other : WorldState) → IsConsistent other.state.rows → other.settings ≡ old.settings → footing other.settings other.state caller ≡ footing old.settings old.state caller
+      → (other : World) → IsConsistent other.history.rows → other.settings ≡ old.settings → footing other.settings (state_of other) caller ≡ footing old.settings (state_of old) caller
       → reply ≡ outcome_bytes (closes asked.head) (ask_outcome other caller ask)
   -- a refusal leaves all as it was
   pub refused : is_refusal (request_outcome old (request_of asked)) ≡ true → new ≡ old
 
--- a session of at most so many bytes, from one moment to another, behind which the hosts hold the rows still
-pub record Promises (limit : ℕ) (old new : Moment WorldState) (end : SessionEnd) : Type 0 where
+-- a session of at most so many bytes, from one moment to another, behind which hosts follow still
+pub record Promises (limit : ℕ) (old new : Moment World) (end : SessionEnd) : Type 0 where
   pub serves : Serves Promised fixed_replies limit old new end
-  pub holds : HoldsRows new.world
+  pub world : IsWorld new.world

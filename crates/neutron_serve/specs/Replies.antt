@@ -42,7 +42,7 @@ outcome_bytes close (ByMachine (Refused refusal)) = refusal_bytes close refusal
 outcome_bytes close (ByMachine (Told reply)) = answer_bytes close reply
 outcome_bytes close (ByMachine (Moved rows reply)) = answer_bytes close reply
 outcome_bytes close (ByLab (Barred refusal)) = refusal_bytes close refusal
-outcome_bytes close (ByLab (Answered answer hosts)) = lab_bytes close answer
+outcome_bytes close (ByLab (Answered answer world)) = lab_bytes close answer
 
 -- ---- replies as values
 

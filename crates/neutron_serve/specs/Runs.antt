@@ -4,8 +4,7 @@ use Rattle.std.specs.Str.{bytes_eq}
 use Rattle.http_session.specs.Serves.{moment}
 use Rattle.http_session.specs.declared.session_end.SessionEnd.{SessionEnd}
 use Rattle.http_session.specs.declared.session_end.SessionEnd.TheVariants.{Done, ReadFault, WriteFault, Budget, OutOfMemory}
-use Rattle.lab_world.specs.Lab.{WorldState}
-use Rattle.lab_world.specs.World.{opened}
+use Rattle.world_laws.specs.World.{World, opened}
 use Rattle.net_settings.specs.Defaults.{default_parts}
 use Rattle.api_types.specs.Rows.{no_rows}
 use Rattle.neutron_serve.specs.Promises.{Promises}
@@ -30,8 +29,8 @@ pub record Ends : Type 0 where
   pub written : Option (List ℕ)
   pub flushed : Option ℕ
 
--- a session under the default settings, from no rows on, over a store that never fails, of at most 2^40 bytes
+-- a session under the default settings, with automatic delivery, from no rows on, over a store that never fails, of at most 2^40 bytes
 abbrev pub RunsSession : Ends → Ends → SessionEnd → Type 0
-RunsSession old new end = (world : WorldState) × (buffer : List ℕ) × (taken : ℕ) × (taken ≤ 2 ^ 40) × Promises (2 ^ 40)
-    (moment (opened default_parts no_rows) [] old.left old.written old.flushed 0 0)
+RunsSession old new end = (world : World) × (buffer : List ℕ) × (taken : ℕ) × (taken ≤ 2 ^ 40) × Promises (2 ^ 40)
+    (moment (opened default_parts false no_rows) [] old.left old.written old.flushed 0 0)
     (moment world buffer new.left new.written new.flushed 0 taken) end

@@ -7,21 +7,21 @@ use Rattle.api_types.specs.declared.refusal.Refusal.TheVariants.{Malformed, Head
 use Rattle.http_heads.specs.Fields.{closes}
 use Rattle.http_heads.specs.Heads.{Asked}
 use Rattle.http_session.specs.Told.{Fixed}
-use Rattle.lab_world.specs.Lab.{WorldState}
-use Rattle.lab_world.specs.World.{AskOutcome, ByMachine, ask_outcome, is_change, world_after}
+use Rattle.world_laws.specs.World.{World}
+use Rattle.lab_world.specs.World.{AskOutcome, ByMachine, MovesBy, ask_outcome, is_change}
 use Rattle.neutron_http.specs.Replies.{reply_bytes, no_memory_body}
 use Rattle.neutron_serve.specs.Replies.{outcome_bytes, refusal_bytes}
 use Rattle.neutron_serve.specs.Requests.{request_of}
 use Rattle.plane_types.specs.declared.ask.Ask.{Ask}
 
 -- what a request comes to: the outcome of its ask, or its refusal
-abbrev pub request_outcome : WorldState → Result (Caller × Ask) Refusal → AskOutcome
+abbrev pub request_outcome : World → Result (Caller × Ask) Refusal → AskOutcome
 request_outcome world (Ok request) = ask_outcome world request.0 request.1
 request_outcome world (Err refusal) = ByMachine (Refused refusal)
 
--- one request: the world after its outcome, and its outcome's reply
-pub record Steps (old : WorldState) (asked : Asked) (reply : List ℕ) (new : WorldState) : Type 0 where
-  pub moves : new ≡ world_after old (request_outcome old (request_of asked))
+-- one request: the world moves by its outcome, whose reply is written
+pub record Steps (old : World) (asked : Asked) (reply : List ℕ) (new : World) : Type 0 where
+  pub moves : MovesBy old (request_outcome old (request_of asked)) new
   pub replies : reply ≡ outcome_bytes (closes asked.head) (request_outcome old (request_of asked))
 
 -- the refusals of bytes by their numbers
@@ -29,7 +29,7 @@ abbrev pub byte_refusal : ℕ → Refusal
 byte_refusal n = if n == 1 then Malformed else (if n == 2 then HeadLarge else (if n == 3 then BodyLarge else NoLength))
 
 -- the replies that are none of a step, and the requests that come to a change
-abbrev pub fixed_replies : Fixed WorldState
+abbrev pub fixed_replies : Fixed World
 fixed_replies = record {
   store_failed = λ close. refusal_bytes close StoreFault;
   no_memory = λ close. reply_bytes 507 close None no_memory_body;

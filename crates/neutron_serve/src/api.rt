@@ -3,22 +3,55 @@ ghost use Rattle.std.specs.Prelude.{◌≡◌, ◌≤◌, ◌==◌, ◌&&◌, if
 ghost use Rattle.http_heads.specs.Heads.{Asked};
 ghost use Rattle.http_session.specs.Requests.{IsRequest, BeginsWith};
 ghost use Rattle.keeper_core.specs.Counts.{RoseBy, Tells};
-ghost use Rattle.lab_world.specs.World.{Handles, is_change};
+ghost use Rattle.lab_world.specs.World.{Handles, IsAskInForm, ask_outcome, is_change};
 ghost use Rattle.neutron_serve.specs.Replies.{refusal_bytes};
-ghost use Rattle.neutron_serve.specs.Causes.{cause_in, tells_entries};
+ghost use Rattle.neutron_serve.specs.Causes.{cause_in, may_move as may_move_by, moves_hosts as moves_hosts_by, tells_entries};
 ghost use Rattle.neutron_serve.specs.Requests.{request_of};
 ghost use Rattle.neutron_serve.specs.Steps.{byte_refusal, request_outcome};
 
 use crate::reply::write;
 use crate::request::read_request;
-use api_types::Refusal;
+use api_types::{Caller, Refusal};
 use http_session::{Answer, Handler, Request};
 use keeper_core::Keeper;
 use lab_world::World;
 use net_addr::{Bytes, OutOfMemory};
 use neutron_http::{Routes, no_memory_reply};
-use plane_types::{LabAnswer, Reply};
+use plane_types::{Ask, LabAnswer, LabCall, Reply};
 use std::alloc::Global;
+
+// A reply, and whether all is known to be as it was.
+#[derive(Drop)]
+struct Handled {
+    reply: Reply,
+    same: bool,
+}
+
+// What is answered to an ask that was read.
+fn handle_ask<K: Keeper>(
+    world: &mut World,
+    alloc: Global,
+    keeper: &mut K,
+    caller: &Caller,
+    ask: &Ask,
+) -> Handled
+    requires kept { Tells (K.kept keeper.old) world.old.history.rows }
+    requires in_form { IsAskInForm caller.now ask.now }
+    ensures handled { Handles (ask_outcome world.old caller.now ask.now) world.old world.new
+        result.reply }
+    ensures same { result.same ≡ true → world.new ≡ world.old }
+    ensures store_change { result.reply ≡ Reply.Refused Refusal.StoreFault
+        → is_change (ask_outcome world.old caller.now ask.now) ≡ true }
+    ensures store_fault { result.reply ≡ Reply.Refused Refusal.StoreFault
+        → RoseBy 1 (K.faults keeper.old) (K.faults keeper.new) }
+    ensures later { K.faults keeper.old ≤ K.faults keeper.new }
+    ensures kept { Tells (K.kept keeper.new) world.new.history.rows }
+{
+    let before = world.version();
+    let reply = world.handle(alloc, keeper, caller, ask);
+    let same = is_still(world, before, ask, &reply);
+    Handled { reply, same }
+}
 
 // What a request that the bytes begin with is answered.
 fn reply_to<K: Keeper>(
@@ -28,22 +61,27 @@ fn reply_to<K: Keeper>(
     keeper: &mut K,
     bytes: &[u8],
     request: &Request,
-) -> Reply
-    requires kept { Tells (K.kept keeper.old) world.old.state.rows }
+) -> Handled
+    requires kept { Tells (K.kept keeper.old) world.old.history.rows }
     requires begins { BeginsWith bytes.now request.now }
     ensures handled { (asked : Asked) → IsRequest bytes.now request.now asked
-        → Handles (request_outcome world.old (request_of asked)) world.old world.new result }
+        → Handles (request_outcome world.old (request_of asked)) world.old world.new
+        result.reply }
+    ensures same { result.same ≡ true → world.new ≡ world.old }
     ensures store_change { (asked : Asked) → IsRequest bytes.now request.now asked
-        → result ≡ Reply.Refused Refusal.StoreFault
+        → result.reply ≡ Reply.Refused Refusal.StoreFault
         → is_change (request_outcome world.old (request_of asked)) ≡ true }
-    ensures store_fault { result ≡ Reply.Refused Refusal.StoreFault
+    ensures store_fault { result.reply ≡ Reply.Refused Refusal.StoreFault
         → RoseBy 1 (K.faults keeper.old) (K.faults keeper.new) }
     ensures later { K.faults keeper.old ≤ K.faults keeper.new }
-    ensures kept { Tells (K.kept keeper.new) world.new.state.rows }
+    ensures kept { Tells (K.kept keeper.new) world.new.history.rows }
 {
     match read_request(alloc, routes, bytes, request) {
-        Ok((caller, ask)) => world.handle(alloc, keeper, &caller, &ask),
-        Err(refusal) => Reply::Refused(refusal),
+        Ok((caller, ask)) => handle_ask(world, alloc, keeper, &caller, &ask),
+        Err(refusal) => Handled {
+            reply: Reply::Refused(refusal),
+            same: true,
+        },
     }
 }
 
@@ -67,21 +105,47 @@ fn cause_of(reply: &Reply) -> Cause
     }
 }
 
-// Whether hosts may have kept entries: the reply tells of some.
-fn keeps_entries(reply: &Reply) -> bool
-    ensures { result ≡ tells_entries reply.now }
+// Whether hosts may have kept entries: the answer tells of some.
+fn keeps_entries(answer: &LabAnswer) -> bool
+    ensures { result ≡ tells_entries answer.now }
 {
-    match reply {
-        Reply::LabDone(LabAnswer::Seen(verdict)) => !verdict.fresh.is_empty(),
+    match answer {
+        LabAnswer::Seen(verdict) => !verdict.fresh.is_empty(),
+        LabAnswer::Told(_) | LabAnswer::Hosts(_) | LabAnswer::Tables(_) => false,
+    }
+}
+
+// Whether hosts may be others than before a call of the lab that is answered so.
+fn moves_hosts(call: &LabCall, answer: &LabAnswer) -> bool
+    ensures { result ≡ moves_hosts_by call.now answer.now }
+{
+    match call {
+        LabCall::Frames(_) => keeps_entries(answer),
+        LabCall::Explain(_) | LabCall::Hosts | LabCall::Tables(_) => false,
+        LabCall::Deliver { .. }
+        | LabCall::Resync(_)
+        | LabCall::Restart(_)
+        | LabCall::Forget(_)
+        | LabCall::Settle => true,
+    }
+}
+
+// Whether hosts may be others than before an ask that is answered so.
+fn may_move(ask: &Ask, reply: &Reply) -> bool
+    ensures { result ≡ may_move_by ask.now reply.now }
+{
+    match (ask, reply) {
+        (Ask::Lab(call), Reply::LabDone(answer)) => moves_hosts(call, answer),
         _ => false,
     }
 }
 
-// Whether the world is at a version still, and the reply tells of no entries.
-fn is_still(world: &World, version: u64, reply: &Reply) -> bool
-    ensures { result ≡ (world.now.state.version == version) && not (tells_entries reply.now) }
+// Whether the world is at a version still, and its hosts can't have moved.
+fn is_still(world: &World, version: u64, ask: &Ask, reply: &Reply) -> bool
+    ensures { result
+        ≡ (world.now.history.version == version) && not (may_move_by ask.now reply.now) }
 {
-    world.version() == version && !keeps_entries(reply)
+    world.version() == version && !may_move(ask, reply)
 }
 
 // A reply could not be written. Where nothing changed, the request is refused for want of memory.
@@ -122,7 +186,7 @@ impl Handler for Api {
 
     ghost fixed = { fixed_replies };
 
-    ghost rows = { λ world. world.state.rows };
+    ghost rows = { λ world. world.history.rows };
 
     fn make(alloc: Global) -> Result<Api, OutOfMemory> {
         Ok(Api {
@@ -138,8 +202,7 @@ impl Handler for Api {
         bytes: &[u8],
         request: Request,
     ) -> Answer {
-        let before = world.version();
-        let reply = reply_to(&self.routes, world, alloc, keeper, bytes, &request);
+        let Handled { reply, same } = reply_to(&self.routes, world, alloc, keeper, bytes, &request);
         match cause_of(&reply) {
             Cause::NoMemory => Answer::NoMemory,
             Cause::StoreFault => match write(alloc, request.close, &reply) {
@@ -148,7 +211,7 @@ impl Handler for Api {
             },
             Cause::Step => match write(alloc, request.close, &reply) {
                 Ok(written) => Answer::Reply(written),
-                Err(OutOfMemory) => unwritten(is_still(world, before, &reply)),
+                Err(OutOfMemory) => unwritten(same),
             },
         }
     }

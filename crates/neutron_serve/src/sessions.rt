@@ -14,8 +14,8 @@ use std::alloc::Global;
 ///
 /// At most `limit` bytes are read. A buffer of 81,920 bytes, which the longest request fills, is
 /// taken first. What is promised of each request stands in specs/Promises: it is answered by the
-/// step of the API or of the lab, frames come to what the rows say, and a tenant's reply depends on
-/// its footing alone. Each reply is flushed before more is read. An accepted change is in the rows
+/// step of the API or of the lab, whenever every host holds the version of now frames come to what
+/// the rows say, and a tenant's reply depends on its footing alone. Each reply is flushed before more is read. An accepted change is in the rows
 /// and in the kept rows, or the reply says that the store failed or that memory was wanting, and
 /// nothing changed. Bytes that are refused have their reply, and a reply that closes the connection
 /// is the last one.
@@ -30,16 +30,16 @@ pub fn session<K: Keeper, I: Source, O: Sink>(
     output: &mut O,
     limit: u64,
 ) -> SessionEnd
-    requires { Tells (K.kept keeper.old) world.old.state.rows }
+    requires { Tells (K.kept keeper.old) world.old.history.rows }
     ensures promises { (buffer : List ℕ) × (taken : ℕ) × (taken ≤ limit) × Promises limit
         (moment world.old [] (I.left input.old) (O.written output.old) (O.flushed output.old) (K.faults keeper.old) 0)
         (moment world.new buffer (I.left input.new) (O.written output.new) (O.flushed output.new) (K.faults keeper.new) taken) result }
-    ensures kept { Tells (K.kept keeper.new) world.new.state.rows }
+    ensures kept { Tells (K.kept keeper.new) world.new.history.rows }
     ensures read_fault { result ≡ SessionEnd.ReadFault
         → RoseBy 1 (I.faults input.old) (I.faults input.new) }
     ensures write_fault { result ≡ SessionEnd.WriteFault
         → RoseBy 1 (O.faults output.old) (O.faults output.new) }
 {
-    let _held = world.rows(); // for the proof: the hosts hold the rows
+    let _rows = world.rows(); // for the proof: hosts follow the rows
     http_session::session::<Api, K, I, O>(alloc, world, keeper, input, output, limit)
 }

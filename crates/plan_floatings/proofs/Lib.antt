@@ -1,4 +1,3 @@
 mod AimLemmas
 mod CallLemmas
-mod NewLemmas
 mod OuterLemmas

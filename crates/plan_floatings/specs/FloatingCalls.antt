@@ -40,7 +40,8 @@ use Rattle.api_types.specs.declared.subnet.SubnetRow.{SubnetRow}
 use Rattle.net_addr.specs.Addresses.{number}
 use Rattle.net_addr.specs.declared.address.Addr.TheVariants.{V4}
 use Rattle.net_settings.specs.Settings.{SettingsParts}
-use Rattle.std.specs.Prelude.{Bool, List, None, Option, Some, [], codes, if◌then◌else◌, is_none, not, option_and_then, option_map, ℕ, ◌&&◌, ◌||◌, ◌∷◌}
+use Rattle.std.specs.Prelude.{Bool, List, None, Option, Some, [], codes, if◌then◌else◌, is_none, not, option_and_then, option_map, ℕ, ◌&&◌, ◌∷◌}
+use Rattle.api_policy.specs.Reserved.{floating_for_admin}
 
 abbrev pub floating_shown : RowLists → Caller → FloatingRow → List (List ℕ) → ShownRow
 floating_shown rows caller f fields = shown_as FloatingKind caller.admin fields (floating_members f)
@@ -74,7 +75,7 @@ address_held rows network (Some x) = when (is_address_held rows.ports network (V
 abbrev pub creation_refusal : RowLists → Caller → FloatingForm → NetworkRow → Option Refusal
 creation_refusal rows caller form n = first_refusal (
     unless_found PortKind (value_of form.port_id) (port_asked rows caller form)
-    ∷ admin_only caller (is_given form.floating_ip_address || is_for_other caller form.project_id form.tenant_id)
+    ∷ admin_only caller (floating_for_admin caller form)
     ∷ option_and_then (aim_in_use rows caller rows.floatings n.id) (aim_asked rows caller form)
     ∷ address_held rows n.id (value_of form.floating_ip_address)
     ∷ [])

@@ -8,7 +8,8 @@ ghost use Rattle.api_types.specs.Consistent.Floating.{stands_for as stands_at};
 ghost use Rattle.plan_floatings.specs.Associated.{associated, associated_at, led_from};
 
 use crate::aim::{fixed_for, four, is_foreign, router_for};
-use api_types::{Fixed, FloatingRow, Id, PortRow, Rows, Shared, Target};
+use api_policy::leading;
+use api_types::{Fixed, Id, PortRow, Rows, Target};
 use net_addr::{Addr4, Text};
 
 /// Why a floating address can't lead to a port.
@@ -22,45 +23,6 @@ pub enum FloatingRefusal {
     FixedTaken(Id),
     /// No router of the project joins this subnet, in which the address is, to the network.
     NoRouterForFloating(Id),
-}
-
-// Whether the floating address is of the network and stands for this address of the port.
-fn stands_for(network: Id, port: Id, fixed: Addr4, floating: &FloatingRow) -> bool
-    ensures { result ≡ stands_at network port fixed floating.now }
-{
-    let there = match &floating.target {
-        Some(target) => port == target.port && target.fixed == fixed,
-        None => false,
-    };
-    network == floating.network && there
-}
-
-fn is_other(own: &Option<Id>, floating: &FloatingRow) -> bool
-    ensures { result ≡ is_other_floating own.now floating.now }
-{
-    match own {
-        Some(own) => *own != floating.id,
-        None => true,
-    }
-}
-
-// The first floating address but one that stands for this address of the port.
-fn leading<'r>(
-    floatings: &'r [Shared<FloatingRow>],
-    own: &Option<Id>,
-    network: Id,
-    port: Id,
-    fixed: Addr4,
-) -> Option<&'r FloatingRow>
-    ensures { option_copied result
-        ≡ find (stands_at network port fixed) (other_floatings own.now floatings.now) }
-{
-    for floating in floatings {
-        if is_other(own, floating) && stands_for(network, port, fixed, floating) {
-            return Some(floating);
-        }
-    }
-    None
 }
 
 /// What leads to an address of version 4 of the port: a router of the project that joins its subnet
@@ -100,7 +62,7 @@ fn lead_to(
         (record { port = port.now; fixed = fixed.now }) }
 {
     let floatings = rows.floatings().rows();
-    if let Some(floating) = leading(floatings, own, network, port.id, four(&fixed.address)) {
+    if let Some(floating) = leading(floatings, own, network, port.id, &fixed.address) {
         return Err(FloatingRefusal::FixedTaken(floating.id));
     }
     match target_by(rows, network, project, port, fixed) {

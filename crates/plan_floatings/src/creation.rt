@@ -26,11 +26,11 @@ use crate::drawing::draw_two;
 use crate::outer::{Outer, outer_for, unless_held};
 use crate::row::{new_floating, own_port};
 use crate::rules::{check_address, check_form, check_outside};
-use api_policy::{admin_only, network_seen, over_quota};
+use api_policy::{admin_only, floating_for_admin, network_seen, over_quota};
 use api_types::{
     Caller, FloatingForm, FloatingRow, Id, Kind, NetworkRow, PortRow, Refusal, Rows, Target,
 };
-use call_parts::{Draft, Drawn, is_for_other, is_given, none_with_id, owner, value_of};
+use call_parts::{Draft, Drawn, none_with_id, owner, value_of};
 use net_addr::{Copies, OutOfMemory, Text};
 use net_settings::Settings;
 use std::alloc::Global;
@@ -76,15 +76,6 @@ fn check_body(
     check_rows(alloc, rows, caller, form, owner, network)
 }
 
-// Whether the body asks for what is for administrators alone.
-fn is_for_admin(caller: &Caller, form: &FloatingForm) -> bool
-    ensures { result
-        ≡ (is_given_of form.now.floating_ip_address
-        || is_for_other_of caller.now form.now.project_id form.now.tenant_id) }
-{
-    is_given(&form.floating_ip_address) || is_for_other(caller, &form.project_id, &form.tenant_id)
-}
-
 fn check_creation(
     alloc: Global,
     rows: &Rows,
@@ -95,7 +86,7 @@ fn check_creation(
     ensures { Passes (creation_refusal rows.now caller.now form.now network.now) result }
 {
     unless_found(alloc, rows, caller, form)?;
-    admin_only(caller, is_for_admin(caller, form))?;
+    admin_only(caller, floating_for_admin(caller, form))?;
     unless_led_by_any(rows, caller, form, network.id)?;
     unless_held(rows, network.id, value_of(&form.floating_ip_address))
 }

@@ -10,8 +10,7 @@ ghost use Rattle.call_parts.specs.Edits.{Drop as DropRow, made};
 ghost use Rattle.call_parts.specs.State.{State};
 ghost use Rattle.plan_floatings.specs.FloatingCalls.{deletion_refusal, floating_deleted};
 
-use crate::drawing::unless_last;
-use api_policy::{floating_seen, owner_only};
+use api_policy::{floating_seen, owner_only, unless_last};
 use api_types::{Caller, FloatingRow, IdText, Kind, PortRow, Refusal, Rows};
 use call_parts::{Draft, not_found};
 use net_addr::OutOfMemory;

@@ -1,10 +1,8 @@
-//! Ids for a floating address and its own port, which no row has, and the last version.
+//! Ids for a floating address and its own port, which no row has.
 
-ghost use Rattle.std.specs.Prelude.{◌≡◌, ◌⊎◌, ◌+◌, ◌-◌, ◌^◌, ◌<◌, ◌≤◌, ◌==◌, ℕ, None, Some, IfErr, IfOk, not, true};
-ghost use Rattle.api_policy.specs.Checks.{IsAnswerOf};
+ghost use Rattle.std.specs.Prelude.{◌≡◌, ◌⊎◌, ◌+◌, ◌^◌, ◌<◌, ◌≤◌, ℕ, None, Some, IfErr, IfOk, not, true};
 ghost use Rattle.api_types.specs.Consistent.{IsConsistent};
 ghost use Rattle.api_types.specs.Lists.{is_empty};
-ghost use Rattle.api_types.specs.Refusing.{when};
 ghost use Rattle.api_types.specs.Registration.{ident};
 ghost use Rattle.api_types.specs.declared.refusal.Refusal.TheVariants.{CountersSpent as SpentCounters, OutOfMemory as MemoryRefusal};
 ghost use Rattle.call_parts.specs.State.{State, drawing_at};
@@ -38,14 +36,4 @@ pub(crate) fn draw_two(
         ⊎ ((e ≡ SpentCounters) × (drawing_at state owner.now 2 ≡ None))) }
 {
     draw(alloc, rows, version, owner, 2)
-}
-
-/// Refuses where the version is at its last value.
-pub(crate) fn unless_last(version: u64) -> Result<(), Refusal>
-    ensures { IsAnswerOf (when (version == (2 ^ 64 - 1)) SpentCounters) result }
-{
-    if version == u64::MAX {
-        return Err(Refusal::CountersSpent);
-    }
-    Ok(())
 }

@@ -10,7 +10,7 @@ use api_ml2::bind;
 use api_types::{
     Fixed, FixedList, FloatingForm, FloatingRow, Given, Id, NetworkRow, PortRow, Target,
 };
-use call_parts::text_or;
+use call_parts::{one_fixed, text_or};
 use net_addr::{Copies, OutOfMemory, Seq, Text};
 use net_settings::Settings;
 use std::alloc::Global;
@@ -42,15 +42,6 @@ pub(crate) fn new_floating(
         address: four(&outer.fixed.address),
         target,
     })
-}
-
-fn one_fixed(alloc: Global, fixed: &Fixed) -> Result<FixedList, OutOfMemory>
-    ensures { IfOk result (λ list. list ≡ fixed.now ∷ []) }
-{
-    let Fixed { subnet, address } = *fixed;
-    let mut list = Seq::new(alloc);
-    list.push(Fixed { subnet, address })?;
-    Ok(list)
 }
 
 /// The port that holds a floating address, on no host.

@@ -9,10 +9,9 @@ ghost use Rattle.plan_floatings.specs.FloatingCalls.{floating_changed, floating_
 
 use crate::asked::{check_asked, target_asked, unless_found, unless_led};
 use crate::creation::PlannedFloating;
-use crate::drawing::unless_last;
 use crate::row::changed_floating;
 use crate::rules::check_fixed;
-use api_policy::{floating_seen, owner_only};
+use api_policy::{floating_seen, owner_only, unless_last};
 use api_types::{Caller, FloatingForm, FloatingRow, IdText, Kind, Refusal, Rows};
 use call_parts::{Draft, not_found};
 use net_addr::Copies;

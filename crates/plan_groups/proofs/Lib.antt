@@ -1,4 +1,4 @@
 pub mod EditLemmas
 pub mod GroupLemmas
-pub mod NewLemmas
+pub mod OwnerLemmas
 pub mod RuleLemmas

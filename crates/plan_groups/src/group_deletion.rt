@@ -10,8 +10,7 @@ ghost use Rattle.call_parts.specs.Answers.{IsRefusalOf, Passes};
 ghost use Rattle.plan_groups.specs.GroupCalls.{group_deleted, group_deletion_refusal, group_gone};
 ghost use Rattle.row_laws.specs.Gone.{names_group as names_group_of};
 
-use crate::refusals::unless_last;
-use api_policy::{default_in_use, group_in_use, group_seen, owner_only};
+use api_policy::{default_in_use, group_in_use, group_seen, owner_only, unless_last};
 use api_types::{Caller, GroupRow, Id, IdText, Kind, Refusal, Rows, RuleRow, Shared};
 use call_parts::{Draft, not_found};
 use net_addr::{OutOfMemory, Seq};

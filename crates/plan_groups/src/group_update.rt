@@ -9,8 +9,7 @@ ghost use Rattle.call_parts.specs.Answers.{IsRefusalOf, Passes};
 ghost use Rattle.plan_groups.specs.GroupCalls.{changed_group as changed_group_of, group_shown, group_update_refusal, group_updated};
 
 use crate::group_creation::PlannedGroup;
-use crate::refusals::unless_last;
-use api_policy::{group_seen, owner_only};
+use api_policy::{group_seen, owner_only, unless_last};
 use api_types::{Caller, GroupForm, GroupRow, IdText, Kind, Refusal, Rows};
 use call_parts::{Draft, invalid, is_given, not_found, text_or};
 use net_addr::{Copies, OutOfMemory};

@@ -14,7 +14,6 @@ mod group_creation;
 mod group_deletion;
 mod group_update;
 mod parts;
-mod refusals;
 mod rule_creation;
 mod rule_deletion;
 

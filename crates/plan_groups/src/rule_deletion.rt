@@ -9,8 +9,7 @@ ghost use Rattle.call_parts.specs.State.{State};
 ghost use Rattle.call_parts.specs.Answers.{IsRefusalOf};
 ghost use Rattle.plan_groups.specs.GroupCalls.{rule_deleted, rule_deletion_refusal};
 
-use crate::refusals::unless_last;
-use api_policy::{owner_only, rule_seen};
+use api_policy::{owner_only, rule_seen, unless_last};
 use api_types::{Caller, IdText, Kind, Refusal, Rows, RuleRow};
 use call_parts::{Draft, not_found};
 use std::alloc::Global;

@@ -1,6 +1,5 @@
 -- Edits one after the other, and ids that no policy has.
-use Rattle.std.proofs.Common.{◌≡◌, ◌∙◌, ℕ, ◌+◌, ◌<◌, Bool, true, false, cond, not, List, [], ◌∷◌, ◌++◌, Option, Some, None, map, filter, ap, refl, sym, subst, arith}
-use Rattle.std.proofs.lemmas.Bool.Decides.{nat_tests}
+use Rattle.std.proofs.Common.{◌≡◌, ◌∙◌, ℕ, ◌+◌, Bool, true, false, not, List, [], ◌∷◌, ◌++◌, Option, Some, None, map, filter, ap, sym, subst, arith}
 use Rattle.api_types.specs.HeldAddresses.{ports_on, subnets_on}
 use Rattle.api_types.specs.Ident.{Ident}
 use Rattle.api_types.specs.Registration.{Drawing, ident}
@@ -9,7 +8,6 @@ use Rattle.api_types.specs.Table.{ident_eq, row_of}
 use Rattle.api_policy.specs.Uses.{open_policy}
 use Rattle.api_types.specs.declared.form.Given.{Given}
 use Rattle.api_types.specs.declared.form.NetworkForm.{NetworkForm}
-use Rattle.api_types.specs.declared.kind.Kind.{Kind}
 use Rattle.api_types.specs.declared.kind.Kind.TheVariants.{Network as NetworkKind, Policy as PolicyKind, Port as PortKind, Subnet as SubnetKind}
 use Rattle.api_types.specs.declared.kind.Row.TheVariants.{Network}
 use Rattle.api_types.specs.declared.network.NetworkRow.{NetworkRow}
@@ -18,17 +16,10 @@ use Rattle.api_types.specs.declared.policy.Action.{Action}
 use Rattle.api_types.specs.declared.policy.PolicyRow.{PolicyRow}
 use Rattle.api_types.specs.declared.port.PortRow.{PortRow}
 use Rattle.api_types.specs.declared.subnet.SubnetRow.{SubnetRow}
-use Rattle.call_parts.specs.Edits.{Add, Drop, Edit, dropped, edited, made, with_put}
+use Rattle.call_parts.specs.Edits.{Add, Drop, dropped, edited, made, with_put}
 use Rattle.plan_networks.specs.NetworkCalls.{changed_network, closing, is_cleared, is_opened, network_edits, network_gone, new_open_policy, one_if, opening, openings, opens, reopening}
-
-pub made-append : (rows : RowLists) (es fs : List Edit) → made rows (es ++ fs) ≡ made (made rows es) fs
-made-append rows [] fs = refl
-made-append rows (e ∷ es) fs = made-append (edited rows e) es fs
-
--- rows that go are named by their ids
-dropped_ids : {R : Type 0} (kind : Kind) (id_of : R → Ident) (rows : List R) → dropped kind id_of rows ≡ map (λ i. Drop kind i) (map id_of rows)
-dropped_ids kind id_of [] = refl
-dropped_ids kind id_of (r ∷ rows) = ap (λ es. Drop kind (id_of r) ∷ es) (dropped_ids kind id_of rows)
+use Rattle.call_parts.proofs.EditLemmas.{dropped_ids, made-append}
+use Rattle.call_parts.proofs.AbsentLemmas.{absent_filtered, absent_pushed, later_id}
 
 module _ (rows : RowLists) (i : Ident) (subnets ports policies : List Ident) (one two three : RowLists) where
   pub gone_by_steps : subnets ≡ map (λ (s : SubnetRow). s.id) (subnets_on rows.subnets i) → ports ≡ map (λ (p : PortRow). p.id) (ports_on rows.ports i)
@@ -46,30 +37,6 @@ module _ (rows : RowLists) (i : Ident) (subnets ports policies : List Ident) (on
       let to_two : two ≡ made rows (a ++ b) = second ∙ (λ j. made (to_one j) (is_b j)) ∙ sym (made-append rows a b) in
       let to_three : three ≡ made rows (a ++ b ++ c) = third ∙ (λ j. made (to_two j) (is_c j)) ∙ sym (made-append rows (a ++ b) c) in
       ap (λ r. edited r (Drop NetworkKind i)) to_three ∙ sym (made-append rows (a ++ b ++ c) (Drop NetworkKind i ∷ []))
-
-module _ {R : Type 0} (id_of : R → Ident) (i : Ident) where
-  -- a row with another id
-  pub absent_pushed : (rows : List R) (r : R) → row_of id_of i rows ≡ None → ident_eq i (id_of r) ≡ false → row_of id_of i (rows ++ r ∷ []) ≡ None
-  absent_pushed [] r none apart = ap (λ b. cond b (Some r) None) apart
-  absent_pushed (x ∷ rows) r none apart = by (ident_eq i (id_of x)) none (λ rest. absent_pushed rows r rest apart)
-    where
-      by : (b : Bool) → cond b (Some x) (row_of id_of i rows) ≡ None → (row_of id_of i rows ≡ None → row_of id_of i (rows ++ r ∷ []) ≡ None)
-          → cond b (Some x) (row_of id_of i (rows ++ r ∷ [])) ≡ None
-      by true e on = cc
-      by false e on = on e
-
-  pub absent_filtered : (test : R → Bool) (rows : List R) → row_of id_of i rows ≡ None → row_of id_of i (filter test rows) ≡ None
-  absent_filtered test [] none = refl
-  absent_filtered test (x ∷ rows) none = by (test x) (ident_eq i (id_of x)) refl none (absent_filtered test rows)
-    where
-      by : (t b : Bool) → ident_eq i (id_of x) ≡ b → cond b (Some x) (row_of id_of i rows) ≡ None → (row_of id_of i rows ≡ None → row_of id_of i (filter test rows) ≡ None)
-          → row_of id_of i (cond t (x ∷ filter test rows) (filter test rows)) ≡ None
-      by t true same e on = cc
-      by true false other e on = ap (λ b. cond b (Some x) (row_of id_of i (filter test rows))) other ∙ on e
-      by false false other e on = on e
-
-later_id : (ordinal a b : ℕ) → b < a → ident_eq (ident ordinal a) (ident ordinal b) ≡ false
-later_id ordinal a b less = grind (arith, nat_tests)
 
 -- no policy has the id behind that of a policy that is made
 pub absent_opened : (rows : RowLists) (n : NetworkRow) (action : Action) (ordinal first : ℕ) (opens : Bool)

@@ -1,5 +1,5 @@
 -- Of a list of refusals in order, the first part goes before the second.
-use Rattle.std.proofs.Common.{◌≡◌, ◌∙◌, ℕ, List, [], ◌∷◌, ◌++◌, Option, Some, None, Result, ap, refl, inl, inr, subst, sym}
+use Rattle.std.proofs.Common.{◌≡◌, ◌∙◌, ℕ, List, [], ◌∷◌, Option, Some, None, Result, ap, refl, inl, inr, subst, sym}
 use Rattle.std.specs.Option.{option_or}
 use Rattle.api_types.specs.Refusing.{first_refusal}
 use Rattle.api_types.specs.RowLists.{RowLists}
@@ -10,11 +10,7 @@ use Rattle.net_settings.specs.Settings.{SettingsParts}
 use Rattle.plan_networks.specs.NetworkCalls.{creation_refusal}
 use Rattle.call_parts.specs.Answers.{IsRefusalIn, Passes}
 use Rattle.plan_networks.specs.Plans.{body_refusal, body_refusals, rows_refusal, rows_refusals}
-
-first_joined : (xs ys : List (Option Refusal)) → first_refusal (xs ++ ys) ≡ option_or (first_refusal xs) (first_refusal ys)
-first_joined [] ys = refl
-first_joined (None ∷ xs) ys = first_joined xs ys
-first_joined (Some r ∷ xs) ys = refl
+use Rattle.call_parts.proofs.RefusalLemmas.{first_joined}
 
 module _ (settings : SettingsParts) (rows : RowLists) (caller : Caller) (form : NetworkForm) (owner : List ℕ) where
   creation_by_parts : creation_refusal settings rows caller form owner ≡ option_or (body_refusal settings caller form) (rows_refusal settings rows form owner)

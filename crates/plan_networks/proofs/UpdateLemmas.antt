@@ -1,12 +1,12 @@
 -- What a network's change comes to, where nothing refuses it, and what refuses it.
-use Rattle.std.proofs.Common.{◌≡◌, ◌∙◌, ℕ, suc, ◌+◌, Bool, true, false, cond, not, List, [], ◌∷◌, Option, Some, None, ap, inl, inr, refl, subst, sym}
-use Rattle.std.specs.Prelude.{◌⊎◌, find}
+use Rattle.std.proofs.Common.{◌≡◌, ◌∙◌, ℕ, ◌+◌, true, not, [], Option, Some, None, ap, inl, inr, sym}
+use Rattle.std.specs.Prelude.{◌⊎◌}
 use Rattle.api_policy.specs.Seen.{network_seen}
 use Rattle.api_policy.specs.Visibility.{sees_network}
 use Rattle.api_types.specs.Consistent.{IsConsistent}
 use Rattle.api_types.specs.Consistent.Named.{is_registered}
 use Rattle.api_types.specs.Ident.{Ident}
-use Rattle.api_types.specs.Lists.{Each, is_empty}
+use Rattle.api_types.specs.Lists.{is_empty}
 use Rattle.api_types.specs.Outcome.{Moved, Outcome, Refused}
 use Rattle.api_types.specs.Printed.{OneRow}
 use Rattle.api_types.specs.Refusing.{needing, not_found, unless}
@@ -21,13 +21,14 @@ use Rattle.api_types.specs.declared.network.NetworkRow.{NetworkRow}
 use Rattle.api_types.specs.declared.policy.Action.TheVariants.{External, Shared}
 use Rattle.api_types.specs.declared.refusal.Refusal.TheVariants.{CountersSpent, OutOfMemory}
 use Rattle.api_types.specs.declared.refusal.Refusal.{Refusal}
-use Rattle.api_types.proofs.ListLemmas.{each-filter, none_some, some_equal}
+use Rattle.api_types.proofs.ListLemmas.{each-filter, none_some}
 use Rattle.call_parts.specs.Answers.{IsOrMemory, IsRefusalIn, IsRefusalOf, Leads}
 use Rattle.call_parts.specs.Drafts.{DraftParts}
 use Rattle.call_parts.specs.Edits.{accepted, made}
 use Rattle.call_parts.specs.State.{State, drawing_at}
 use Rattle.plan_networks.specs.NetworkCalls.{changed_network, network_changed, network_edits, network_shown, network_updated, opens, update_refusal}
 use Rattle.row_laws.proofs.PlaceLemmas.{has_name}
+use Rattle.call_parts.proofs.OwnerLemmas.{found_holds}
 
 module _ (state : State) (caller : Caller) (name : IdText) (form : NetworkForm) where
   abbrev many : NetworkRow → ℕ
@@ -63,14 +64,6 @@ module _ (state : State) (caller : Caller) (name : IdText) (form : NetworkForm) 
       start = start;
       moved = opened free ∙ (ap (on_drawing n) drew ∙ (λ j. Moved (sym leads j) (OneRow (network_shown (sym leads j) caller (sym is j) []))));
     }
-
-found_holds : {R : Type 0} (P : R → Type 0) (test : R → Bool) (xs : List R) (x : R) → Each P xs → find test xs ≡ Some x → P x
-found_holds P test [] x all h = none_some x _ h
-found_holds {R} P test (a ∷ xs) x all h = by (test a) h (found_holds P test xs x (λ k r at. all (suc k) r at))
-  where
-    by : (b : Bool) → cond b (Some a) (find test xs) ≡ Some x → (find test xs ≡ Some x → P x) → P x
-    by true e rest = subst P (some_equal a x e) (all 0 a refl)
-    by false e rest = rest e
 
 -- the project of a network that is found has a name
 pub project_named : (rows : RowLists) (caller : Caller) (name : Option Ident) (n : NetworkRow) → IsConsistent rows → network_seen rows caller name ≡ Some n → not (is_empty n.project) ≡ true

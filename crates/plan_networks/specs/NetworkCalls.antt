@@ -9,7 +9,7 @@ use Rattle.api_ml2.specs.Segments.{asked_segment, chosen_segment, is_bad_number,
 use Rattle.api_policy.specs.Uses.{network_in_use, open_in_use, open_policy}
 use Rattle.api_policy.specs.Networks.{network_members, permits_all}
 use Rattle.api_policy.specs.Shown.{shown_as}
-use Rattle.api_types.specs.Given.{are_unlike, is_for_other, is_given, owner_of, value_or}
+use Rattle.api_types.specs.Given.{are_unlike, owner_of, value_or}
 use Rattle.api_types.specs.Refusing.{first_refusal, needing, not_found, unless, when}
 use Rattle.call_parts.specs.State.{State, drawing_at, is_last}
 use Rattle.api_types.specs.Ident.{Ident}
@@ -34,6 +34,7 @@ use Rattle.api_types.specs.declared.refusal.Refusal.TheVariants.{CountersSpent, 
 use Rattle.api_types.specs.declared.refusal.Refusal.{Refusal}
 use Rattle.net_settings.specs.Settings.{SettingsParts}
 use Rattle.std.specs.Prelude.{Bool, List, None, Option, Some, [], codes, false, filter, if◌then◌else◌, is_none, not, true, ℕ, ◌&&◌, ◌++◌, ◌+◌, ◌||◌, ◌∷◌}
+use Rattle.api_policy.specs.Reserved.{network_for_admin}
 
 abbrev pub network_shown : RowLists → Caller → NetworkRow → List (List ℕ) → ShownRow
 network_shown rows caller n fields = shown_as NetworkKind caller.admin fields (network_members rows caller n)
@@ -69,11 +70,6 @@ abbrev pub openings : NetworkRow → Drawing → ℕ → Bool → Bool → List 
 openings n drawing first shared external =
     opening n Shared (drawn_id drawing first) shared ++ opening n External (drawn_id drawing (first + one_if shared)) external
 
-abbrev pub is_for_admin : Caller → NetworkForm → Bool
-is_for_admin caller form =
-    is_given form.shared || is_given form.router_external || is_given form.provider_network_type || is_given form.provider_physical_network
-    || is_given form.provider_segmentation_id || is_for_other caller form.project_id form.tenant_id
-
 -- making a network
 
 abbrev pub new_network : List ℕ → NetworkForm → Ident → Segment → NetworkRow
@@ -97,7 +93,7 @@ creation_refusal settings rows caller form owner = first_refusal (
     ∷ when (is_bad_number form) (Invalid (codes "provider:segmentation_id"))
     ∷ when (are_unlike form.project_id form.tenant_id) (Invalid (codes "tenant_id"))
     ∷ bad_wire settings form
-    ∷ admin_only caller (is_for_admin caller form)
+    ∷ admin_only caller (network_for_admin caller form)
     ∷ segment_in_use rows.networks (asked_segment form)
     ∷ over_quota settings rows owner NetworkKind
     ∷ [])
@@ -131,7 +127,7 @@ is_kept form i l = not ((is_cleared form.shared && permits_all i Shared l) || (i
 
 abbrev pub update_refusal : State → Caller → NetworkForm → NetworkRow → Option Refusal
 update_refusal state caller form n = first_refusal (
-    admin_only caller (is_for_admin caller form)
+    admin_only caller (network_for_admin caller form)
     ∷ owner_only caller n.project
     ∷ (if is_cleared form.shared || is_cleared form.router_external then open_in_use state.rows caller (filter (is_kept form n.id) state.rows.policies) n else None)
     ∷ [])

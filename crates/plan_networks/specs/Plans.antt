@@ -11,10 +11,11 @@ use Rattle.api_types.specs.declared.kind.Kind.TheVariants.{Network as NetworkKin
 use Rattle.api_types.specs.declared.refusal.Refusal.TheVariants.{Invalid, NoNetwork}
 use Rattle.api_types.specs.declared.refusal.Refusal.{Refusal}
 use Rattle.net_settings.specs.Settings.{SettingsParts}
-use Rattle.plan_networks.specs.NetworkCalls.{creation_refusal, is_for_admin}
+use Rattle.plan_networks.specs.NetworkCalls.{creation_refusal}
 use Rattle.plan_networks.specs.NetworkRules.{bad_wire}
 use Rattle.std.specs.Option.{option_or}
 use Rattle.std.specs.Prelude.{List, Option, [], codes, is_none, ℕ, ◌∷◌}
+use Rattle.api_policy.specs.Reserved.{network_for_admin}
 
 -- of what forbids a creation: what the body alone does, and what the rows do
 abbrev pub body_refusals : SettingsParts → Caller → NetworkForm → List (Option Refusal)
@@ -23,7 +24,7 @@ body_refusals settings caller form =
     ∷ when (is_bad_number form) (Invalid (codes "provider:segmentation_id"))
     ∷ when (are_unlike form.project_id form.tenant_id) (Invalid (codes "tenant_id"))
     ∷ bad_wire settings form
-    ∷ admin_only caller (is_for_admin caller form)
+    ∷ admin_only caller (network_for_admin caller form)
     ∷ []
 
 abbrev pub body_refusal : SettingsParts → Caller → NetworkForm → Option Refusal

@@ -2,30 +2,18 @@
 
 ghost use Rattle.std.specs.Prelude.{◌≡◌, IfErr, IfOk, None, OnOk};
 ghost use Rattle.api_ml2.specs.Segments.{asked_segment as asked_segment_of};
-ghost use Rattle.plan_networks.specs.NetworkCalls.{creation_refusal, is_for_admin as is_for_admin_of};
+ghost use Rattle.plan_networks.specs.NetworkCalls.{creation_refusal};
 ghost use Rattle.call_parts.specs.Answers.{IsRefusalIn, Passes};
 ghost use Rattle.plan_networks.specs.Plans.{body_refusal, rows_refusal};
 
 use crate::rules::is_bare_wire;
 use api_ml2::{AskedSegment, asked_segment, is_bad_number, is_bad_physical, segment_in_use};
-use api_policy::{admin_only, over_quota};
+use api_policy::{admin_only, network_for_admin, over_quota};
 use api_types::{Caller, Kind, NetworkForm, Refusal, Rows};
-use call_parts::{are_unlike, invalid, is_for_other, is_given};
+use call_parts::{are_unlike, invalid};
 use net_addr::Text;
 use net_settings::Settings;
 use std::alloc::Global;
-
-/// Whether the body has what is for administrators alone.
-pub(crate) fn is_for_admin(caller: &Caller, form: &NetworkForm) -> bool
-    ensures { result ≡ is_for_admin_of caller.now form.now }
-{
-    is_given(&form.shared)
-        || is_given(&form.router_external)
-        || is_given(&form.provider_network_type)
-        || is_given(&form.provider_physical_network)
-        || is_given(&form.provider_segmentation_id)
-        || is_for_other(caller, &form.project_id, &form.tenant_id)
-}
 
 // The segment that the body asks for, where the body alone forbids nothing.
 fn check_body(
@@ -51,7 +39,7 @@ fn check_body(
     if is_bare_wire(alloc, settings, form) {
         return Err(invalid(alloc, "provider:physical_network"));
     }
-    admin_only(caller, is_for_admin(caller, form))?;
+    admin_only(caller, network_for_admin(caller, form))?;
     Ok(asked_segment(alloc, form)?)
 }
 

@@ -12,7 +12,7 @@ ghost use Rattle.call_parts.specs.State.{State};
 ghost use Rattle.plan_networks.specs.NetworkCalls.{deletion_refusal, network_deleted, network_gone};
 ghost use Rattle.call_parts.specs.Answers.{IsRefusalOf, Leads, Passes};
 
-use api_policy::{network_in_use, network_seen, owner_only};
+use api_policy::{network_in_use, network_seen, owner_only, unless_last};
 use api_types::{
     Caller, Id, IdText, Kind, NetworkRow, PolicyRow, PortRow, Refusal, Rows, Shared, SubnetRow,
 };
@@ -95,10 +95,7 @@ fn check_deletion(
 {
     owner_only(caller, &network.project)?;
     network_in_use(rows, caller, network.id)?;
-    if version == u64::MAX {
-        return Err(Refusal::CountersSpent);
-    }
-    Ok(())
+    unless_last(version)
 }
 
 /// Where a network's deletion leads. Its cost grows with the rows.

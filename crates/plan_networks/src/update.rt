@@ -14,10 +14,9 @@ ghost use Rattle.plan_networks.specs.NetworkCalls.{changed_network as changed_ne
 ghost use Rattle.call_parts.specs.Answers.{IsRefusalOf, Leads, Passes, drawing_of};
 ghost use Rattle.row_laws.specs.Drawn.{IsAbsent};
 
-use crate::checks::is_for_admin;
 use crate::opening::{close, is_cleared, is_opened, one_if, open};
 use crate::planned::{PlannedNetwork, draw_new};
-use api_policy::{Standing, admin_only, network_seen, open_in_use, owner_only};
+use api_policy::{Standing, admin_only, network_for_admin, network_seen, open_in_use, owner_only};
 use api_types::{
     Action, Caller, Given, IdText, Kind, NetworkForm, NetworkRow, PolicyRow, Refusal, Rows, Shared,
 };
@@ -80,7 +79,7 @@ fn check_update(
         (update_refusal (record { rows = rows.now; version = version }) caller.now form.now
         network.now) result }
 {
-    admin_only(caller, is_for_admin(caller, form))?;
+    admin_only(caller, network_for_admin(caller, form))?;
     owner_only(caller, &network.project)?;
     let shared = is_cleared(&form.shared);
     let external = is_cleared(&form.router_external);

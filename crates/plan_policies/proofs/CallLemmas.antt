@@ -1,15 +1,14 @@
 -- What refuses the creation of a policy on a network that is found, and that the ids that are drawn are no policy's.
-use Rattle.std.proofs.Common.{◌≡◌, ◌∙◌, ℕ, lit<, ap, Bool, true, false, Option, Some, None, List}
-use Rattle.std.specs.Prelude.{codes, if◌then◌else◌, not}
+use Rattle.std.proofs.Common.{◌≡◌, ◌∙◌, ℕ, lit<, ap, true, false, Option, Some, None, List}
+use Rattle.std.specs.Prelude.{codes, not}
 use Rattle.api_types.specs.Consistent.{IsConsistent}
-use Rattle.api_types.specs.Given.{are_unlike, owner_of, value_of, value_or}
+use Rattle.api_types.specs.Given.{are_unlike, owner_of, value_of}
 use Rattle.api_types.specs.Lists.{is_empty}
 use Rattle.api_types.specs.Outcome.{Outcome, Refused}
 use Rattle.api_types.specs.Refusing.{needing, not_found, unless, when}
-use Rattle.api_types.specs.Registration.{Drawing, draw_of, drawn_id}
+use Rattle.api_types.specs.Registration.{Drawing, drawn_id}
 use Rattle.api_types.specs.Table.{row_of}
 use Rattle.api_types.specs.declared.call.Caller.{Caller}
-use Rattle.api_types.specs.declared.form.Given.TheVariants.{Absent, Is, Null}
 use Rattle.api_types.specs.declared.form.Given.{Given}
 use Rattle.api_types.specs.declared.form.PolicyForm.{PolicyForm}
 use Rattle.api_types.specs.declared.kind.Kind.TheVariants.{Network as NetworkKind}
@@ -17,14 +16,15 @@ use Rattle.api_types.specs.declared.network.NetworkRow.{NetworkRow}
 use Rattle.api_types.specs.declared.policy.PolicyRow.{PolicyRow}
 use Rattle.api_types.specs.declared.refusal.Refusal.TheVariants.{CountersSpent, Invalid}
 use Rattle.api_types.specs.declared.refusal.Refusal.{Refusal}
-use Rattle.api_types.proofs.ListLemmas.{and_both, false_true, none_some}
 use Rattle.api_policy.specs.Seen.{network_seen}
 use Rattle.call_parts.specs.BodyNames.{text_of}
-use Rattle.call_parts.specs.InForm.{are_owners, is_owner}
-use Rattle.call_parts.specs.State.{State, drawing_at, is_last}
+use Rattle.call_parts.specs.InForm.{are_owners}
+use Rattle.call_parts.specs.State.{State, drawing_at}
 use Rattle.net_settings.specs.Settings.{SettingsParts}
 use Rattle.row_laws.proofs.DrawnKept.{drawn_new, draws}
 use Rattle.plan_policies.specs.PolicyCalls.{creation_refusal, new_policy, policy_added, policy_created, policy_made}
+use Rattle.call_parts.proofs.DrawnLemmas.{drawn_is}
+use Rattle.call_parts.proofs.OwnerLemmas.{owner_named}
 
 module _ (settings : SettingsParts) (state : State) (caller : Caller) (form : PolicyForm) where
   abbrev owner : List ℕ
@@ -41,25 +41,10 @@ module _ (settings : SettingsParts) (state : State) (caller : Caller) (form : Po
   created_refused n e alike found refused =
       ap (λ b. unless (when b (Invalid (codes "tenant_id"))) (policy_made settings state caller form owner)) alike ∙ (ap on_found found ∙ ap (λ r. on_network r n) refused)
 
--- who owns a new row has a name
-owner_named : (caller : Caller) (project tenant : Given (List ℕ)) → not (is_empty caller.project) ≡ true → are_owners project tenant ≡ true → not (is_empty (owner_of caller project tenant)) ≡ true
-owner_named caller project tenant has given =
-    let both = and_both (is_owner project) (is_owner tenant) given in
-    named (value_or caller.project tenant) project (named caller.project tenant has both.1) both.0
-  where
-    named : (old : List ℕ) (g : Given (List ℕ)) → not (is_empty old) ≡ true → is_owner g ≡ true → not (is_empty (value_or old g)) ≡ true
-    named old Absent was h = was
-    named old Null was h = false_true _ h
-    named old (Is name) was h = h
-
 -- no policy has an id that was drawn
 pub drawn_unused : (state : State) (caller : Caller) (project tenant : Given (List ℕ)) (d : Drawing) → IsConsistent state.rows → not (is_empty caller.project) ≡ true → are_owners project tenant ≡ true
     → drawing_at state (owner_of caller project tenant) 1 ≡ Some d → row_of (λ (l : PolicyRow). l.id) (drawn_id d 0) d.rows.policies ≡ None
 drawn_unused state caller project tenant d c has owners h =
     let owner : List ℕ = owner_of caller project tenant in
-    let is = draws state.rows owner 1 d c (owner_named caller project tenant has owners) (lit< tt) (drew (is_last state) (draw_of state.rows owner 1) h) in
+    let is = draws state.rows owner 1 d c (owner_named caller project tenant has owners) (lit< tt) (drawn_is state owner 1 d h) in
     (drawn_new state.rows owner 1 d is 0 (lit< tt)).policies
-  where
-    drew : (last : Bool) (o : Option Drawing) → (if last then None else o) ≡ Some d → o ≡ Some d
-    drew true o e = none_some d _ e
-    drew false o e = e

@@ -7,7 +7,7 @@ use Rattle.api_policy.specs.Seen.{network_seen, policy_seen}
 use Rattle.api_policy.specs.Uses.{policy_in_use}
 use Rattle.api_policy.specs.Policies.{policy_members}
 use Rattle.api_policy.specs.Shown.{shown_as}
-use Rattle.api_types.specs.Given.{are_unlike, is_for_other, owner_of, value_of, value_or}
+use Rattle.api_types.specs.Given.{are_unlike, owner_of, value_of, value_or}
 use Rattle.api_types.specs.Refusing.{first_refusal, needing, not_found, unless, when}
 use Rattle.call_parts.specs.State.{State, drawing_at, is_last}
 use Rattle.api_types.specs.Consistent.Permitted.{same_policy}
@@ -16,30 +16,22 @@ use Rattle.api_types.specs.Outcome.{Outcome}
 use Rattle.api_types.specs.Printed.{NewRow, NoRow, OneRow, ShownRow}
 use Rattle.api_types.specs.Registration.{drawn_id}
 use Rattle.api_types.specs.RowLists.{RowLists}
-use Rattle.api_types.specs.Sharing.{everyone, is_action}
 use Rattle.api_types.specs.declared.call.Caller.{Caller}
 use Rattle.api_types.specs.declared.call.IdText.{IdText}
 use Rattle.api_types.specs.declared.form.PolicyForm.{PolicyForm}
 use Rattle.api_types.specs.declared.kind.Kind.TheVariants.{Network as NetworkKind, Policy as PolicyKind}
 use Rattle.api_types.specs.declared.kind.Row.TheVariants.{Policy}
 use Rattle.api_types.specs.declared.network.NetworkRow.{NetworkRow}
-use Rattle.api_types.specs.declared.policy.Action.TheVariants.{External, Shared}
+use Rattle.api_types.specs.declared.policy.Action.TheVariants.{Shared}
 use Rattle.api_types.specs.declared.policy.PolicyRow.{PolicyRow}
 use Rattle.api_types.specs.declared.refusal.Refusal.TheVariants.{CountersSpent, Exists, Invalid}
 use Rattle.api_types.specs.declared.refusal.Refusal.{Refusal}
 use Rattle.net_settings.specs.Settings.{SettingsParts}
-use Rattle.std.specs.Prelude.{Bool, List, Option, [], bytes_eq, codes, find, option_map, true, ℕ, ◌||◌, ◌∷◌}
+use Rattle.std.specs.Prelude.{List, Option, [], codes, find, option_map, true, ℕ, ◌∷◌}
+use Rattle.api_policy.specs.Reserved.{policy_for_admin}
 
 abbrev pub policy_shown : RowLists → Caller → PolicyRow → List (List ℕ) → ShownRow
 policy_shown rows caller l fields = shown_as PolicyKind caller.admin fields (policy_members l)
-
--- the target `*` and external networks are for administrators
-abbrev pub is_for_all : PolicyForm → Bool
-is_for_all form = bytes_eq (value_or [] form.target_tenant) everyone
-
-abbrev pub is_for_admin : Caller → PolicyForm → Bool
-is_for_admin caller form =
-    is_for_all form || is_action External (value_or Shared form.action) || is_for_other caller form.project_id form.tenant_id
 
 -- one of these policies says the same
 abbrev pub equal_policy : List PolicyRow → PolicyRow → Option PolicyRow
@@ -61,7 +53,7 @@ new_policy form owner network i = record {
 
 abbrev pub creation_refusal : SettingsParts → RowLists → Caller → PolicyForm → List ℕ → NetworkRow → Option Refusal
 creation_refusal settings rows caller form owner n = first_refusal (
-    admin_only caller (is_for_admin caller form)
+    admin_only caller (policy_for_admin caller form)
     ∷ network_owner rows caller true n.id
     ∷ option_map policy_exists (equal_policy rows.policies (new_policy form owner n.id no_id))
     ∷ over_quota settings rows owner PolicyKind
@@ -89,7 +81,7 @@ changed_policy form l = record l { target = value_or l.target form.target_tenant
 
 abbrev pub update_refusal : State → Caller → PolicyForm → PolicyRow → PolicyRow → Option Refusal
 update_refusal state caller form old new = first_refusal (
-    admin_only caller (is_for_admin caller form)
+    admin_only caller (policy_for_admin caller form)
     ∷ owner_only caller old.project
     ∷ policy_in_use state.rows caller (put_in (λ q. q.id) new state.rows.policies) old
     ∷ option_map policy_exists (equal_policy (gone_from (λ q. q.id) old.id state.rows.policies) new)

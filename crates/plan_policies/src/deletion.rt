@@ -11,8 +11,7 @@ ghost use Rattle.call_parts.specs.State.{State};
 ghost use Rattle.call_parts.specs.Answers.{IsRefusalOf};
 ghost use Rattle.plan_policies.specs.PolicyCalls.{deletion_refusal, policy_deleted};
 
-use crate::refusals::unless_last;
-use api_policy::{Standing, owner_only, policy_in_use, policy_seen};
+use api_policy::{Standing, owner_only, policy_in_use, policy_seen, unless_last};
 use api_types::{Caller, IdText, Kind, PolicyRow, Refusal, Rows};
 use call_parts::{Draft, not_found};
 use std::alloc::Global;

@@ -9,7 +9,6 @@
 mod creation;
 mod deletion;
 mod equal;
-mod refusals;
 mod update;
 
 pub use creation::{PlannedPolicy, create_policy};

@@ -14,8 +14,9 @@ ghost use Rattle.plan_policies.specs.PolicyCalls.{changed_policy as changed_poli
 
 use crate::creation::PlannedPolicy;
 use crate::equal::{equal_other, unless_equal};
-use crate::refusals::unless_last;
-use api_policy::{Standing, admin_only, owner_only, policy_for_admin, policy_in_use, policy_seen};
+use api_policy::{
+    Standing, admin_only, owner_only, policy_for_admin, policy_in_use, policy_seen, unless_last,
+};
 use api_types::{Caller, Given, IdText, Kind, PolicyForm, PolicyRow, Refusal, Rows};
 use call_parts::{Draft, not_found};
 use net_addr::{Copies, OutOfMemory, Text};

@@ -1,6 +1,6 @@
 -- Where calls on ports lead whose parts are known.
 use Rattle.std.proofs.Common.{◌≡◌, ◌∙◌, ℕ, lit<, Bool, true, false, List, [], ◌∷◌, Option, Some, None, ap, arith, inl, inr, refl, sym}
-use Rattle.std.specs.Prelude.{◌⊎◌, if◌then◌else◌, not}
+use Rattle.std.specs.Prelude.{◌⊎◌, not}
 use Rattle.std.proofs.lemmas.Bool.Decides.{nat_tests}
 use Rattle.api_ipam.specs.FixedChoice.{first_addresses, first_known, named_subnets, next_addresses, next_known, old_renewed}
 use Rattle.api_ipam.specs.MacChoice.{mac_for}
@@ -15,13 +15,11 @@ use Rattle.api_types.specs.Lists.{is_empty}
 use Rattle.api_types.specs.Outcome.{Moved, Outcome, Refused}
 use Rattle.api_types.specs.Printed.{NewRow}
 use Rattle.api_types.specs.Refusing.{first_refusal, needing, not_found, unless, when}
-use Rattle.api_types.specs.Registration.{Drawing, draw_of, drawn_id}
+use Rattle.api_types.specs.Registration.{Drawing, drawn_id}
 use Rattle.api_types.specs.RowLists.{RowLists}
 use Rattle.api_types.specs.Table.{row_of}
 use Rattle.api_types.specs.declared.call.Caller.{Caller}
 use Rattle.api_types.specs.declared.call.IdText.{IdText}
-use Rattle.api_types.specs.declared.form.Given.TheVariants.{Absent, Is, Null}
-use Rattle.api_types.specs.declared.form.Given.{Given}
 use Rattle.api_types.specs.declared.form.PortForm.{PortForm}
 use Rattle.api_types.specs.declared.kind.Kind.TheVariants.{Group as GroupKind, Network as NetworkKind, Port as PortKind, Subnet as SubnetKind}
 use Rattle.api_types.specs.declared.kind.Row.TheVariants.{Port}
@@ -31,19 +29,21 @@ use Rattle.api_types.specs.declared.port.PortRow.{PortRow}
 use Rattle.api_types.specs.declared.refusal.Refusal.TheVariants.{CountersSpent, OutOfMemory, PoolsSpent}
 use Rattle.api_types.specs.declared.refusal.Refusal.{Refusal}
 use Rattle.api_types.specs.declared.subnet.SubnetRow.{SubnetRow}
-use Rattle.api_types.proofs.ListLemmas.{and_both, false_true, none_some}
+use Rattle.api_types.proofs.ListLemmas.{and_both}
 use Rattle.call_parts.specs.Answers.{IsOrMemory, IsRefusalIn, IsRefusalOf}
 use Rattle.call_parts.specs.BodyNames.{text_of, unless_all}
 use Rattle.call_parts.specs.Edits.{with_added}
-use Rattle.call_parts.specs.InForm.{are_owners, is_owner, is_port_body}
+use Rattle.call_parts.specs.InForm.{are_owners, is_port_body}
 use Rattle.call_parts.specs.State.{State, drawing_at, is_last}
 use Rattle.net_settings.specs.Settings.{SettingsParts}
 use Rattle.row_laws.proofs.DrawnKept.{drawn_new, draws}
 use Rattle.plan_ports.specs.Plans.{IsFirstSupply, IsNextSupply, first_fixed, first_refused, first_taken, holder_refusal, ids_drawn, next_bad, next_fixed, next_refused, next_taken, standing_refusal}
-use Rattle.plan_ports.specs.PortCalls.{addresses_after, addresses_at_first, bad_bare_after, bad_next_fixed, body_refusal, changed_port, changes_service, creation_refusal, is_for_admin, is_for_owner, is_group_for, items_of, mac_after, mac_at_first, new_port, port_added, port_changed, port_created, port_made, port_replaced, port_shown, port_updated, update_refusal, values_taken}
+use Rattle.plan_ports.specs.PortCalls.{addresses_after, addresses_at_first, bad_bare_after, bad_next_fixed, body_refusal, changed_port, changes_service, creation_refusal, is_group_for, items_of, mac_after, mac_at_first, new_port, port_added, port_changed, port_created, port_made, port_replaced, port_shown, port_updated, update_refusal, values_taken}
 use Rattle.plan_ports.specs.PortRules.{bad_fixed, is_subnet_seen}
 use Rattle.plan_ports.specs.declared.supply.Supply.{Supply}
 use Rattle.plan_ports.proofs.RefusalLemmas.{nine_parted, six_parted}
+use Rattle.call_parts.proofs.DrawnLemmas.{drawn_is}
+use Rattle.api_policy.specs.Reserved.{port_for_admin, port_for_owner}
 
 -- making a port
 
@@ -68,8 +68,8 @@ module _ (settings : SettingsParts) (state : State) (caller : Caller) (form : Po
     refusal_is : first_refused settings state.rows caller form n owner s ≡ creation_refusal settings state.rows caller form n owner
     refusal_is =
         (λ j. first_refusal (standing_refusal state.rows caller form n owner ∷ taken_is j ∷ over_quota settings state.rows owner PortKind ∷ []))
-        ∙ six_parted (unless_all GroupKind (is_group_for state.rows caller owner) (value_or [] form.security_groups)) (admin_only caller (is_for_admin caller form))
-        (network_owner state.rows caller (is_for_owner form) n.id) (network_access state.rows caller n.id) taken (over_quota settings state.rows owner PortKind)
+        ∙ six_parted (unless_all GroupKind (is_group_for state.rows caller owner) (value_or [] form.security_groups)) (admin_only caller (port_for_admin caller form))
+        (network_owner state.rows caller (port_for_owner form) n.id) (network_access state.rows caller n.id) taken (over_quota settings state.rows owner PortKind)
 
     fixed_is : first_fixed form s ≡ addresses_at_first state.rows form n.id
     fixed_is = λ j. first_addresses (λ x. not (is.holds x j)) (is.on_network j) (is.has j) form.fixed_ips
@@ -164,8 +164,8 @@ module _ (settings : SettingsParts) (state : State) (caller : Caller) (form : Po
     change_is : next_refused state.rows caller form p s ≡ update_refusal state.rows caller form p
     change_is =
         (λ j. first_refusal (first_refusal (bad_is j ∷ bad_bare_after form p ∷ unseen ∷ strange ∷ []) ∷ holder_refusal state.rows caller form p ∷ other_is j ∷ []))
-        ∙ nine_parted bad (bad_bare_after form p) unseen strange (admin_only caller (is_for_admin caller form)) (owner_only caller p.project)
-        (network_owner state.rows caller (is_for_owner form) p.network) (service_in_use state.rows caller (changes_service form) p) other
+        ∙ nine_parted bad (bad_bare_after form p) unseen strange (admin_only caller (port_for_admin caller form)) (owner_only caller p.project)
+        (network_owner state.rows caller (port_for_owner form) p.network) (service_in_use state.rows caller (changes_service form) p) other
 
     after_is : next_fixed form p s ≡ addresses_after state.rows form p
     after_is = λ j. next_addresses (λ x. not (is.holds x j)) (is.on_network j) p (is.has j) form.fixed_ips
@@ -208,17 +208,6 @@ module _ (settings : SettingsParts) (state : State) (caller : Caller) (name : Id
         → port_updated settings state caller name form ≡ port_changed settings state caller form n p
     updated_on n placed = ap on_port seen ∙ ap (on_network p) placed
 
--- who owns a new row has a name
-pub owner_named : (caller : Caller) (project tenant : Given (List ℕ)) → not (is_empty caller.project) ≡ true → are_owners project tenant ≡ true → not (is_empty (owner_of caller project tenant)) ≡ true
-owner_named caller project tenant has given =
-    let both = and_both (is_owner project) (is_owner tenant) given in
-    named (value_or caller.project tenant) project (named caller.project tenant has both.1) both.0
-  where
-    named : (old : List ℕ) (g : Given (List ℕ)) → not (is_empty old) ≡ true → is_owner g ≡ true → not (is_empty (value_or old g)) ≡ true
-    named old Absent was h = was
-    named old Null was h = false_true _ h
-    named old (Is name) was h = h
-
 pub owners_so : (form : PortForm) → is_port_body form ≡ true → are_owners form.project_id form.tenant_id ≡ true
 owners_so form body =
     let eight = (and_both _ _ body).0 in
@@ -234,9 +223,5 @@ owners_so form body =
 pub drawn_unused : (state : State) (owner : List ℕ) (d : Drawing) → IsConsistent state.rows → not (is_empty owner) ≡ true
     → drawing_at state owner 1 ≡ Some d → row_of (λ (p : PortRow). p.id) (drawn_id d 0) d.rows.ports ≡ None
 drawn_unused state owner d c named h =
-    let is = draws state.rows owner 1 d c named (lit< tt) (drew (is_last state) (draw_of state.rows owner 1) h) in
+    let is = draws state.rows owner 1 d c named (lit< tt) (drawn_is state owner 1 d h) in
     (drawn_new state.rows owner 1 d is 0 (lit< tt)).ports
-  where
-    drew : (last : Bool) (o : Option Drawing) → (if last then None else o) ≡ Some d → o ≡ Some d
-    drew true o e = none_some d _ e
-    drew false o e = e

@@ -1,3 +1,2 @@
 mod CallLemmas
-mod EditLemmas
 mod RefusalLemmas

@@ -20,14 +20,16 @@ use Rattle.api_types.specs.declared.port.Fixed.{Fixed}
 use Rattle.api_types.specs.declared.port.PortRow.{PortRow}
 use Rattle.api_types.specs.declared.refusal.Refusal.TheVariants.{CountersSpent, Invalid}
 use Rattle.api_types.specs.declared.refusal.Refusal.{Refusal}
+use Rattle.api_types.specs.declared.subnet.SubnetRow.{SubnetRow}
 use Rattle.call_parts.specs.BodyNames.{unless_all}
 use Rattle.call_parts.specs.State.{State, drawing_at}
 use Rattle.net_addr.specs.declared.address.Addr.{Addr}
 use Rattle.net_settings.specs.Settings.{SettingsParts}
-use Rattle.plan_ports.specs.PortCalls.{bad_bare_after, changes_service, is_for_admin, is_for_owner, is_group_for, items_of, mac_after, new_port, port_added, values_taken}
+use Rattle.plan_ports.specs.PortCalls.{bad_bare_after, changes_service, is_group_for, items_of, mac_after, new_port, port_added, values_taken}
 use Rattle.plan_ports.specs.PortRules.{bad_fixed, is_subnet_seen}
 use Rattle.plan_ports.specs.declared.supply.Supply.{Supply}
 use Rattle.std.specs.Prelude.{Bool, List, Option, [], codes, not, ℕ, ◌&&◌, ◌∷◌, ◌≡◌}
+use Rattle.api_policy.specs.Reserved.{port_for_admin, port_for_owner}
 
 -- groups and pairs of a port without port security, by whether there are none
 abbrev pub bare_refusal : Bool → Bool → Bool → Option Refusal
@@ -42,8 +44,8 @@ bare_refusal secured no_groups no_pairs = first_refusal (
 abbrev pub standing_refusal : RowLists → Caller → PortForm → NetworkRow → List ℕ → Option Refusal
 standing_refusal rows caller form n owner = first_refusal (
     unless_all GroupKind (is_group_for rows caller owner) (value_or [] form.security_groups)
-    ∷ admin_only caller (is_for_admin caller form)
-    ∷ network_owner rows caller (is_for_owner form) n.id
+    ∷ admin_only caller (port_for_admin caller form)
+    ∷ network_owner rows caller (port_for_owner form) n.id
     ∷ network_access rows caller n.id
     ∷ [])
 
@@ -83,9 +85,9 @@ change_refusal rows caller form p s = first_refusal (
 -- what the rules of policy forbid, and a service's port
 abbrev pub holder_refusal : RowLists → Caller → PortForm → PortRow → Option Refusal
 holder_refusal rows caller form p = first_refusal (
-    admin_only caller (is_for_admin caller form)
+    admin_only caller (port_for_admin caller form)
     ∷ owner_only caller p.project
-    ∷ network_owner rows caller (is_for_owner form) p.network
+    ∷ network_owner rows caller (port_for_owner form) p.network
     ∷ service_in_use rows caller (changes_service form) p
     ∷ [])
 
@@ -103,18 +105,17 @@ next_refused rows caller form p s = first_refusal (
 abbrev pub next_fixed : PortForm → PortRow → Supply → Option (List Fixed)
 next_fixed form p s = next_addresses (λ x. not (is_in s.held x)) s.subnets p s.mac form.fixed_ips
 
--- by what addresses are chosen
-
--- of a new port with this MAC address
-pub record IsFirstSupply (rows : RowLists) (network : Ident) (mac : ℕ) (s : Supply) : Type 0 where
-  pub on_network : s.subnets ≡ subnets_on rows.subnets network
-  pub holds : (x : Addr) → is_in s.held x ≡ is_address_held rows.ports network x
+-- by what addresses are chosen: these subnets, in which addresses of MAC addresses fit, the addresses that others hold, and the MAC address
+pub record IsSupply (subnets : List SubnetRow) (is_held : Addr → Bool) (mac : ℕ) (s : Supply) : Type 0 where
+  pub on_network : s.subnets ≡ subnets
+  pub holds : (x : Addr) → is_in s.held x ≡ is_held x
   pub has : s.mac ≡ mac
   pub fit : Pass fits_eui s.subnets
 
+-- of a new port with this MAC address
+abbrev pub IsFirstSupply : RowLists → Ident → ℕ → Supply → Type 0
+IsFirstSupply rows network mac s = IsSupply (subnets_on rows.subnets network) (is_address_held rows.ports network) mac s
+
 -- of a port that is changed
-pub record IsNextSupply (rows : RowLists) (form : PortForm) (p : PortRow) (s : Supply) : Type 0 where
-  pub on_network : s.subnets ≡ subnets_on rows.subnets p.network
-  pub holds : (x : Addr) → is_in s.held x ≡ is_held_by_other rows.ports p x
-  pub has : s.mac ≡ mac_after form p
-  pub fit : Pass fits_eui s.subnets
+abbrev pub IsNextSupply : RowLists → PortForm → PortRow → Supply → Type 0
+IsNextSupply rows form p s = IsSupply (subnets_on rows.subnets p.network) (is_held_by_other rows.ports p) (mac_after form p) s

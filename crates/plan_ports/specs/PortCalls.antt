@@ -2,7 +2,7 @@
 use Rattle.api_policy.specs.Marked.{is_marked}
 use Rattle.call_parts.specs.BodyNames.{text_of, unless_all}
 use Rattle.call_parts.specs.Edits.{Add, Drop, Edit, Put, accepted}
-use Rattle.api_ipam.specs.FixedChoice.{first_addresses, first_known, named_addresses, named_subnets, next_addresses, next_known, old_renewed}
+use Rattle.api_ipam.specs.FixedChoice.{first_addresses, first_known, named_subnets, next_addresses, next_known, old_renewed}
 use Rattle.api_types.specs.HeldAddresses.{address_taken, is_address_held, is_held_by_other, is_mac_held, is_mac_of_other, subnets_on}
 use Rattle.call_parts.specs.Leaving.{disassociations}
 use Rattle.api_ipam.specs.MacChoice.{expected_mac, mac_for}
@@ -14,12 +14,12 @@ use Rattle.api_policy.specs.Uses.{service_in_use}
 use Rattle.api_policy.specs.Ports.{port_members}
 use Rattle.api_policy.specs.Shown.{shown_as}
 use Rattle.api_ml2.specs.Binding.{bound}
-use Rattle.api_types.specs.Given.{are_unlike, is_for_other, is_given, owner_of, value_of, value_or}
+use Rattle.api_types.specs.Given.{are_unlike, is_given, owner_of, value_of, value_or}
 use Rattle.api_types.specs.Refusing.{first_refusal, needing, not_found, unless, when}
 use Rattle.call_parts.specs.State.{State, drawing_at, is_last}
 use Rattle.api_types.specs.Consistent.Groups.{is_default_of}
 use Rattle.api_types.specs.Ident.{Ident}
-use Rattle.api_types.specs.Lists.{is_empty, is_some_so}
+use Rattle.api_types.specs.Lists.{is_some_so}
 use Rattle.api_types.specs.Outcome.{Outcome}
 use Rattle.api_types.specs.Printed.{NewRow, NoRow, OneRow, ShownRow}
 use Rattle.api_types.specs.Registration.{drawn_id}
@@ -48,6 +48,7 @@ use Rattle.api_types.specs.declared.subnet.SubnetRow.{SubnetRow}
 use Rattle.net_addr.specs.declared.address.Addr.{Addr}
 use Rattle.net_settings.specs.Settings.{SettingsParts}
 use Rattle.std.specs.Prelude.{Bool, List, None, Option, Some, [], bytes_eq, codes, false, find, map, not, option_and_then, true, unwrap_or, ℕ, ◌++◌, ◌||◌, ◌∷◌}
+use Rattle.api_policy.specs.Reserved.{port_for_admin, port_for_owner}
 
 abbrev pub port_shown : RowLists → Caller → PortRow → List (List ℕ) → ShownRow
 port_shown rows caller p fields = shown_as PortKind caller.admin fields (port_members rows p)
@@ -60,13 +61,6 @@ items_of form = value_or [] form.fixed_ips
 -- the group is there, is seen, and is of the port's project
 abbrev pub is_group_for : RowLists → Caller → List ℕ → Ident → Bool
 is_group_for rows caller project i = is_some_so (λ (g : GroupRow). bytes_eq g.project project) (group_seen rows caller (Some i))
-
-abbrev pub is_for_admin : Caller → PortForm → Bool
-is_for_admin caller form = is_given form.binding_host_id || is_for_other caller form.project_id form.tenant_id
-
-abbrev pub is_for_owner : PortForm → Bool
-is_for_owner form =
-    is_given form.mac_address || is_given form.allowed_address_pairs || is_given form.port_security_enabled || not (is_empty (named_addresses (items_of form)))
 
 -- a named MAC address is held, or before it an address that is known, by which are held
 abbrev pub mac_taken : (ℕ → Bool) → Ident → Option ℕ → Option Refusal
@@ -135,8 +129,8 @@ body_refusal rows caller form = first_refusal (
 abbrev pub creation_refusal : SettingsParts → RowLists → Caller → PortForm → NetworkRow → List ℕ → Option Refusal
 creation_refusal settings rows caller form n owner = first_refusal (
     unless_all GroupKind (is_group_for rows caller owner) (value_or [] form.security_groups)
-    ∷ admin_only caller (is_for_admin caller form)
-    ∷ network_owner rows caller (is_for_owner form) n.id
+    ∷ admin_only caller (port_for_admin caller form)
+    ∷ network_owner rows caller (port_for_owner form) n.id
     ∷ network_access rows caller n.id
     ∷ values_taken (is_address_held rows.ports n.id) (is_mac_held rows.ports n.id) n.id (first_known (subnets_on rows.subnets n.id) (mac_at_first rows.ports form n.id) form.fixed_ips) form
     ∷ over_quota settings rows owner PortKind
@@ -220,9 +214,9 @@ update_refusal rows caller form p = first_refusal (
     ∷ bad_bare_after form p
     ∷ unless_all SubnetKind (is_subnet_seen rows caller) (named_subnets (items_of form))
     ∷ unless_all GroupKind (is_group_for rows caller p.project) (value_or [] form.security_groups)
-    ∷ admin_only caller (is_for_admin caller form)
+    ∷ admin_only caller (port_for_admin caller form)
     ∷ owner_only caller p.project
-    ∷ network_owner rows caller (is_for_owner form) p.network
+    ∷ network_owner rows caller (port_for_owner form) p.network
     ∷ service_in_use rows caller (changes_service form) p
     ∷ values_taken (is_held_by_other rows.ports p) (is_mac_of_other rows.ports p) p.network (next_known (subnets_on rows.subnets p.network) p (mac_after form p) form.fixed_ips) form
     ∷ [])

@@ -8,10 +8,9 @@ ghost use Rattle.call_parts.specs.Edits.{made};
 ghost use Rattle.call_parts.specs.State.{State};
 ghost use Rattle.plan_ports.specs.PortCalls.{deletion_refusal, port_deleted, port_gone};
 
-use crate::leaving::disassociate;
-use api_policy::{port_delete, port_seen, service_in_use};
+use api_policy::{port_delete, port_seen, service_in_use, unless_last};
 use api_types::{Caller, Id, IdText, Kind, PortRow, Refusal, Rows};
-use call_parts::{Draft, not_found};
+use call_parts::{Draft, disassociate, not_found};
 use net_addr::OutOfMemory;
 use std::alloc::Global;
 
@@ -21,10 +20,7 @@ fn check_deletion(rows: &Rows, version: u64, caller: &Caller, port: &PortRow) ->
 {
     port_delete(rows, caller, port)?;
     service_in_use(rows, caller, true, port)?;
-    if version == u64::MAX {
-        return Err(Refusal::CountersSpent);
-    }
-    Ok(())
+    unless_last(version)
 }
 
 // The rows without the port, where its floating addresses lose their target.

@@ -11,7 +11,6 @@
 mod checks;
 mod creation;
 mod deletion;
-mod leaving;
 mod row;
 mod rules;
 mod supply;

@@ -52,7 +52,8 @@ pub(crate) fn mac_at_first(ports: &[Shared<PortRow>], network: Id, form: &PortFo
     expected_mac(&mac_for(ports, network, &form.mac_address))
 }
 
-/// Of a new port. Its cost and memory grow with the subnets, the ports and their addresses.
+/// By what the addresses of a new port with this MAC address are chosen. Its cost and memory grow
+/// with the subnets, the ports and their addresses.
 pub(crate) fn first_supply(
     alloc: Global,
     rows: &Rows,
@@ -69,7 +70,8 @@ pub(crate) fn first_supply(
     })
 }
 
-/// Of a port that is changed. Its cost and memory grow as those of a new port.
+/// By what the addresses of a port that is changed are chosen. Its cost and memory grow as those of
+/// a new port.
 pub(crate) fn next_supply(
     alloc: Global,
     rows: &Rows,

@@ -15,13 +15,12 @@ ghost use Rattle.plan_ports.specs.PortCalls.{port_changed, port_edits, port_repl
 
 use crate::checks::check_update;
 use crate::creation::PlannedPort;
-use crate::leaving::disassociate;
 use crate::row::changed_port;
 use crate::supply::{Supply, next_supply};
 use api_ipam::next_addresses;
 use api_policy::port_seen;
 use api_types::{Caller, FixedList, IdText, Kind, NetworkRow, PortForm, PortRow, Refusal, Rows};
-use call_parts::{Draft, not_found};
+use call_parts::{Draft, disassociate, not_found};
 use net_addr::{Copies, OutOfMemory};
 use net_settings::Settings;
 use std::alloc::Global;

@@ -21,8 +21,9 @@ use Rattle.call_parts.specs.Edits.{Add, made, with_added}
 use Rattle.call_parts.specs.State.{State, drawing_at}
 use Rattle.net_settings.specs.Settings.{SettingsParts}
 use Rattle.plan_routers.specs.Plans.{outer_refusal}
-use Rattle.plan_routers.specs.RouterCalls.{creation_refusal, gateway_added, gateway_edits, gateway_network, gateway_port, new_router, outer_addresses, router_added, router_made, router_shown, router_with, snat_asked, with_gateway}
+use Rattle.plan_routers.specs.RouterCalls.{creation_refusal, gateway_added, gateway_edits, gateway_network, gateway_port, new_router, outer_addresses, router_added, router_made, router_shown, router_with, with_gateway}
 use Rattle.plan_routers.proofs.SupplyLemmas.{all_there, undrawn, unsupplied}
+use Rattle.api_policy.specs.Reserved.{snat_asked}
 
 module _ (settings : SettingsParts) (state : State) (caller : Caller) (form : RouterForm) (owner : List ℕ) where
   -- without a gateway

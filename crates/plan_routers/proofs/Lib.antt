@@ -1,5 +1,5 @@
 pub mod CreationLemmas
-pub mod DrawnLemmas
+pub mod OwnerLemmas
 pub mod EditLemmas
 pub mod InterfaceLemmas
 pub mod RefusalLemmas

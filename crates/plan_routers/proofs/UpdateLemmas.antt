@@ -21,9 +21,10 @@ use Rattle.call_parts.specs.Edits.{Edit, Put, made}
 use Rattle.call_parts.specs.State.{State, drawing_at, is_last}
 use Rattle.net_settings.specs.Settings.{SettingsParts}
 use Rattle.plan_routers.specs.Plans.{outer_refusal}
-use Rattle.plan_routers.specs.RouterCalls.{changed_router, gateway_edits, gateway_gone, gateway_network, gateway_port, gateway_replaced, lost_gateway, new_gateway, old_snat, outer_addresses, router_changed, router_moved, router_replaced, router_shown, snat_asked, update_refusal, with_gateway}
+use Rattle.plan_routers.specs.RouterCalls.{changed_router, gateway_edits, gateway_gone, gateway_network, gateway_port, gateway_replaced, lost_gateway, new_gateway, old_snat, outer_addresses, router_changed, router_moved, router_replaced, router_shown, update_refusal, with_gateway}
 use Rattle.plan_routers.proofs.EditLemmas.{append_none}
 use Rattle.plan_routers.proofs.SupplyLemmas.{all_there, undrawn, unsupplied}
+use Rattle.api_policy.specs.Reserved.{snat_asked}
 
 module _ (settings : SettingsParts) (state : State) (caller : Caller) (form : RouterForm) (old new : RouterRow) where
   abbrev gone : List Edit

@@ -3,7 +3,7 @@ use Rattle.api_ipam.specs.MacChoice.{free_mac}
 use Rattle.api_policy.specs.Permits.{admin_only, owner_only}
 use Rattle.api_policy.specs.Quotas.{over_quota}
 use Rattle.api_policy.specs.Uses.{floating_in_use, gateway_use, route_in_use}
-use Rattle.api_types.specs.Given.{are_unlike, is_for_other}
+use Rattle.api_types.specs.Given.{are_unlike}
 use Rattle.api_types.specs.Refusing.{first_refusal, when}
 use Rattle.api_types.specs.RouterWays.{interfaces_of}
 use Rattle.api_types.specs.RowLists.{RowLists}
@@ -18,9 +18,10 @@ use Rattle.api_types.specs.declared.router.RouterRow.{RouterRow}
 use Rattle.call_parts.specs.BodyNames.{unless_found}
 use Rattle.call_parts.specs.State.{State, is_last}
 use Rattle.net_settings.specs.Settings.{SettingsParts}
-use Rattle.plan_routers.specs.RouterCalls.{bad_first_gateway, gateway_name, gateway_network, lost_gateway, new_gateway, outer_addresses, outer_taken, snat_asked}
+use Rattle.plan_routers.specs.RouterCalls.{bad_first_gateway, gateway_name, gateway_network, lost_gateway, new_gateway, outer_addresses, outer_taken}
 use Rattle.plan_routers.specs.RouterRules.{bad_gateway, bad_routes}
-use Rattle.std.specs.Prelude.{List, Option, [], codes, is_none, is_some, option_and_then, ℕ, ◌||◌, ◌∷◌}
+use Rattle.std.specs.Prelude.{List, Option, [], codes, is_none, is_some, option_and_then, ℕ, ◌∷◌}
+use Rattle.api_policy.specs.Reserved.{router_for_admin, snat_asked}
 
 -- of a new router: what its body asks for
 abbrev pub first_body_refusal : RowLists → Caller → RouterForm → List ℕ → Option Refusal
@@ -33,7 +34,7 @@ first_body_refusal rows caller form owner = first_refusal (
 -- what the policy, the addresses that are held and the quota forbid of it
 abbrev pub first_standing_refusal : SettingsParts → RowLists → Caller → RouterForm → List ℕ → Option Refusal
 first_standing_refusal settings rows caller form owner = first_refusal (
-    admin_only caller (is_some (snat_asked form) || is_for_other caller form.project_id form.tenant_id)
+    admin_only caller (router_for_admin caller form)
     ∷ option_and_then (outer_taken rows) (gateway_network rows caller form)
     ∷ over_quota settings rows owner RouterKind
     ∷ [])

@@ -39,7 +39,8 @@ use Rattle.api_types.specs.declared.refusal.Refusal.{Refusal}
 use Rattle.api_types.specs.declared.router.Gateway.{Gateway}
 use Rattle.api_types.specs.declared.router.RouterRow.{RouterRow}
 use Rattle.net_settings.specs.Settings.{SettingsParts}
-use Rattle.std.specs.Prelude.{Bool, List, None, Option, Some, [], codes, if◌then◌else◌, is_some, not, option_and_then, option_map, true, unwrap_or, ℕ, ◌&&◌, ◌++◌, ◌||◌, ◌∷◌}
+use Rattle.std.specs.Prelude.{Bool, List, None, Option, Some, [], codes, if◌then◌else◌, is_some, not, option_and_then, option_map, true, unwrap_or, ℕ, ◌&&◌, ◌++◌, ◌∷◌}
+use Rattle.api_policy.specs.Reserved.{router_for_admin, snat_asked}
 
 abbrev pub router_shown : RowLists → Caller → RouterRow → List (List ℕ) → ShownRow
 router_shown rows caller r fields = shown_as RouterKind caller.admin fields (router_members rows r)
@@ -51,9 +52,6 @@ gateway_name form = option_map (λ (a : GatewayAsked). a.network) (value_of form
 
 abbrev pub gateway_network : RowLists → Caller → RouterForm → Option NetworkRow
 gateway_network rows caller form = network_seen rows caller (gateway_name form)
-
-abbrev pub snat_asked : RouterForm → Option Bool
-snat_asked form = option_and_then (λ (a : GatewayAsked). a.snat) (value_of form.external_gateway_info)
 
 -- the addresses of the port on the external network, and the first of them that its MAC address gives and another port holds
 abbrev pub outer_mac : RowLists → NetworkRow → ℕ
@@ -100,7 +98,7 @@ creation_refusal settings rows caller form owner = first_refusal (
     when (are_unlike form.project_id form.tenant_id) (Invalid (codes "tenant_id"))
     ∷ bad_first_gateway rows caller form owner
     ∷ unless_found NetworkKind (gateway_name form) (gateway_network rows caller form)
-    ∷ admin_only caller (is_some (snat_asked form) || is_for_other caller form.project_id form.tenant_id)
+    ∷ admin_only caller (router_for_admin caller form)
     ∷ option_and_then (outer_taken rows) (gateway_network rows caller form)
     ∷ over_quota settings rows owner RouterKind
     ∷ [])

@@ -21,12 +21,13 @@ ghost use Rattle.call_parts.specs.State.{State};
 ghost use Rattle.plan_routers.specs.InterfaceCalls.{added_by_port, added_by_subnet, first_subnet as first_subnet_of, interface_added, interface_by, interface_port as interface_port_of, interface_shown as interface_shown_of, port_refusal, subnet_refusal, taken_over as taken_over_of};
 
 use crate::drawing::draw_new;
-use crate::refusals::unless_last;
 use crate::rules::{check_interface_port, check_interface_subnet};
 use crate::service::{interface_port, taken_over};
 use crate::shown::{PlannedInterface, interface_shown};
 use api_ipam::choose_mac;
-use api_policy::{network_owner, owner_only, port_in_use, port_seen, router_seen, subnet_seen};
+use api_policy::{
+    network_owner, owner_only, port_in_use, port_seen, router_seen, subnet_seen, unless_last,
+};
 use api_types::{
     Caller, Fixed, Id, IdText, InterfaceBy, Kind, NetworkRow, PortRow, Refusal, RouterRow, Rows,
     Shared, Shown, SubnetRow, Value, holds,

@@ -11,10 +11,10 @@ ghost use Rattle.api_types.specs.declared.port.PortRow.{PortRow as ThePort};
 ghost use Rattle.plan_routers.specs.RouterChecks.{IsTold, bad_gateway as bad_gateway_of, bad_gateway_on as bad_gateway_on_of, bad_interface as bad_interface_of, bad_port as bad_port_of, bad_subnet as bad_subnet_of, device_user as device_user_of, gateway_told, gateway_user as gateway_user_of, interface_named as interface_named_of, interface_told, is_bad_gateway as is_bad_gateway_of, lost_use as lost_use_of, removal_told, removed_port as removed_port_of, route_user as route_user_of, routes_told, through_user as through_user_of, told_if};
 ghost use Rattle.plan_routers.specs.declared.checks.RouterRefusal.TheVariants.{BadGateway as GatewayBad, BadRoutes as RoutesBad, PortInUse as UsedPort};
 
-use crate::uses::{floating_by, floating_through, is_empty, loses_route, named_by_device};
 use crate::ways::{
     has_bad_hop, interface_in, interface_with, is_bad_leg, overlaps_interface, overlaps_leg,
 };
+use api_policy::{floating_by, floating_through, is_empty, loses_route, named_by_device};
 use api_types::{
     Gateway, Hop, Id, InterfaceBy, Kind, NetworkRow, PortRow, RouterRow, Routes, Rows, SubnetRow,
     is_external_to, is_service,

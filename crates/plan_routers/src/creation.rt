@@ -15,8 +15,9 @@ ghost use Rattle.call_parts.specs.Edits.{Add, made, with_added};
 ghost use Rattle.call_parts.specs.InForm.{are_owners};
 ghost use Rattle.call_parts.specs.State.{State};
 ghost use Rattle.plan_routers.specs.Plans.{first_body_refusal, first_standing_refusal};
-ghost use Rattle.plan_routers.specs.RouterCalls.{creation_refusal, gateway_edits, gateway_network as gateway_network_of, gateway_port as gateway_port_of, new_router as new_router_of, outer_taken, router_created, router_made, router_shown, router_with, snat_asked as snat_asked_of, with_gateway};
+ghost use Rattle.plan_routers.specs.RouterCalls.{creation_refusal, gateway_edits, gateway_network as gateway_network_of, gateway_port as gateway_port_of, new_router as new_router_of, outer_taken, router_created, router_made, router_shown, router_with, with_gateway};
 ghost use Rattle.std.specs.Prelude.{option_and_then};
+ghost use Rattle.api_policy.specs.Reserved.{snat_asked as snat_asked_of};
 
 use crate::drawing::draw_new;
 use crate::gateways::{gateway_network, snat_asked};

@@ -10,8 +10,7 @@ ghost use Rattle.call_parts.specs.Edits.{Drop as DropRow, made};
 ghost use Rattle.call_parts.specs.State.{State};
 ghost use Rattle.plan_routers.specs.RouterCalls.{deletion_refusal, gateway_gone, router_deleted};
 
-use crate::refusals::unless_last;
-use api_policy::{owner_only, router_in_use, router_seen};
+use api_policy::{owner_only, router_in_use, router_seen, unless_last};
 use api_types::{Caller, Gateway, IdText, Kind, PortRow, Refusal, RouterRow, Rows};
 use call_parts::{Draft, not_found};
 use net_addr::OutOfMemory;

@@ -1,9 +1,10 @@
 //! The gateway that a body asks for, and the one that a router has.
 
 ghost use Rattle.std.specs.Prelude.{◌≡◌, option_copied};
-ghost use Rattle.plan_routers.specs.RouterCalls.{gateway_name as gateway_name_of, gateway_network as gateway_network_of, gateway_on as gateway_on_of, kept_gateway as kept_gateway_of, lost_gateway as lost_gateway_of, new_gateway as new_gateway_of, old_snat as old_snat_of, snat_asked as snat_asked_of};
+ghost use Rattle.plan_routers.specs.RouterCalls.{gateway_name as gateway_name_of, gateway_network as gateway_network_of, gateway_on as gateway_on_of, kept_gateway as kept_gateway_of, lost_gateway as lost_gateway_of, new_gateway as new_gateway_of, old_snat as old_snat_of};
 ghost use Rattle.std.specs.Prelude.{option_and_then};
 ghost use Rattle.api_types.specs.declared.router.Gateway.{Gateway as TheGateway};
+ghost use Rattle.api_policy.specs.Reserved.{snat_asked as snat_asked_of};
 
 use api_policy::network_seen;
 use api_types::{Caller, Gateway, GatewayAsked, Given, Id, NetworkRow, RouterForm, Rows};

@@ -15,16 +15,13 @@ mod creation;
 mod deletion;
 mod drawing;
 mod gateways;
-mod leaving;
 mod outer;
-mod refusals;
 mod removal;
 mod rows;
 mod rules;
 mod service;
 mod shown;
 mod update;
-mod uses;
 mod ways;
 
 pub use adding::add_interface;

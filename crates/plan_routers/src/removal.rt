@@ -13,15 +13,14 @@ ghost use Rattle.plan_routers.specs.InterfaceCalls.{first_subnet as first_subnet
 ghost use Rattle.plan_routers.specs.Plans.{use_refusal};
 
 use crate::adding::port_shown;
-use crate::leaving::disassociate;
-use crate::refusals::unless_last;
 use crate::shown::PlannedInterface;
 use crate::ways::{interface_in, interface_with};
 use api_policy::{
     floating_in_use, network_owner, owner_only, port_seen, route_in_use, router_seen, subnet_seen,
+    unless_last,
 };
 use api_types::{Caller, Id, IdText, InterfaceBy, Kind, PortRow, Refusal, RouterRow, Rows};
-use call_parts::{Draft, none_with_id, not_found};
+use call_parts::{Draft, disassociate, none_with_id, not_found};
 use net_addr::{OutOfMemory, Text};
 use std::alloc::Global;
 
@@ -105,7 +104,7 @@ fn without_port(alloc: Global, rows: &Rows, port: &PortRow) -> Result<Draft, Out
         (λ d. d.rows ≡ made rows.now (interface_gone rows.now.floatings port.now)) }
 {
     let draft = Draft::begin(alloc, rows)?;
-    let draft = disassociate(alloc, draft, port.id)?;
+    let draft = disassociate(alloc, draft, port.id, &[])?;
     draft.drop_row::<PortRow>(alloc, port.id)
 }
 

@@ -10,6 +10,7 @@ ghost use Rattle.plan_routers.specs.RouterCalls.{gateway_port as gateway_port_of
 use api_ml2::bind;
 use api_policy::is_marked;
 use api_types::{Caller, Fixed, FixedList, Id, NetworkRow, PortRow, RouterRow, Rows};
+use call_parts::one_fixed;
 use net_addr::{Copies, Mac, OutOfMemory, Seq, Text};
 use net_settings::Settings;
 use std::alloc::Global;
@@ -89,15 +90,6 @@ pub(crate) fn gateway_port(
     )
 }
 
-fn one_fixed(alloc: Global, fixed: Fixed) -> Result<FixedList, OutOfMemory>
-    ensures { IfOk result (λ list. list ≡ fixed ∷ []) }
-{
-    let Fixed { subnet, address } = fixed;
-    let mut list = Seq::new(alloc);
-    list.push(Fixed { subnet, address })?;
-    Ok(list)
-}
-
 /// A new interface of the router, with this address. Its cost grows with the hosts and the
 /// policies.
 pub(crate) fn interface_port(
@@ -116,7 +108,7 @@ pub(crate) fn interface_port(
         ≡ interface_port_of settings.now rows.now caller.now router.now network.now id mac
         fixed) }
 {
-    let fixed = one_fixed(alloc, fixed)?;
+    let fixed = one_fixed(alloc, &fixed)?;
     let mut port = router_port(
         alloc,
         settings,

@@ -1,5 +1,5 @@
 -- Where calls on subnets lead whose parts are known.
-use Rattle.std.proofs.Common.{◌≡◌, ◌∙◌, ℕ, ◌+◌, ◌<◌, ◌≤◌, Bool, true, false, not, List, [], ◌∷◌, Option, Some, None, ap, arith, cond, find, suc, inl, inr, refl, subst, sym}
+use Rattle.std.proofs.Common.{◌≡◌, ◌∙◌, ℕ, ◌+◌, ◌<◌, ◌≤◌, Bool, true, false, not, List, [], ◌∷◌, Option, Some, None, ap, arith, find, inl, inr, refl, sym}
 use Rattle.std.specs.Prelude.{◌⊎◌, ◌&&◌, if◌then◌else◌, is_none, option_and_then}
 use Rattle.api_ipam.specs.MacChoice.{mac_if}
 use Rattle.api_policy.specs.Seen.{network_seen, subnet_seen}
@@ -12,11 +12,11 @@ use Rattle.api_types.specs.Consistent.Named.{is_registered}
 use Rattle.api_types.specs.Given.{value_of}
 use Rattle.api_types.specs.HeldAddresses.{fixed_at}
 use Rattle.api_types.specs.Ident.{Ident}
-use Rattle.api_types.specs.Lists.{Each, is_empty}
+use Rattle.api_types.specs.Lists.{is_empty}
 use Rattle.api_types.specs.Outcome.{Moved, Outcome, Refused}
 use Rattle.api_types.specs.Printed.{NewRow, OneRow}
 use Rattle.api_types.specs.Refusing.{first_refusal, needing, not_found, unless, when}
-use Rattle.api_types.specs.Registration.{Drawing, draw_of, drawn_id}
+use Rattle.api_types.specs.Registration.{Drawing, drawn_id}
 use Rattle.api_types.specs.RowLists.{RowLists}
 use Rattle.api_types.specs.Table.{ident_eq, row_of}
 use Rattle.api_types.specs.declared.call.Caller.{Caller}
@@ -28,11 +28,11 @@ use Rattle.api_types.specs.declared.network.NetworkRow.{NetworkRow}
 use Rattle.api_types.specs.declared.refusal.Refusal.TheVariants.{CountersSpent, OutOfMemory as MemoryRefusal, PoolsSpent}
 use Rattle.api_types.specs.declared.refusal.Refusal.{Refusal}
 use Rattle.api_types.specs.declared.subnet.SubnetRow.{SubnetRow}
-use Rattle.api_types.proofs.ListLemmas.{each-filter, none_some, some_equal}
+use Rattle.api_types.proofs.ListLemmas.{each-filter, none_some}
 use Rattle.call_parts.specs.Answers.{IsOrMemory, IsRefusalIn, IsRefusalOf}
 use Rattle.call_parts.specs.BodyNames.{no_id, text_of}
 use Rattle.call_parts.specs.Edits.{Add, accepted, made}
-use Rattle.call_parts.specs.State.{State, drawing_at, is_last}
+use Rattle.call_parts.specs.State.{State, drawing_at}
 use Rattle.net_addr.specs.declared.address.Addr.{Addr}
 use Rattle.net_settings.specs.Settings.{SettingsParts}
 use Rattle.row_laws.proofs.DrawnKept.{drawn_new, draws}
@@ -42,6 +42,8 @@ use Rattle.plan_subnets.specs.DhcpUpkeep.{begin_serving, dhcp_address, makes_dhc
 use Rattle.plan_subnets.specs.Plans.{body_refusal, lease_refusal}
 use Rattle.plan_subnets.specs.SubnetCalls.{changed_subnet, creation_refusal, dhcp_asked, gateway_asked, new_subnet, pools_asked, prefix_asked, subnet_added, subnet_changed, subnet_created, subnet_edits, subnet_made, subnet_shown, subnet_updated, update_refusal}
 use Rattle.plan_subnets.specs.SubnetRules.{bad_cidr, bad_parts, bad_subnet}
+use Rattle.call_parts.proofs.DrawnLemmas.{drawn_is}
+use Rattle.call_parts.proofs.OwnerLemmas.{found_holds}
 
 -- three refusals in order, and what comes behind them
 three_refused : (a b c : Option Refusal) (rest : Outcome) (e : Refusal) → first_refusal (a ∷ b ∷ c ∷ []) ≡ Some e → unless a (unless b (unless c rest)) ≡ Refused e
@@ -186,28 +188,12 @@ module _ (settings : SettingsParts) (state : State) (caller : Caller) (form : Su
       update_moved d s rows is_d is leads =
           ap on_update passed ∙ (all_there n.id address_then mac_then drawing_then rest_then x m d is_x is_m is_d ∙ (λ j. Moved (sym leads j) (OneRow (subnet_shown (sym leads j) caller (sym is j) []))))
 
--- ids that are drawn
-pub drawn_is : (state : State) (project : List ℕ) (many : ℕ) (d : Drawing) → drawing_at state project many ≡ Some d → draw_of state.rows project many ≡ Some d
-drawn_is state project many d h = by (is_last state) h
-  where
-    by : (b : Bool) → (if b then None else draw_of state.rows project many) ≡ Some d → draw_of state.rows project many ≡ Some d
-    by true h = cc
-    by false h = h
-
 module _ (state : State) (project : List ℕ) (many : ℕ) (few : many ≤ 3) (d : Drawing) (c : IsConsistent state.rows) (named : not (is_empty project) ≡ true) (drew : drawing_at state project many ≡ Some d) where
   pub drew_kept : IsDrawing state.rows project many d
   drew_kept = draws state.rows project many d c named (omega arith) (drawn_is state project many d drew)
 
   pub drew_new : AreNew many d
   drew_new = drawn_new state.rows project many d drew_kept
-
-found_holds : {R : Type 0} (P : R → Type 0) (test : R → Bool) (xs : List R) (x : R) → Each P xs → find test xs ≡ Some x → P x
-found_holds P test [] x all h = none_some x _ h
-found_holds {R} P test (a ∷ xs) x all h = by (test a) h (found_holds P test xs x (λ k r at. all (suc k) r at))
-  where
-    by : (b : Bool) → cond b (Some a) (find test xs) ≡ Some x → (find test xs ≡ Some x → P x) → P x
-    by true e rest = subst P (some_equal a x e) (all 0 a refl)
-    by false e rest = rest e
 
 -- the project of a network that is there has a name
 pub project_named : (rows : RowLists) (n : NetworkRow) → IsConsistent rows → is_registered rows.projects n.project ≡ true → not (is_empty n.project) ≡ true

@@ -1,5 +1,5 @@
 -- Edits of calls on subnets, one after the other.
-use Rattle.std.proofs.Common.{◌≡◌, ◌∙◌, ℕ, Bool, true, false, not, List, [], ◌∷◌, ◌++◌, refl, sym}
+use Rattle.std.proofs.Common.{◌≡◌, ◌∙◌, ℕ, Bool, true, false, not, [], ◌++◌, refl, sym}
 use Rattle.std.specs.Prelude.{◌&&◌}
 use Rattle.api_types.specs.Ident.{Ident}
 use Rattle.api_types.specs.RowLists.{RowLists}
@@ -7,14 +7,11 @@ use Rattle.api_types.specs.declared.kind.Row.TheVariants.{Subnet}
 use Rattle.api_types.specs.declared.network.NetworkRow.{NetworkRow}
 use Rattle.api_types.specs.declared.port.Fixed.{Fixed}
 use Rattle.api_types.specs.declared.subnet.SubnetRow.{SubnetRow}
-use Rattle.call_parts.specs.Edits.{Edit, edited, made, with_put}
+use Rattle.call_parts.specs.Edits.{made, with_put}
 use Rattle.net_settings.specs.Settings.{SettingsParts}
 use Rattle.plan_subnets.specs.DhcpUpkeep.{begin_serving, end_serving}
 use Rattle.plan_subnets.specs.SubnetCalls.{subnet_edits}
-
-pub made-append : (rows : RowLists) (es fs : List Edit) → made rows (es ++ fs) ≡ made (made rows es) fs
-made-append rows [] fs = refl
-made-append rows (e ∷ es) fs = made-append (edited rows e) es fs
+use Rattle.call_parts.proofs.EditLemmas.{made-append}
 
 -- a subnet doesn't begin and end to be leased at once, so what ends looks at the rows before
 pub changed_with_port : (settings : SettingsParts) (rows : RowLists) (n : NetworkRow) (old new : SubnetRow) (i : Ident) (mac : ℕ) (f : Fixed) (one two three : RowLists)

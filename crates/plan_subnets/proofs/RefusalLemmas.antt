@@ -1,5 +1,5 @@
 -- What three refusals in order come to, and two.
-use Rattle.std.proofs.Common.{◌≡◌, ◌∙◌, [], ◌∷◌, Option, Some, None, ap, inl, inr, refl}
+use Rattle.std.proofs.Common.{◌≡◌, ◌∙◌, [], ◌∷◌, Option, None, ap, inl, inr}
 use Rattle.api_types.specs.Refusing.{first_refusal}
 use Rattle.api_types.specs.declared.refusal.Refusal.{Refusal}
 use Rattle.std.specs.Prelude.{Err, Ok, Result}
@@ -22,17 +22,6 @@ module _ (a b c : Option Refusal) where
 
   pub none_in : a ≡ None → b ≡ None → c ≡ None → first_refusal (a ∷ b ∷ c ∷ []) ≡ None
   none_in none nor neither = ap (λ o. first_refusal (o ∷ b ∷ c ∷ [])) none ∙ (ap (λ o. first_refusal (o ∷ c ∷ [])) nor ∙ ap (λ o. first_refusal (o ∷ [])) neither)
-
--- five in order are three and then two
-pub five_joined : (a b c d e : Option Refusal) → first_refusal (a ∷ b ∷ c ∷ d ∷ e ∷ []) ≡ option_or (first_refusal (a ∷ b ∷ c ∷ [])) (first_refusal (d ∷ e ∷ []))
-five_joined None None None d e = refl
-five_joined None None (Some r) d e = refl
-five_joined None (Some r) c d e = refl
-five_joined (Some r) b c d e = refl
-
-pub refused_first : (x y : Option Refusal) (e : Refusal) → IsRefusalIn x e → IsRefusalIn (option_or x y) e
-refused_first x y e (inl memory) = inl memory
-refused_first x y e (inr is) = inr (ap (λ o. option_or o y) is)
 
 pub passed_first : (x y : Option Refusal) (result : Result (Unit {0}) Refusal) → x ≡ None → IsAnswerOf y result → Passes (option_or x y) result
 passed_first x y (Ok passed) none is = ap (λ o. option_or o y) none ∙ is

@@ -10,7 +10,6 @@ use Rattle.api_types.specs.Consistent.InForm.{is_eui}
 use Rattle.api_types.specs.Ident.{Ident}
 use Rattle.api_types.specs.Owners.{is_dhcp_of}
 use Rattle.api_types.specs.RowLists.{RowLists}
-use Rattle.api_types.specs.Table.{ident_eq}
 use Rattle.api_types.specs.declared.floating.FloatingRow.{FloatingRow}
 use Rattle.api_types.specs.declared.kind.Kind.TheVariants.{Port as PortKind}
 use Rattle.api_types.specs.declared.kind.Row.TheVariants.{Port}
@@ -21,7 +20,8 @@ use Rattle.api_types.specs.declared.subnet.SubnetRow.{SubnetRow}
 use Rattle.net_addr.specs.Prefixes.{eui, first_address}
 use Rattle.net_addr.specs.declared.address.Addr.{Addr}
 use Rattle.net_settings.specs.Settings.{SettingsParts}
-use Rattle.std.specs.Prelude.{Bool, List, None, Option, Some, [], false, filter, find, is_none, not, true, ℕ, ◌&&◌, ◌++◌, ◌∷◌}
+use Rattle.std.specs.Prelude.{Bool, List, None, Option, Some, [], false, find, is_none, not, true, ℕ, ◌&&◌, ◌++◌, ◌∷◌}
+use Rattle.row_laws.specs.Leased.{outside}
 
 abbrev pub dhcp_port_on : List PortRow → Ident → Option PortRow
 dhcp_port_on ports network = find (is_dhcp_of network) ports
@@ -58,9 +58,6 @@ abbrev pub begin_serving : SettingsParts → RowLists → NetworkRow → Bool �
 begin_serving settings rows n false i mac f = []
 begin_serving settings rows n true i mac f = serving settings n (dhcp_port_on rows.ports n.id) i mac f
 
-abbrev pub outside_subnet : Ident → List Fixed → List Fixed
-outside_subnet subnet fixed = filter (λ (f : Fixed). not (ident_eq subnet f.subnet)) fixed
-
 -- a DHCP port that would hold no address goes
 abbrev pub port_left : PortRow → List Fixed → Edit
 port_left p [] = Drop PortKind p.id
@@ -71,7 +68,7 @@ giving_back floatings p left = disassociations floatings p.id left ++ port_left 
 
 abbrev pub unserving : RowLists → Option PortRow → Ident → List Edit
 unserving rows None subnet = []
-unserving rows (Some p) subnet = giving_back rows.floatings p (outside_subnet subnet p.fixed)
+unserving rows (Some p) subnet = giving_back rows.floatings p (outside subnet p.fixed)
 
 -- the subnet is leased no more
 abbrev pub end_serving : RowLists → Ident → Bool → Ident → List Edit

@@ -9,7 +9,7 @@ ghost use Rattle.call_parts.specs.State.{State};
 ghost use Rattle.plan_subnets.specs.SubnetCalls.{deletion_refusal, subnet_deleted, subnet_gone};
 
 use crate::serving::end_serving;
-use api_policy::{network_owner, subnet_in_use, subnet_seen};
+use api_policy::{network_owner, subnet_in_use, subnet_seen, unless_last};
 use api_types::{Caller, IdText, Kind, Refusal, Rows, SubnetRow};
 use call_parts::{Draft, not_found};
 use net_addr::OutOfMemory;
@@ -26,10 +26,7 @@ fn check_deletion(
 {
     network_owner(rows, caller, true, subnet.network)?;
     subnet_in_use(rows, caller, subnet.id)?;
-    if version == u64::MAX {
-        return Err(Refusal::CountersSpent);
-    }
-    Ok(())
+    unless_last(version)
 }
 
 // The rows without the subnet, and the DHCP port without its address.

@@ -11,7 +11,6 @@
 mod creation;
 mod deletion;
 mod lease;
-mod leaving;
 mod row;
 mod rules;
 mod serving;
@@ -19,5 +18,4 @@ mod update;
 
 pub use creation::{PlannedSubnet, create_subnet};
 pub use deletion::delete_subnet;
-pub use leaving::disassociate;
 pub use update::update_subnet;

@@ -6,13 +6,13 @@ ghost use Rattle.api_types.specs.Registration.{ident};
 ghost use Rattle.api_types.specs.Table.{row_of};
 ghost use Rattle.api_types.specs.declared.port.PortRow.{PortRow as ThePort};
 ghost use Rattle.call_parts.specs.Edits.{edited, made};
-ghost use Rattle.plan_subnets.specs.DhcpUpkeep.{begin_serving as begin_serving_of, dhcp_port_on as dhcp_port_of, end_serving as end_serving_of, giving_back, makes_dhcp_port, new_dhcp_port as new_dhcp_port_of, outside_subnet as outside_subnet_of, port_left};
+ghost use Rattle.plan_subnets.specs.DhcpUpkeep.{begin_serving as begin_serving_of, dhcp_port_on as dhcp_port_of, end_serving as end_serving_of, giving_back, makes_dhcp_port, new_dhcp_port as new_dhcp_port_of, port_left};
+ghost use Rattle.row_laws.specs.Leased.{outside};
 
 use crate::lease::dhcp_port_on;
-use crate::leaving::disassociate;
 use api_ml2::{bind, place_dhcp};
 use api_types::{Fixed, FixedList, Id, NetworkRow, PortRow, Rows};
-use call_parts::Draft;
+use call_parts::{Draft, disassociate, one_fixed};
 use net_addr::{Copies, Mac, OutOfMemory, Seq, Text};
 use net_settings::Settings;
 use std::alloc::Global;
@@ -27,15 +27,6 @@ fn dhcp_host(alloc: Global, settings: &Settings, network: &NetworkRow) -> Result
         Some(host) => host.copy(alloc),
         None => Ok(Text::new(alloc)),
     }
-}
-
-fn one_fixed(alloc: Global, fixed: Fixed) -> Result<FixedList, OutOfMemory>
-    ensures { IfOk result (λ list. list ≡ fixed ∷ []) }
-{
-    let Fixed { subnet, address } = fixed;
-    let mut list = Seq::new(alloc);
-    list.push(Fixed { subnet, address })?;
-    Ok(list)
 }
 
 fn new_dhcp_port(
@@ -58,7 +49,7 @@ fn new_dhcp_port(
         description: Text::new(alloc),
         up: true,
         mac,
-        fixed: one_fixed(alloc, fixed)?,
+        fixed: one_fixed(alloc, &fixed)?,
         pairs: Seq::new(alloc),
         secured: false,
         groups: Seq::new(alloc),
@@ -137,7 +128,7 @@ pub(crate) fn begin_serving(
 }
 
 fn outside_subnet(alloc: Global, subnet: Id, fixed: &[Fixed]) -> Result<FixedList, OutOfMemory>
-    ensures { IfOk result (λ left. left ≡ outside_subnet_of subnet fixed.now) }
+    ensures { IfOk result (λ left. left ≡ outside subnet fixed.now) }
 {
     let mut left = Seq::new(alloc);
     for one in fixed {

@@ -1,11 +1,15 @@
 -- One host's agents: the rows that they were last given, the tables wired from these, and the host's tracked entries.
-use Rattle.std.specs.Prelude.{◌≡◌, ℕ, List, [], Option, Some}
+use Rattle.std.specs.Prelude.{◌≡◌, ℕ, ◌+◌, ◌==◌, nat_lt, Bool, false, true, List, [], Option, None, Some, if◌then◌else◌}
 use Rattle.std.specs.List.{filter}
 use Rattle.api_types.specs.Consistent.{IsConsistent}
 use Rattle.api_types.specs.RowLists.{RowLists}
+use Rattle.api_types.specs.Rows.{Fits, after}
+use Rattle.api_types.specs.declared.change.Item.{Item}
 use Rattle.plane_types.specs.Hosts.{Host}
 use Rattle.plane_types.specs.Placed.{IsPlaced, is_placed}
 use Rattle.plane_types.specs.Realises.{Realises}
+use Rattle.plane_types.specs.declared.ask.Heard.{Heard}
+use Rattle.plane_types.specs.declared.ask.Heard.TheVariants.{Applied, Asleep, Gap, Old}
 use Rattle.plane_types.specs.declared.entry.Entry.{Entry}
 use Rattle.plane_types.specs.declared.table.TagRow.{TagRow}
 use Rattle.plane_types.specs.declared.lists.TableLists.{TableLists}
@@ -47,6 +51,24 @@ given n version rows tables spare = record { name = n.name; held = Some version;
 -- given rows anew: networks keep their tags
 abbrev pub resynced : Node → ℕ → RowLists → ℕ → Node
 resynced n version rows spare = given n version rows (wired rows n.name n.tables.tags) spare
+
+-- whether a number is the next one behind what is held
+abbrev pub follows : ℕ → Option ℕ → Bool
+follows n None = false
+follows n (Some v) = n == v + 1
+
+-- what a host that holds this version, if any, makes of a change with a number
+abbrev pub heard : ℕ → Option ℕ → Heard
+heard n None = Asleep
+heard n (Some v) = if n == v + 1 then Applied n else (if nat_lt v n then Gap v else Old v)
+
+-- told the change with a number: it is put into the wired rows where it is the next one
+abbrev pub told : Node → ℕ → List Item → ℕ → Node
+told n number change spare = if follows number n.held then resynced n number (after n.rows change) spare else record n { spare = spare }
+
+-- a change that is the next one fits the wired rows and leaves consistent ones
+abbrev pub CanFollow : Node → ℕ → List Item → Type 0
+CanFollow n number change = follows number n.held ≡ true → Fits n.rows change × IsConsistent (after n.rows change)
 
 abbrev pub with_entries : Node → List Entry → ℕ → Node
 with_entries n entries spare = record { name = n.name; held = n.held; version = n.version; rows = n.rows; tables = n.tables; entries = entries; spare = spare }

@@ -244,15 +244,15 @@ const BARRED: [Exchange; 7] = [
             \r\n{\"NeutronError\":{\"detail\":\"\",\
             \"message\":\"Invalid input for physical_network.\",\"type\":\"InvalidInput\"}}",
     ),
-    // Messages to hosts are not built.
+    // No host has the name.
     (
-        b"POST /lab/v1/settle HTTP/1.1\r\nX-Project-Id: adm\r\nX-Roles: admin\r\n\
-            Content-Length: 13\r\n\r\n\
-            {\"settle\":{}}",
-        b"HTTP/1.1 501 Not Implemented\r\nContent-Type: application/json\r\n\
-            Content-Length: 91\r\n\r\n\
-            {\"NeutronError\":{\"detail\":\"\",\"message\":\"This request is not built yet.\",\
-            \"type\":\"NotBuilt\"}}",
+        b"POST /lab/v1/resync HTTP/1.1\r\nX-Project-Id: adm\r\nX-Roles: admin\r\n\
+            Content-Length: 24\r\n\r\n\
+            {\"resync\":{\"host\":\"c9\"}}",
+        b"HTTP/1.1 404 Not Found\r\nContent-Type: application/json\r\n\
+            Content-Length: 92\r\n\r\n\
+            {\"NeutronError\":{\"detail\":\"\",\
+            \"message\":\"Host c9 could not be found.\",\"type\":\"HostNotFound\"}}",
     ),
 ];
 

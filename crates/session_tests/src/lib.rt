@@ -13,6 +13,8 @@ mod limits;
 #[cfg(test)]
 mod machine;
 #[cfg(test)]
+mod messages;
+#[cfg(test)]
 mod opened;
 #[cfg(test)]
 mod sessions;

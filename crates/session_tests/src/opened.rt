@@ -34,7 +34,7 @@ const NO_COUNT: &[u8] = b"HTTP/1.1 503 Service Unavailable\r\nContent-Type: appl
 
 // A world with these rows under these settings.
 fn opened(alloc: Global, rows: Rows, settings: Settings) -> Result<World, OutOfMemory>
-    ensures { IfOk result (λ w. w.state.rows ≡ rows) }
+    ensures { IfOk result (λ w. w.history.rows ≡ rows) }
 {
     match World::open(alloc, rows, settings, false) {
         Ok(world) => Ok(world),

@@ -256,11 +256,11 @@ const THREE_CREATIONS: Exchange = (
 );
 
 // A world without rows, under the default settings.
-fn fresh(alloc: Global) -> Result<World, OutOfMemory>
-    ensures { IfOk result (λ w. w.state.rows ≡ no_rows) }
+fn fresh(alloc: Global, manual: bool) -> Result<World, OutOfMemory>
+    ensures { IfOk result (λ w. w.history.rows ≡ no_rows) }
 {
     let settings = default_settings(alloc)?;
-    match World::open(alloc, Rows::empty(alloc)?, settings, false) {
+    match World::open(alloc, Rows::empty(alloc)?, settings, manual) {
         Ok(world) => Ok(world),
         Err(_) => Err(OutOfMemory), // nothing else: no row breaks a clause
     }
@@ -278,7 +278,7 @@ fn source(alloc: Global, input: &[u8], piece: usize) -> Result<SureSource, OutOf
 fn writes(alloc: Global, input: &[u8], piece: usize, wanted: &[u8]) -> Result<bool, OutOfMemory>
     requires { 0 < piece }
 {
-    let mut world = fresh(alloc)?;
+    let mut world = fresh(alloc, false)?;
     let mut keeper = SureKeeper::make(Rows::empty(alloc)?);
     let mut input = source(alloc, input, piece)?;
     let mut output = SureSink::make(alloc);
@@ -293,7 +293,26 @@ fn writes(alloc: Global, input: &[u8], piece: usize, wanted: &[u8]) -> Result<bo
     Ok(end == SessionEnd::Done && output.as_slice() == wanted)
 }
 
-/// The same in pieces of 1, 7 and all bytes.
+/// Whether a session in manual delivery, from no rows on, over this input is done, and what it wrote
+/// ends so.
+pub(crate) fn ends_so(alloc: Global, input: &[u8], wanted: &[u8]) -> Result<bool, OutOfMemory> {
+    let mut world = fresh(alloc, true)?;
+    let mut keeper = SureKeeper::make(Rows::empty(alloc)?);
+    let mut input = source(alloc, input, 100_000)?;
+    let mut output = SureSink::make(alloc);
+    let end = session(
+        alloc,
+        &mut world,
+        &mut keeper,
+        &mut input,
+        &mut output,
+        u64::MAX,
+    );
+    Ok(end == SessionEnd::Done && output.as_slice().ends_with(wanted))
+}
+
+/// Whether a session from no rows on over this input, in pieces of 1, 7 and all bytes, writes this
+/// and is done.
 pub(crate) fn writes_in_pieces(
     alloc: Global,
     input: &[u8],
@@ -344,7 +363,7 @@ fn numbers(alloc: Global, numbers: &[u64]) -> Result<Numbers, OutOfMemory> {
 #[test]
 fn a_failing_store(rt: HostRuntime) -> Result<(), Fail> {
     let alloc = rt.alloc();
-    let mut world = fresh(alloc)?;
+    let mut world = fresh(alloc, false)?;
     let mut keeper = MemoryKeeper::make(alloc, Rows::empty(alloc)?, numbers(alloc, &[2])?)?;
     let mut input = source(alloc, THREE_CREATIONS.0, 100_000)?;
     let mut output = SureSink::make(alloc);
@@ -371,7 +390,7 @@ fn fails(
     end: SessionEnd,
 ) -> Result<bool, OutOfMemory> {
     let (request, _) = REQUESTS[0];
-    let mut world = fresh(alloc)?;
+    let mut world = fresh(alloc, false)?;
     let mut keeper = SureKeeper::make(Rows::empty(alloc)?);
     let bytes = Bytes::from_vec(Vec::from_slice(alloc, request)?);
     let mut input = MemorySource::make(bytes, 100_000, numbers(alloc, reads)?);

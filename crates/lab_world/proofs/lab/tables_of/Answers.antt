@@ -1,14 +1,25 @@
-use Rattle.std.proofs.Common.{◌∙◌, ap, inr, map, sym}
+use Rattle.std.proofs.Common.{◌≡◌, ◌∙◌, Option, None, Some, ap, inr, refl}
+use Rattle.std.specs.Option.{option_map}
+use Rattle.api_types.proofs.ListLemmas.{none_some, some_equal}
 use Rattle.api_types.specs.declared.refusal.Refusal.TheVariants.{NoHost}
+use Rattle.plane_types.specs.Node.{Node}
 use Rattle.plane_types.specs.declared.ask.LabAnswer.TheVariants.{Tables}
-use Rattle.plane_types.specs.Node.{host_of}
-use Rattle.lab_world.specs.Lab.{Answered, Barred}
-use Rattle.lab_world.proofs.HostLaws.{tables_found, tables_unfound}
+use Rattle.plane_types.specs.declared.lists.TableLists.{TableLists}
+use Rattle.lab_world.specs.Steps.{named_node}
 use Rattle.lab_world.proofs.lab.tables_of.Goals as goal
+
+there : (o : Option Node) (t : TableLists) → Some t ≡ option_map (λ (n : Node). n.tables) o → (n : Node) × (o ≡ Some n) × (t ≡ n.tables)
+there None t h = absurd cc
+there (Some n) t h = (n, refl, some_equal t n.tables h)
+
+nowhere : (o : Option Node) → None ≡ option_map (λ (n : Node). n.tables) o → o ≡ None
+nowhere None h = refl
+nowhere (Some n) h = none_some n.tables _ h
 
 pub returns-in_ok-lists-in-Some-clause-ok : goal.returns-in_ok-lists-in-Some-clause-ok
 returns-in_ok-lists-in-Some-clause-ok c =
-    tables_found c.args.name.now c.args.hosts.now c.in-Some.tables.now.lists c.in-Some.ensures ∙ ap (λ t. Answered (Tables t) (map host_of c.args.hosts.now)) (sym c.in_ok-lists-in-Some.ensures)
+    let found = there (named_node c.args.name.now c.args.hosts.now) c.in-Some.tables.now.lists c.in-Some.ensures in
+    (found.0, found.1, ap Tables (c.in_ok-lists-in-Some.ensures ∙ found.2))
 
 pub returns-in_ok-copy-in-None-clause-err : goal.returns-in_ok-copy-in-None-clause-err
-returns-in_ok-copy-in-None-clause-err c = inr (tables_unfound c.args.name.now c.args.hosts.now c.in-None.ensures ∙ ap (λ n. Barred (NoHost n)) (sym c.in_ok-copy-in-None.ensures))
+returns-in_ok-copy-in-None-clause-err c = inr (ap NoHost c.in_ok-copy-in-None.ensures, nowhere (named_node c.args.name.now c.args.hosts.now) c.in-None.ensures)

@@ -4,4 +4,4 @@ use Rattle.neutron_serve.proofs.sessions.session.Goals as goal
 pub returns-clause-promises : goal.returns-clause-promises
 returns-clause-promises g c =
     let s = c.session.ensures.serves in
-    (s.0, s.1, s.2, session_promised c.args.limit _ _ c.session.result c.rows-held.ensures.held s.3)
+    (s.0, s.1, s.2, session_promised c.args.limit _ _ c.session.result c.rows-rows.ensures.world s.3)

@@ -8,7 +8,7 @@ use Rattle.api_types.specs.Printed.{NewRow}
 use Rattle.call_parts.specs.Answers.{IsRefusalOf}
 use Rattle.call_parts.specs.State.{State}
 use Rattle.plan_floatings.specs.FloatingCalls.{floating_made, floating_shown}
-use Rattle.plan_floatings.proofs.NewLemmas.{owner_named}
+use Rattle.call_parts.proofs.OwnerLemmas.{owner_named}
 use Rattle.plan_floatings.proofs.creation.create_floating.Goals as goal
 
 pub make_floating-requires-clause-named : goal.make_floating-requires-clause-named

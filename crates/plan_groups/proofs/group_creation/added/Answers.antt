@@ -1,5 +1,4 @@
 use Rattle.std.proofs.Common.{◌≡◌, ◌∙◌, ◌+◌, None, arith, subst, sym}
-use Rattle.std.specs.Prelude.{IfOk, Result, Ok, Err}
 use Rattle.api_types.specs.Ident.{Ident}
 use Rattle.api_types.specs.Registration.{ident}
 use Rattle.api_types.specs.Table.{row_of}
@@ -7,12 +6,8 @@ use Rattle.api_types.specs.declared.group.GroupRow.{GroupRow}
 use Rattle.api_types.specs.declared.group.RuleRow.{RuleRow}
 use Rattle.call_parts.specs.Answers.{drawing_of}
 use Rattle.plan_groups.proofs.GroupLemmas.{added_with_rules}
+use Rattle.call_parts.proofs.EditLaws.{ok_by_both}
 use Rattle.plan_groups.proofs.group_creation.added.Goals as goal
-
--- what follows of two facts of what is there
-ok_by_both : {X E : Type 0} (P Q S : X → Type 0) (r : Result X E) → ((x : X) → P x → Q x → S x) → IfOk r P → IfOk r Q → IfOk r S
-ok_by_both P Q S (Ok x) f p q = f x p q
-ok_by_both P Q S (Err e) f p q = tt
 
 pub add_with_rules-requires-clause-new_group : goal.add_with_rules-requires-clause-new_group
 add_with_rules-requires-clause-new_group c =

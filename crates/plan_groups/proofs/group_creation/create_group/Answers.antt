@@ -6,7 +6,7 @@ use Rattle.api_types.specs.Printed.{NewRow}
 use Rattle.call_parts.specs.State.{State}
 use Rattle.call_parts.specs.Answers.{IsRefusalOf}
 use Rattle.plan_groups.specs.GroupCalls.{group_made, group_shown}
-use Rattle.plan_groups.proofs.NewLemmas.{owner_named}
+use Rattle.call_parts.proofs.OwnerLemmas.{owner_named}
 use Rattle.plan_groups.proofs.group_creation.create_group.Goals as goal
 
 pub make_group-requires-clause-named : goal.make_group-requires-clause-named

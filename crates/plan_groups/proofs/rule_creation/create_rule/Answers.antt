@@ -2,7 +2,7 @@ use Rattle.std.proofs.lemmas.Result.{err_from_is_err_and}
 use Rattle.api_types.specs.Given.{value_of}
 use Rattle.call_parts.specs.Answers.{drawing_of}
 use Rattle.call_parts.specs.State.{State}
-use Rattle.plan_groups.proofs.NewLemmas.{project_named}
+use Rattle.plan_groups.proofs.OwnerLemmas.{project_named}
 use Rattle.plan_groups.proofs.RuleLemmas.{part_refused, rule_leads, rule_spent}
 use Rattle.plan_groups.proofs.rule_creation.create_rule.Goals as goal
 

@@ -1,5 +1,5 @@
 use Rattle.std.proofs.Common.{◌≡◌, ◌∙◌, ◌+◌, None, arith, subst, sym}
-use Rattle.std.specs.Prelude.{IfOk, Result, Ok, Err, false}
+use Rattle.std.specs.Prelude.{false}
 use Rattle.api_types.specs.Given.{value_or}
 use Rattle.api_types.specs.Ident.{Ident}
 use Rattle.api_types.specs.Registration.{ident}
@@ -8,12 +8,8 @@ use Rattle.api_types.specs.declared.network.NetworkRow.{NetworkRow}
 use Rattle.api_types.specs.declared.policy.PolicyRow.{PolicyRow}
 use Rattle.call_parts.specs.Answers.{drawing_of}
 use Rattle.plan_networks.proofs.EditLemmas.{added_with_policies}
+use Rattle.call_parts.proofs.EditLaws.{ok_by_both}
 use Rattle.plan_networks.proofs.creation.add_network.Goals as goal
-
--- what follows of two facts of what is there
-ok_by_both : {X E : Type 0} (P Q S : X → Type 0) (r : Result X E) → ((x : X) → P x → Q x → S x) → IfOk r P → IfOk r Q → IfOk r S
-ok_by_both P Q S (Ok x) f p q = f x p q
-ok_by_both P Q S (Err e) f p q = tt
 
 pub add_with_policies-requires-clause-new_network : goal.add_with_policies-requires-clause-new_network
 add_with_policies-requires-clause-new_network c =

@@ -5,7 +5,7 @@ use Rattle.api_types.specs.Printed.{NewRow}
 use Rattle.call_parts.specs.State.{State}
 use Rattle.plan_networks.specs.NetworkCalls.{network_made, network_shown}
 use Rattle.call_parts.specs.Answers.{IsRefusalOf, Leads}
-use Rattle.plan_networks.proofs.CallLemmas.{owner_named}
+use Rattle.call_parts.proofs.OwnerLemmas.{owner_named}
 use Rattle.plan_networks.proofs.creation.create_network.Goals as goal
 
 pub make_network-requires-clause-named : goal.make_network-requires-clause-named

@@ -13,7 +13,7 @@ returns c = λ version.
     let rows = c.args.rows.now in
     let caller = c.args.caller.now in
     let n = c.args.network.now in
-    let admin = ap (admin_only caller) (sym c.is_for_admin.ensures) ∙ c.in_ok-admin_only.ensures in
+    let admin = ap (admin_only caller) (sym c.network_for_admin.ensures) ∙ c.in_ok-admin_only.ensures in
     let closing = subst (λ shared. Passes (if shared || c.is_cleared-external.result then open_in_use rows caller (without_closed n.id shared c.is_cleared-external.result rows.policies) n else None) c.check_closing.result) c.is_cleared-shared.ensures c.check_closing.ensures in
     let both = subst (λ external. Passes (if is_cleared c.args.form.now.shared || external then open_in_use rows caller (without_closed n.id (is_cleared c.args.form.now.shared) external rows.policies) n else None) c.check_closing.result) c.is_cleared-external.ensures closing in
     third_passes _ _ _ c.check_closing.result admin c.in_ok-owner_only.ensures both

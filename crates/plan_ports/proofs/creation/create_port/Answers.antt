@@ -12,7 +12,8 @@ use Rattle.call_parts.specs.Answers.{IsOrMemory, IsRefusalOf}
 use Rattle.call_parts.specs.BodyNames.{text_of}
 use Rattle.call_parts.specs.State.{State}
 use Rattle.plan_ports.specs.PortCalls.{port_made, port_shown}
-use Rattle.plan_ports.proofs.CallLemmas.{body_refused, body_unfound, created_on, owner_named, owners_so}
+use Rattle.call_parts.proofs.OwnerLemmas.{owner_named}
+use Rattle.plan_ports.proofs.CallLemmas.{body_refused, body_unfound, created_on, owners_so}
 use Rattle.plan_ports.proofs.creation.create_port.Goals as goal
 
 pub returns-in_err-check_body-clause-err : goal.returns-in_err-check_body-clause-err

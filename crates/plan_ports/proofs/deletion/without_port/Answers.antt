@@ -5,7 +5,7 @@ use Rattle.api_types.specs.declared.kind.Kind.TheVariants.{Port}
 use Rattle.call_parts.specs.Edits.{Drop, Edit, edited, made}
 use Rattle.call_parts.specs.Leaving.{disassociations}
 use Rattle.plan_ports.specs.PortCalls.{port_gone}
-use Rattle.plan_ports.proofs.EditLemmas.{made-append}
+use Rattle.call_parts.proofs.EditLemmas.{made-append}
 use Rattle.plan_ports.proofs.deletion.without_port.Goals as goal
 
 pub returns-clause-rows : goal.returns-clause-rows

@@ -1,5 +1,5 @@
 use Rattle.std.proofs.Common.{sym}
-use Rattle.plan_routers.proofs.DrawnLemmas.{project_named}
+use Rattle.plan_routers.proofs.OwnerLemmas.{project_named}
 use Rattle.plan_routers.proofs.adding.add_interface.Goals as goal
 
 pub add_to_router-requires-clause-named : goal.add_to_router-requires-clause-named

@@ -1,9 +1,9 @@
-use Rattle.std.proofs.Common.{Option, subst, sym}
-use Rattle.std.specs.Prelude.{codes, is_some, option_and_then, ◌||◌}
+use Rattle.std.proofs.Common.{[], ◌∷◌, Option, subst, sym}
+use Rattle.std.specs.Prelude.{codes, option_and_then}
 use Rattle.std.proofs.lemmas.Result.{err_from_is_err_and}
 use Rattle.api_policy.specs.Permits.{admin_only}
 use Rattle.api_policy.specs.Quotas.{over_quota}
-use Rattle.api_types.specs.Given.{are_unlike, is_for_other}
+use Rattle.api_types.specs.Given.{are_unlike}
 use Rattle.api_types.specs.Refusing.{when}
 use Rattle.api_types.specs.declared.kind.Kind.TheVariants.{Network as NetworkKind, Router as RouterKind}
 use Rattle.api_types.specs.declared.refusal.Refusal.TheVariants.{Invalid}
@@ -11,8 +11,9 @@ use Rattle.api_types.specs.declared.refusal.Refusal.{Refusal}
 use Rattle.call_parts.specs.Answers.{IsRefusalIn, Passes}
 use Rattle.call_parts.specs.BodyNames.{unless_found}
 use Rattle.plan_routers.specs.Plans.{first_body_refusal, first_standing_refusal}
-use Rattle.plan_routers.specs.RouterCalls.{bad_first_gateway, gateway_name, gateway_network, outer_taken, snat_asked}
-use Rattle.plan_routers.proofs.RefusalLemmas.{passed_first, refused_first, six_joined}
+use Rattle.plan_routers.specs.RouterCalls.{bad_first_gateway, gateway_name, gateway_network, outer_taken}
+use Rattle.call_parts.proofs.RefusalLemmas.{first_joined, passed_first, refused_first}
+use Rattle.api_policy.specs.Reserved.{router_for_admin}
 use Rattle.plan_routers.proofs.creation.check_creation.Goals as goal
 
 pub returns-in_err-check_body : goal.returns-in_err-check_body
@@ -27,8 +28,7 @@ returns-in_err-check_body c =
     let p = err_from_is_err_and c.from_residual.result c.from_residual.ensures.1 in
     rw (p.1, p.2)
     (subst (λ (o : Option Refusal). IsRefusalIn o e)
-    (sym (six_joined (when (are_unlike form.project_id form.tenant_id) (Invalid (codes "tenant_id"))) (bad_first_gateway rows caller form owner) (unless_found NetworkKind (gateway_name form) network)
-    (admin_only caller (is_some (snat_asked form) || is_for_other caller form.project_id form.tenant_id)) (option_and_then (outer_taken rows) network) (over_quota settings rows owner RouterKind)))
+    (sym (first_joined ((when (are_unlike form.project_id form.tenant_id) (Invalid (codes "tenant_id"))) ∷ (bad_first_gateway rows caller form owner) ∷ (unless_found NetworkKind (gateway_name form) network) ∷ []) ((admin_only caller (router_for_admin caller form)) ∷ (option_and_then (outer_taken rows) network) ∷ (over_quota settings rows owner RouterKind) ∷ [])))
     (refused_first (first_body_refusal rows caller form owner) (first_standing_refusal settings rows caller form owner) e c.in_err-check_body.ensures))
 
 pub returns : goal.returns
@@ -40,6 +40,5 @@ returns c =
     let owner = c.args.owner.now in
     let network = gateway_network rows caller form in
     subst (λ (o : Option Refusal). Passes o c.check_standing.result)
-    (sym (six_joined (when (are_unlike form.project_id form.tenant_id) (Invalid (codes "tenant_id"))) (bad_first_gateway rows caller form owner) (unless_found NetworkKind (gateway_name form) network)
-    (admin_only caller (is_some (snat_asked form) || is_for_other caller form.project_id form.tenant_id)) (option_and_then (outer_taken rows) network) (over_quota settings rows owner RouterKind)))
+    (sym (first_joined ((when (are_unlike form.project_id form.tenant_id) (Invalid (codes "tenant_id"))) ∷ (bad_first_gateway rows caller form owner) ∷ (unless_found NetworkKind (gateway_name form) network) ∷ []) ((admin_only caller (router_for_admin caller form)) ∷ (option_and_then (outer_taken rows) network) ∷ (over_quota settings rows owner RouterKind) ∷ [])))
     (passed_first (first_body_refusal rows caller form owner) (first_standing_refusal settings rows caller form owner) c.check_standing.result c.in_ok-check_body.ensures c.check_standing.ensures)

@@ -6,7 +6,7 @@ use Rattle.api_types.specs.Printed.{NewRow}
 use Rattle.call_parts.specs.State.{State}
 use Rattle.call_parts.specs.Answers.{IsRefusalOf}
 use Rattle.plan_routers.specs.RouterCalls.{router_made, router_shown}
-use Rattle.plan_routers.proofs.DrawnLemmas.{owner_named}
+use Rattle.call_parts.proofs.OwnerLemmas.{owner_named}
 use Rattle.plan_routers.proofs.creation.create_router.Goals as goal
 
 pub make_router-requires-clause-named : goal.make_router-requires-clause-named

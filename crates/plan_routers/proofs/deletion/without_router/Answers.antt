@@ -4,7 +4,7 @@ use Rattle.api_types.specs.declared.kind.Kind.TheVariants.{Router}
 use Rattle.api_types.specs.declared.router.RouterRow.{RouterRow}
 use Rattle.call_parts.specs.Edits.{Drop, Edit, edited, made}
 use Rattle.plan_routers.specs.RouterCalls.{gateway_gone}
-use Rattle.plan_routers.proofs.EditLemmas.{made-append}
+use Rattle.call_parts.proofs.EditLemmas.{made-append}
 use Rattle.plan_routers.proofs.deletion.without_router.Goals as goal
 
 pub returns-clause-rows : goal.returns-clause-rows

@@ -5,7 +5,7 @@ use Rattle.api_types.specs.declared.port.PortRow.{PortRow}
 use Rattle.call_parts.specs.Edits.{Drop, Edit, edited, made}
 use Rattle.call_parts.specs.Leaving.{disassociations}
 use Rattle.plan_routers.specs.InterfaceCalls.{interface_gone}
-use Rattle.plan_routers.proofs.EditLemmas.{made-append}
+use Rattle.call_parts.proofs.EditLemmas.{made-append}
 use Rattle.plan_routers.proofs.removal.without_port.Goals as goal
 
 pub returns-clause-rows : goal.returns-clause-rows

@@ -1,4 +1,4 @@
-use Rattle.std.proofs.Common.{Option, subst, sym}
+use Rattle.std.proofs.Common.{[], ◌∷◌, Option, subst, sym}
 use Rattle.std.specs.Prelude.{is_some, option_and_then}
 use Rattle.std.proofs.lemmas.Result.{err_from_is_err_and}
 use Rattle.api_policy.specs.Permits.{admin_only, owner_only}
@@ -9,9 +9,10 @@ use Rattle.api_types.specs.declared.refusal.Refusal.{Refusal}
 use Rattle.call_parts.specs.Answers.{IsRefusalIn, Passes}
 use Rattle.call_parts.specs.BodyNames.{unless_found}
 use Rattle.plan_routers.specs.Plans.{body_refusal, standing_refusal}
-use Rattle.plan_routers.specs.RouterCalls.{gateway_name, gateway_network, lost_gateway, new_gateway, outer_taken, snat_asked}
+use Rattle.plan_routers.specs.RouterCalls.{gateway_name, gateway_network, lost_gateway, new_gateway, outer_taken}
 use Rattle.plan_routers.specs.RouterRules.{bad_gateway, bad_routes}
-use Rattle.plan_routers.proofs.RefusalLemmas.{passed_first, refused_first, seven_joined}
+use Rattle.call_parts.proofs.RefusalLemmas.{first_joined, passed_first, refused_first}
+use Rattle.api_policy.specs.Reserved.{snat_asked}
 use Rattle.plan_routers.proofs.update.check_update.Goals as goal
 
 pub returns-in_err-check_body : goal.returns-in_err-check_body
@@ -26,8 +27,7 @@ returns-in_err-check_body c =
     let p = err_from_is_err_and c.from_residual.result c.from_residual.ensures.1 in
     rw (p.1, p.2)
     (subst (λ (o : Option Refusal). IsRefusalIn o e)
-    (sym (seven_joined (option_and_then (bad_gateway rows old.project (interfaces_of rows.ports old)) network) (bad_routes rows old form.routes) (unless_found NetworkKind (gateway_name form) network)
-    (admin_only caller (is_some (snat_asked form))) (owner_only caller old.project) (gateway_use rows caller old new.routes (lost_gateway old.gateway new.gateway)) (option_and_then (outer_taken rows) (new_gateway network new.gateway))))
+    (sym (first_joined ((option_and_then (bad_gateway rows old.project (interfaces_of rows.ports old)) network) ∷ (bad_routes rows old form.routes) ∷ (unless_found NetworkKind (gateway_name form) network) ∷ []) ((admin_only caller (is_some (snat_asked form))) ∷ (owner_only caller old.project) ∷ (gateway_use rows caller old new.routes (lost_gateway old.gateway new.gateway)) ∷ (option_and_then (outer_taken rows) (new_gateway network new.gateway)) ∷ [])))
     (refused_first (body_refusal rows caller form old) (standing_refusal rows caller form old new) e c.in_err-check_body.ensures))
 
 pub returns : goal.returns
@@ -39,6 +39,5 @@ returns c =
     let new = c.args.new.now in
     let network = gateway_network rows caller form in
     subst (λ (o : Option Refusal). Passes o c.check_standing.result)
-    (sym (seven_joined (option_and_then (bad_gateway rows old.project (interfaces_of rows.ports old)) network) (bad_routes rows old form.routes) (unless_found NetworkKind (gateway_name form) network)
-    (admin_only caller (is_some (snat_asked form))) (owner_only caller old.project) (gateway_use rows caller old new.routes (lost_gateway old.gateway new.gateway)) (option_and_then (outer_taken rows) (new_gateway network new.gateway))))
+    (sym (first_joined ((option_and_then (bad_gateway rows old.project (interfaces_of rows.ports old)) network) ∷ (bad_routes rows old form.routes) ∷ (unless_found NetworkKind (gateway_name form) network) ∷ []) ((admin_only caller (is_some (snat_asked form))) ∷ (owner_only caller old.project) ∷ (gateway_use rows caller old new.routes (lost_gateway old.gateway new.gateway)) ∷ (option_and_then (outer_taken rows) (new_gateway network new.gateway)) ∷ [])))
     (passed_first (body_refusal rows caller form old) (standing_refusal rows caller form old new) c.check_standing.result c.in_ok-check_body.ensures c.check_standing.ensures)

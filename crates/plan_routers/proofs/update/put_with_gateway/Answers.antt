@@ -8,8 +8,10 @@ use Rattle.api_types.specs.declared.kind.Row.TheVariants.{Router}
 use Rattle.api_types.specs.declared.port.PortRow.{PortRow}
 use Rattle.api_types.specs.declared.router.RouterRow.{RouterRow}
 use Rattle.call_parts.specs.Edits.{Edit, Put, made}
-use Rattle.plan_routers.specs.RouterCalls.{gateway_edits, gateway_gone, gateway_port, lost_gateway, old_snat, snat_asked, with_gateway}
-use Rattle.plan_routers.proofs.EditLemmas.{absent_put, made-append}
+use Rattle.plan_routers.specs.RouterCalls.{gateway_edits, gateway_gone, gateway_port, lost_gateway, old_snat, with_gateway}
+use Rattle.call_parts.proofs.EditLemmas.{made-append}
+use Rattle.plan_routers.proofs.EditLemmas.{absent_put}
+use Rattle.api_policy.specs.Reserved.{snat_asked}
 use Rattle.plan_routers.proofs.update.put_with_gateway.Goals as goal
 
 pub set_gateway-requires : goal.set_gateway-requires

@@ -1,5 +1,5 @@
 use Rattle.std.proofs.Common.{sym}
-use Rattle.plan_routers.proofs.DrawnLemmas.{project_named}
+use Rattle.plan_routers.proofs.OwnerLemmas.{project_named}
 use Rattle.plan_routers.proofs.update.update_router.Goals as goal
 
 pub change_router-requires-clause-named : goal.change_router-requires-clause-named

@@ -5,7 +5,7 @@ use Rattle.api_types.specs.declared.subnet.SubnetRow.{SubnetRow}
 use Rattle.call_parts.specs.Edits.{Drop, Edit, edited, made}
 use Rattle.plan_subnets.specs.DhcpUpkeep.{end_serving}
 use Rattle.plan_subnets.specs.SubnetCalls.{subnet_gone}
-use Rattle.plan_subnets.proofs.EditLemmas.{made-append}
+use Rattle.call_parts.proofs.EditLemmas.{made-append}
 use Rattle.plan_subnets.proofs.deletion.without_subnet.Goals as goal
 
 pub returns-clause-rows : goal.returns-clause-rows

@@ -2,7 +2,8 @@ use Rattle.std.proofs.Common.{◌≡◌, ◌∙◌, Bool, IfOk, List, Option, So
 use Rattle.api_types.specs.RowLists.{RowLists}
 use Rattle.api_types.specs.declared.port.PortRow.{PortRow}
 use Rattle.call_parts.specs.Edits.{Edit, made}
-use Rattle.plan_subnets.specs.DhcpUpkeep.{dhcp_port_on, end_serving, giving_back, outside_subnet, unserving}
+use Rattle.plan_subnets.specs.DhcpUpkeep.{dhcp_port_on, end_serving, giving_back, unserving}
+use Rattle.row_laws.specs.Leased.{outside}
 use Rattle.plan_subnets.proofs.serving.end_serving.Goals as goal
 
 pub returns-in_ok-left-in-Some-clause-rows : goal.returns-in_ok-left-in-Some-clause-rows
@@ -10,8 +11,8 @@ returns-in_ok-left-in-Some-clause-rows c =
     let rows : RowLists = c.args.draft.rows in
     let there : dhcp_port_on rows.ports c.args.network ≡ Some c.in-Some.port =
     sym (c.in_ok-port.ensures ∙ ap (λ (r : RowLists). dhcp_port_on r.ports c.args.network) c.rows.ensures) ∙ c.in-Some.is in
-    let left : c.in_ok-left-in-Some.left ≡ outside_subnet c.args.subnet c.in-Some.port.fixed =
-    c.in_ok-left-in-Some.ensures ∙ ap (outside_subnet c.args.subnet) c.as_slice.ensures in
+    let left : c.in_ok-left-in-Some.left ≡ outside c.args.subnet c.in-Some.port.fixed =
+    c.in_ok-left-in-Some.ensures ∙ ap (outside c.args.subnet) c.as_slice.ensures in
     let same : giving_back rows.floatings c.in-Some.port c.in_ok-left-in-Some.left ≡ end_serving rows c.args.network c.args.ends c.args.subnet =
     ap (giving_back rows.floatings c.in-Some.port) left
     ∙ (ap (λ (o : Option PortRow). unserving rows o c.args.subnet) (sym there) ∙ by c.args.ends c.if-not-ends.false) in

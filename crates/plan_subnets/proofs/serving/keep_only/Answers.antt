@@ -4,7 +4,7 @@ use Rattle.api_types.specs.declared.port.Fixed.{Fixed}
 use Rattle.call_parts.specs.Edits.{Edit, edited, made}
 use Rattle.call_parts.specs.Leaving.{disassociations}
 use Rattle.plan_subnets.specs.DhcpUpkeep.{giving_back, port_left}
-use Rattle.plan_subnets.proofs.EditLemmas.{made-append}
+use Rattle.call_parts.proofs.EditLemmas.{made-append}
 use Rattle.plan_subnets.proofs.serving.keep_only.Goals as goal
 
 pub returns-clause-rows : goal.returns-clause-rows

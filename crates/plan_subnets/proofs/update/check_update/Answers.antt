@@ -1,4 +1,4 @@
-use Rattle.std.proofs.Common.{Option, subst, sym, true}
+use Rattle.std.proofs.Common.{[], ◌∷◌, Option, subst, sym, true}
 use Rattle.std.proofs.lemmas.Result.{err_from_is_err_and}
 use Rattle.api_policy.specs.Permits.{network_owner}
 use Rattle.api_policy.specs.Uses.{old_gateway_in_use}
@@ -6,7 +6,8 @@ use Rattle.api_types.specs.declared.refusal.Refusal.{Refusal}
 use Rattle.call_parts.specs.Answers.{IsRefusalIn, Passes}
 use Rattle.plan_subnets.specs.Plans.{change_refusal, standing_refusal}
 use Rattle.plan_subnets.specs.SubnetRules.{bad_dhcp, bad_subnet, bad_versions}
-use Rattle.plan_subnets.proofs.RefusalLemmas.{five_joined, passed_first, refused_first}
+use Rattle.call_parts.proofs.RefusalLemmas.{first_joined, refused_first}
+use Rattle.plan_subnets.proofs.RefusalLemmas.{passed_first}
 use Rattle.plan_subnets.proofs.update.check_update.Goals as goal
 
 pub returns-in_err-check_change : goal.returns-in_err-check_change
@@ -20,7 +21,7 @@ returns-in_err-check_change c =
     let p = err_from_is_err_and c.from_residual.result c.from_residual.ensures.1 in
     rw (p.1, p.2)
     (subst (λ (o : Option Refusal). IsRefusalIn o e)
-    (sym (five_joined (bad_versions old.prefix.base form) (bad_subnet new.prefix new.gateway new.pools) (bad_dhcp form old) (network_owner rows caller true old.network) (old_gateway_in_use rows caller old new)))
+    (sym (first_joined ((bad_versions old.prefix.base form) ∷ (bad_subnet new.prefix new.gateway new.pools) ∷ (bad_dhcp form old) ∷ []) ((network_owner rows caller true old.network) ∷ (old_gateway_in_use rows caller old new) ∷ [])))
     (refused_first (change_refusal form old new) (standing_refusal rows caller old new) e c.in_err-check_change.ensures))
 
 pub returns : goal.returns
@@ -31,5 +32,5 @@ returns c =
     let rows = c.args.rows.now in
     let caller = c.args.caller.now in
     subst (λ (o : Option Refusal). Passes o c.check_standing.result)
-    (sym (five_joined (bad_versions old.prefix.base form) (bad_subnet new.prefix new.gateway new.pools) (bad_dhcp form old) (network_owner rows caller true old.network) (old_gateway_in_use rows caller old new)))
+    (sym (first_joined ((bad_versions old.prefix.base form) ∷ (bad_subnet new.prefix new.gateway new.pools) ∷ (bad_dhcp form old) ∷ []) ((network_owner rows caller true old.network) ∷ (old_gateway_in_use rows caller old new) ∷ [])))
     (passed_first (change_refusal form old new) (standing_refusal rows caller old new) c.check_standing.result c.in_ok-check_change.ensures c.check_standing.ensures)

@@ -2,23 +2,23 @@ use Rattle.std.proofs.Common.{◌∙◌, ◌≡◌, ap, sym}
 use Rattle.plane_types.specs.declared.ask.LabAnswer.TheVariants.{Seen}
 use Rattle.plane_types.specs.declared.ask.LabCall.TheVariants.{Frames}
 use Rattle.lab_world.specs.Lab.{Answered, lab_outcome}
-use Rattle.lab_world.proofs.HostLaws.{frames_cross, frames_mean}
+use Rattle.lab_world.proofs.FrameLaws.{answer_crosses, answer_means}
 use Rattle.lab_world.proofs.world.World.handle.Goals as goal
 
 pub returns-in-Ok-answer_lab-clause-frames : goal.returns-in-Ok-answer_lab-clause-frames
-returns-in-Ok-answer_lab-clause-frames g c = λ event verdict is done.
+returns-in-Ok-answer_lab-clause-frames g c = λ event verdict is done synced.
     let handled = c.in-Ok-answer_lab.ensures.ok in
     let asked = c.in-Lab.is in
     let call_is : c.in-Lab.call ≡ Frames event = cc in
     let answer_is : c.in-Ok-answer_lab.answer ≡ Seen verdict = cc in
-    frames_mean c.args.self.now c.args.caller.now event verdict handled.tells.0 c.rows-held.ensures.held
-    (ap (lab_outcome c.args.self.now c.args.caller.now) (sym call_is) ∙ handled.tells.1 ∙ ap (λ a. Answered a handled.tells.0) answer_is)
+    answer_means c.args.self.now handled.tells.0 c.args.caller.now event verdict c.rows-world.ensures.world
+    (ap (lab_outcome c.args.self.now c.args.caller.now) (sym call_is) ∙ handled.tells.1 ∙ ap (λ a. Answered a handled.tells.0) answer_is) synced
 
 pub returns-in-Ok-answer_lab-clause-crosses : goal.returns-in-Ok-answer_lab-clause-crosses
-returns-in-Ok-answer_lab-clause-crosses g c = λ event verdict is done.
+returns-in-Ok-answer_lab-clause-crosses g c = λ event verdict is done synced.
     let handled = c.in-Ok-answer_lab.ensures.ok in
     let asked = c.in-Lab.is in
     let call_is : c.in-Lab.call ≡ Frames event = cc in
     let answer_is : c.in-Ok-answer_lab.answer ≡ Seen verdict = cc in
-    frames_cross c.args.self.now c.args.caller.now event verdict handled.tells.0 c.rows-held.ensures.held
-    (ap (lab_outcome c.args.self.now c.args.caller.now) (sym call_is) ∙ handled.tells.1 ∙ ap (λ a. Answered a handled.tells.0) answer_is)
+    answer_crosses c.args.self.now handled.tells.0 c.args.caller.now event verdict c.rows-world.ensures.world
+    (ap (lab_outcome c.args.self.now c.args.caller.now) (sym call_is) ∙ handled.tells.1 ∙ ap (λ a. Answered a handled.tells.0) answer_is) synced

@@ -1,0 +1,186 @@
+//! The last changes, each under its number.
+
+ghost use Rattle.std.specs.Prelude.{◌≡◌, ◌+◌, ◌-◌, ◌^◌, ◌<◌, ◌≤◌, [], IfErr, IfOk, Some};
+ghost use Rattle.bus_core.specs.Kept.{IsGone, change_of, first_of, with_newest};
+
+use api_types::Change;
+use circular_buffer::HeapCircularBuffer;
+use net_addr::OutOfMemory;
+use std::alloc::Global;
+use std::marker::Model;
+
+// So many changes are kept.
+const MOST_KEPT: usize = 1024;
+
+/// The last 1,024 changes, each under its number. Contracts see the number of the last one, and the
+/// changes from the oldest on.
+#[derive(Drop)]
+pub struct Bus {
+    changes: HeapCircularBuffer<Change>,
+    last: u64,
+}
+
+impl Model for Bus {
+    ghost use Rattle.std.specs.Prelude.{◌≡◌};
+    ghost use Rattle.bus_core.specs.Kept.{AreLast, Kept, most_kept};
+
+    ghost Value = { Kept };
+
+    ghost view = { λ b. record { last = b.last; changes = b.changes.items } };
+
+    ghost invariant = { λ b.
+        (b.changes.capacity ≡ most_kept)
+        × AreLast (record { last = b.last; changes = b.changes.items }) };
+}
+
+/// No change is kept under this number. Where none is kept at all, `first` is one above `last`.
+#[derive(Clone, Copy, Debug, PartialEq, Eq)]
+pub struct Gone {
+    /// The number of the first change that is kept.
+    pub first: u64,
+    /// The number of the last change, or 0 where there was none.
+    pub last: u64,
+    /// The number that was asked for.
+    pub asked: u64,
+}
+
+impl Bus {
+    /// No changes. The first will have the number 1. It takes the room for all that will be kept.
+    pub fn make(alloc: Global) -> Result<Bus, OutOfMemory>
+        ensures { IfOk result (λ b. b ≡ record { last = 0; changes = [] }) }
+    {
+        Ok(Bus {
+            changes: HeapCircularBuffer::with_capacity(alloc, MOST_KEPT)?,
+            last: 0,
+        })
+    }
+
+    /// Keeps a change under the next number, which is the answer. Of more than 1,024 the oldest
+    /// goes. It takes no memory.
+    pub fn push(&mut self, change: Change) -> u64
+        requires { self.old.last < 2 ^ 64 - 1 }
+        ensures number { result ≡ self.old.last + 1 }
+        ensures bus { self.new
+            ≡ record {
+              last = self.old.last + 1;
+              changes = with_newest self.old.changes change;
+            } }
+    {
+        let _oldest = self.changes.push_back(change);
+        self.last += 1;
+        self.last
+    }
+
+    /// The number of the last change, or 0 where there was none.
+    pub fn last(&self) -> u64
+        ensures { result ≡ self.now.last }
+    {
+        self.last
+    }
+
+    /// The change under this number, or that none is kept under it.
+    pub fn get(&self, number: u64) -> Result<&Change, Gone>
+        ensures ok { IfOk result
+            (λ c. change_of self.now.last self.now.changes number ≡ Some c.now) }
+        ensures err { IfErr result
+            (λ g. g
+            ≡ record {
+              first = first_of self.now.last self.now.changes;
+              last = self.now.last;
+              asked = number;
+            }) }
+        ensures gone { IfErr result (λ g. IsGone self.now number) }
+    {
+        let gone = self.last - self.changes.len() as u64;
+        if number > gone {
+            if let Some(change) = self.changes.get((number - gone - 1) as usize) {
+                return Ok(change);
+            }
+        }
+        Err(Gone {
+            first: gone + 1,
+            last: self.last,
+            asked: number,
+        })
+    }
+}
+
+#[cfg(test)]
+mod tests {
+    use super::*;
+    use api_types::{Item, Kind};
+    use net_addr::Seq;
+    use std::test::Fail;
+
+    // After so many changes one is asked for by its number.
+    #[derive(Clone, Copy)]
+    struct Asked {
+        many: u64,
+        number: u64,
+        // The first that is kept.
+        first: u64,
+        is_kept: bool,
+    }
+
+    const fn row(many: u64, number: u64, first: u64, is_kept: bool) -> Asked {
+        Asked {
+            many,
+            number,
+            first,
+            is_kept,
+        }
+    }
+
+    // So many changes, of which the n-th has one item, at place n.
+    fn bus_of(alloc: Global, many: u64) -> Result<Bus, OutOfMemory> {
+        let mut bus = Bus::make(alloc)?;
+        for _ in 0..many {
+            let last = bus.last();
+            if last < many {
+                let mut change = Seq::new(alloc);
+                change.push(Item {
+                    kind: Kind::Network,
+                    place: last as usize + 1,
+                    before: None,
+                    after: None,
+                })?;
+                bus.push(change);
+            }
+        }
+        Ok(bus)
+    }
+
+    #[test]
+    fn last_ones(rt: HostRuntime) -> Result<(), Fail> {
+        let rows = [
+            row(0, 0, 1, false),
+            row(0, 1, 1, false),
+            row(1, 1, 1, true),
+            row(1, 2, 1, false),
+            row(1024, 1, 1, true),
+            row(1025, 1, 2, false),
+            row(1025, 2, 2, true),
+            row(1025, 1025, 2, true),
+        ];
+        for told in &rows {
+            let bus = bus_of(rt.alloc(), told.many)?;
+            match bus.get(told.number) {
+                Ok(change) => {
+                    let [item] = change.as_slice() else {
+                        return Err(Fail::new("one item"));
+                    };
+                    assert!(rt; told.is_kept && item.place as u64 == told.number);
+                }
+                Err(gone) => {
+                    let expected = Gone {
+                        first: told.first,
+                        last: told.many,
+                        asked: told.number,
+                    };
+                    assert!(rt; !told.is_kept && gone == expected);
+                }
+            }
+        }
+        Ok(())
+    }
+}

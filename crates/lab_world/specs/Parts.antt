@@ -1,0 +1,22 @@
+-- A server's world by its parts in code.
+use Rattle.std.specs.Prelude.{◌≡◌, ℕ, Bool, List, map}
+use Rattle.api_types.specs.RowLists.{RowLists}
+use Rattle.net_settings.specs.Settings.{SettingsParts}
+use Rattle.plane_types.specs.Node.{Node}
+use Rattle.bus_core.specs.Kept.{Kept}
+use Rattle.world_laws.specs.Agents.{agent_of}
+use Rattle.world_laws.specs.Lead.{IsWorld}
+use Rattle.world_laws.specs.World.{World}
+
+abbrev pub world_seen : SettingsParts → RowLists → ℕ → Kept → List Node → Bool → World
+world_seen settings rows version kept nodes manual = record {
+  settings = settings;
+  manual = manual;
+  history = record { rows = rows; version = version; kept = kept.changes };
+  agents = map agent_of nodes;
+}
+
+-- what is true between any two calls
+pub record AreParts (settings : SettingsParts) (rows : RowLists) (version : ℕ) (kept : Kept) (nodes : List Node) (manual : Bool) : Type 0 where
+  pub world : IsWorld (world_seen settings rows version kept nodes manual)
+  pub numbered : kept.last ≡ version

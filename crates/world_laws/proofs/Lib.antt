@@ -1,0 +1,7 @@
+pub mod Lists
+pub mod HostNames
+pub mod AgentLaw
+pub mod StepLaw
+pub mod MeaningLaw
+pub mod LeftOut
+pub mod AlikeLaw

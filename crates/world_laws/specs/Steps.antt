@@ -1,0 +1,87 @@
+-- The steps of the world. What a step isn't said to change stays.
+use Rattle.std.specs.Prelude.{ℕ, suc, ◌+◌, ◌==◌, Bool, true, false, List, [], ◌∷◌, ◌++◌, Option, Some, None, map, ⊤, if◌then◌else◌}
+use Rattle.std.specs.List.{filter_map, list_any}
+use Rattle.std.specs.Option.{option_eq}
+use Rattle.std.specs.Str.{bytes_eq}
+use Rattle.api_types.specs.Rows.{Fits, after}
+use Rattle.api_types.specs.declared.change.Item.{Item}
+use Rattle.plane_types.specs.Told.{fabric_verdict, made_at}
+use Rattle.plane_types.specs.declared.event.Event.{Event}
+use Rattle.plane_types.specs.declared.verdict.Made.{Made}
+use Rattle.world_laws.specs.Agents.{Agent, forgotten, restarted, rewired, told}
+use Rattle.bus_core.specs.History.{History, accepted, change_at}
+use Rattle.world_laws.specs.World.{AreSound, World, seats}
+
+pub data Step : Type 0 where
+  -- a change is accepted; in automatic delivery each host is told it but those of these names, which found no memory
+  Accept : List (List ℕ) → List Item → Step
+  -- a host is told the change with a number
+  Deliver : List ℕ → ℕ → Step
+  Resync : List ℕ → Step
+  Restart : List ℕ → Step
+  Forget : List ℕ → Step
+  Settle : Step
+  Send : Event → Step
+
+abbrev pub is_among : List (List ℕ) → List ℕ → Bool
+is_among names name = list_any (bytes_eq name) names
+
+-- the host of this name alone
+abbrev pub at_host : List ℕ → (Agent → Agent) → List Agent → List Agent
+at_host name f agents = map (λ (a : Agent). if bytes_eq name a.name then f a else a) agents
+
+-- each host but those that are left out, in order
+abbrev pub tell_all : List (List ℕ) → ℕ → List Item → List Agent → List Agent
+tell_all left_out n c agents = map (λ (a : Agent). if is_among left_out a.name then a else told n c a) agents
+
+abbrev pub deliver_by : Bool → List (List ℕ) → ℕ → List Item → List Agent → List Agent
+deliver_by true left_out n c agents = agents
+deliver_by false left_out n c agents = tell_all left_out n c agents
+
+abbrev pub accept : World → List (List ℕ) → List Item → World
+accept w left_out c = record w { history = accepted w.history c; agents = deliver_by w.manual left_out (w.history.version + 1) c w.agents }
+
+-- a change that is no longer kept, or not yet, reaches nobody
+abbrev pub deliver_kept : World → List ℕ → ℕ → Option (List Item) → World
+deliver_kept w name n None = w
+deliver_kept w name n (Some c) = record w { agents = at_host name (told n c) w.agents }
+
+abbrev pub holds : ℕ → Option ℕ → Bool
+holds version held = option_eq (λ a b. a == b) held (Some version)
+
+-- given the rows of now, where they aren't held
+abbrev pub settled : History → Agent → Agent
+settled h a = if holds h.version a.held then a else rewired h.version h.rows a
+
+-- each entry that an event made is added at the host that made it
+abbrev pub add_from : ℕ → List Agent → List Made → List Agent
+add_from place [] fresh = []
+add_from place (a ∷ rest) fresh = record a { entries = a.entries ++ filter_map (made_at place) fresh } ∷ add_from (suc place) rest fresh
+
+abbrev pub step : World → Step → World
+step w (Accept left_out c) = accept w left_out c
+step w (Deliver name n) = deliver_kept w name n (change_at w.history n)
+step w (Resync name) = record w { agents = at_host name (rewired w.history.version w.history.rows) w.agents }
+step w (Restart name) = record w { agents = at_host name restarted w.agents }
+step w (Forget name) = record w { agents = at_host name forgotten w.agents }
+step w Settle = record w { agents = map (settled w.history) w.agents }
+step w (Send event) = record w { agents = add_from 0 w.agents (fabric_verdict (seats w) event).fresh }
+
+-- an accepted change fits the rows and leads to sound ones; the other steps are free
+abbrev pub May : World → Step → Type 0
+May w (Accept left_out c) = Fits w.history.rows c × AreSound w.settings (after w.history.rows c)
+May w (Deliver name n) = ⊤
+May w (Resync name) = ⊤
+May w (Restart name) = ⊤
+May w (Forget name) = ⊤
+May w Settle = ⊤
+May w (Send event) = ⊤
+
+-- one after the other
+unfoldable pub run : World → List Step → World
+run w [] = w
+run w (s ∷ ss) = run (step w s) ss
+
+unfoldable pub MayRun : World → List Step → Type 0
+MayRun w [] = ⊤
+MayRun w (s ∷ ss) = May w s × MayRun (step w s) ss

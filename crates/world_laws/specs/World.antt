@@ -1,0 +1,43 @@
+-- The world: the settings and the delivery, the rows with the last changes that led to them, and each host's agents.
+use Rattle.std.specs.Prelude.{◌≡◌, Bool, List, Some, map}
+use Rattle.api_types.specs.Consistent.{IsConsistent}
+use Rattle.api_types.specs.Consistent.Carried.{AreCarried}
+use Rattle.api_types.specs.Lists.{Each}
+use Rattle.api_types.specs.RowLists.{RowLists}
+use Rattle.net_settings.specs.Settings.{SettingsParts}
+use Rattle.net_settings.specs.declared.settings.Host.{Host as Carrier}
+use Rattle.call_parts.specs.Typed.{AreTyped}
+use Rattle.api_ml2.specs.Carrying.{carries}
+use Rattle.plane_types.specs.Hosts.{Host}
+use Rattle.bus_core.specs.History.{History, history_from}
+use Rattle.world_laws.specs.Agents.{Agent, first_agent, seat}
+
+pub record World : Type 0 where
+  pub settings : SettingsParts
+  -- whether changes are delivered by hand alone
+  pub manual : Bool
+  pub history : History
+  -- in the order of the settings' hosts
+  pub agents : List Agent
+
+abbrev pub seats : World → List Host
+seats w = map seat w.agents
+
+-- consistent rows, as the types of their values have them, each bound port of which is on a host that can carry its network
+pub record AreSound (settings : SettingsParts) (rows : RowLists) : Type 0 where
+  pub consistent : IsConsistent rows
+  pub typed : AreTyped rows
+  pub carried : AreCarried (carries settings.hosts) rows.networks rows.ports
+
+-- each host of the settings holds the rows at version 0, and no change is kept
+abbrev pub opened : SettingsParts → Bool → RowLists → World
+opened settings manual rows = record {
+  settings = settings;
+  manual = manual;
+  history = history_from rows 0;
+  agents = map (λ (d : Carrier). first_agent rows 0 d.name) settings.hosts;
+}
+
+-- every host holds the version of now
+abbrev pub IsSynced : World → Type 0
+IsSynced w = Each (λ (a : Agent). a.held ≡ Some w.history.version) w.agents
