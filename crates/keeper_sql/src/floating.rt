@@ -3,7 +3,7 @@
 use crate::column::{four_at, four_if, id_at, id_if, text_at};
 use crate::stored::{Stored, delete_by_id};
 use crate::trouble::Trouble;
-use api_types::{FloatingRow, Id, Rows, Target};
+use api_types::{FloatingRow, Id, Target};
 use net_addr::{Addr4, OutOfMemory, Text};
 use sqlite::{Alter, Row, Transaction, params};
 use std::alloc::Global;
@@ -117,9 +117,5 @@ impl Stored for FloatingRow {
             address,
             target,
         })
-    }
-
-    fn add(self, alloc: Global, rows: &mut Rows) -> Result<bool, OutOfMemory> {
-        rows.add_floating(alloc, self)
     }
 }

@@ -3,8 +3,7 @@
 use crate::column::{flag_at, id_at, text_at};
 use crate::stored::{Stored, delete_by_id};
 use crate::trouble::Trouble;
-use api_types::{GroupRow, Rows};
-use net_addr::OutOfMemory;
+use api_types::GroupRow;
 use sqlite::{Alter, Row, Transaction, params};
 use std::alloc::Global;
 
@@ -62,9 +61,5 @@ impl Stored for GroupRow {
             description,
             is_default,
         })
-    }
-
-    fn add(self, alloc: Global, rows: &mut Rows) -> Result<bool, OutOfMemory> {
-        rows.add_group(alloc, self)
     }
 }

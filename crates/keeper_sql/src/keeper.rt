@@ -4,8 +4,9 @@ ghost use Rattle.std.specs.Prelude.{◌≡◌, ◌≤◌, None};
 ghost use Rattle.keeper_core.specs.Counts.{RoseBy};
 ghost use Rattle.keeper_core.specs.declared.refusal.OutsideRefusal.TheVariants.{Failed as HasFailed};
 
+use crate::lifting::lift_store;
 use crate::stored::read_all;
-use crate::tables::make_tables;
+use crate::tables::{Format, make_tables};
 use crate::trouble::Trouble;
 use crate::{floating, group, network, policy, port, project, router, rule, subnet};
 use api_types::{
@@ -110,31 +111,36 @@ fn write_change<S: Alter>(
 }
 
 // All rows, in the order of their kinds.
-fn read_kinds<S: Alter>(
-    alloc: Global,
-    from: &mut Transaction<'_, S>,
-    rows: &mut Rows,
-) -> Result<(), Trouble> {
-    read_all::<ProjectRow, S>(alloc, from, rows)?;
-    read_all::<NetworkRow, S>(alloc, from, rows)?;
-    read_all::<SubnetRow, S>(alloc, from, rows)?;
-    read_all::<PortRow, S>(alloc, from, rows)?;
-    read_all::<GroupRow, S>(alloc, from, rows)?;
-    read_all::<RuleRow, S>(alloc, from, rows)?;
-    read_all::<RouterRow, S>(alloc, from, rows)?;
-    read_all::<FloatingRow, S>(alloc, from, rows)?;
-    read_all::<PolicyRow, S>(alloc, from, rows)
+fn read_kinds<S: Alter>(alloc: Global, from: &mut Transaction<'_, S>) -> Result<Rows, Trouble> {
+    let mut rows = Rows::empty(alloc)?;
+    read_all::<ProjectRow, Rows, S>(alloc, from, &mut rows)?;
+    read_all::<NetworkRow, Rows, S>(alloc, from, &mut rows)?;
+    read_all::<SubnetRow, Rows, S>(alloc, from, &mut rows)?;
+    read_all::<PortRow, Rows, S>(alloc, from, &mut rows)?;
+    read_all::<GroupRow, Rows, S>(alloc, from, &mut rows)?;
+    read_all::<RuleRow, Rows, S>(alloc, from, &mut rows)?;
+    read_all::<RouterRow, Rows, S>(alloc, from, &mut rows)?;
+    read_all::<FloatingRow, Rows, S>(alloc, from, &mut rows)?;
+    read_all::<PolicyRow, Rows, S>(alloc, from, &mut rows)?;
+    Ok(rows)
 }
 
-// The rows, of one transaction, which makes the tables where there are none.
+// The rows of a store, which is of the format of today behind it.
+fn read_format<S: Alter>(alloc: Global, from: &mut Transaction<'_, S>) -> Result<Rows, Trouble> {
+    match make_tables(from)? {
+        Format::One => lift_store(alloc, from),
+        Format::Two => read_kinds(alloc, from),
+    }
+}
+
+// The rows, of one transaction, which makes the tables where there are none, and writes those of a
+// store of format 1 as of format 2.
 fn read_rows<S: Alter>(alloc: Global, conn: &mut Connection<S>) -> Result<Rows, Trouble> {
     if !conn.is_autocommit() {
         return Err(Trouble::from(IN_TRANSACTION));
     }
     let mut from = conn.transaction();
-    make_tables(&mut from)?;
-    let mut rows = Rows::empty(alloc)?;
-    read_kinds(alloc, &mut from, &mut rows)?;
+    let rows = read_format(alloc, &mut from)?;
     from.commit()?;
     Ok(rows)
 }

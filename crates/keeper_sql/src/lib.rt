@@ -1,19 +1,24 @@
 //! Rows kept in a database of SQLite.
 //!
 //! `SqlKeeper` is a `Keeper` over any store of the crate `sqlite`: a table for each kind, with a
-//! column for each field under the API's name, and a table `format` with the one number 2. A change
-//! is one transaction. Contracts say of it that a failure is counted, and nothing of what it holds:
-//! that it loads what it applied is tested. The crate stands on `api_types`, `keeper_core`,
-//! `serde_json` and `sqlite`.
+//! column for each field under the API's name, and a table `format` with the one number 2. A
+//! change is one transaction. A store of format 1, in which all addresses are of version 4, is
+//! lifted when it is loaded. Contracts say of it that a failure is counted, and nothing of what it
+//! holds: that it loads what it applied is tested. The crate stands on `net_addr`, `api_types`,
+//! `old_rows`, `keeper_core`, `serde_json` and `sqlite`.
 #![tactic(auto)]
 
+mod adding;
 mod address;
 mod column;
 mod floating;
 mod group;
 mod keeper;
+mod lifting;
 mod listed;
 mod network;
+mod old_listed;
+mod old_stored;
 mod policy;
 mod port;
 mod project;

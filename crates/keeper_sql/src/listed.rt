@@ -12,16 +12,19 @@ use serde_json::Value;
 use sqlite::Row;
 use std::alloc::Global;
 
-/// What stands in a list.
-pub(crate) trait Listed: Sized + Drop {
-    /// Writes it as JSON. It has no character that JSON escapes.
-    fn write(&self, alloc: Global, out: &mut String) -> Result<(), OutOfMemory>;
-
-    /// What the JSON says.
+/// What a value of JSON spells.
+pub(crate) trait Spelled: Sized + Drop {
     fn read(value: &Value) -> Option<Self>;
 }
 
-fn text_in<'v>(value: &'v Value, name: &str) -> Option<&'v [u8]> {
+/// What stands in a list that is written.
+pub(crate) trait Listed: Spelled {
+    /// Writes it as JSON. It has no character that JSON escapes.
+    fn write(&self, alloc: Global, out: &mut String) -> Result<(), OutOfMemory>;
+}
+
+/// The text of a member.
+pub(crate) fn text_in<'v>(value: &'v Value, name: &str) -> Option<&'v [u8]> {
     match value.get(name)?.as_str() {
         Some(text) => Some(text.as_bytes()),
         None => None,
@@ -59,7 +62,9 @@ impl Listed for Id {
     fn write(&self, alloc: Global, out: &mut String) -> Result<(), OutOfMemory> {
         push_quoted(out, &self.print(alloc)?)
     }
+}
 
+impl Spelled for Id {
     fn read(value: &Value) -> Option<Id> {
         id_of(value.as_str()?.as_bytes())
     }
@@ -69,7 +74,9 @@ impl Listed for Addr {
     fn write(&self, alloc: Global, out: &mut String) -> Result<(), OutOfMemory> {
         push_quoted(out, &self.print(alloc)?)
     }
+}
 
+impl Spelled for Addr {
     fn read(value: &Value) -> Option<Addr> {
         address_of(value.as_str()?.as_bytes())
     }
@@ -93,7 +100,9 @@ impl Listed for Span {
         let last = self.last.print(alloc)?;
         push_pair(out, ("start", "end"), &first, &last)
     }
+}
 
+impl Spelled for Span {
     fn read(value: &Value) -> Option<Span> {
         let first = address_of(text_in(value, "start")?)?;
         let last = address_of(text_in(value, "end")?)?;
@@ -111,7 +120,9 @@ impl Listed for Hop {
         let next = self.next.print(alloc)?;
         push_pair(out, ("destination", "nexthop"), &destination, &next)
     }
+}
 
+impl Spelled for Hop {
     fn read(value: &Value) -> Option<Hop> {
         let destination = prefix_of(text_in(value, "destination")?)?;
         let next = address_of(text_in(value, "nexthop")?)?;
@@ -125,7 +136,9 @@ impl Listed for Fixed {
         let address = self.address.print(alloc)?;
         push_pair(out, ("subnet_id", "ip_address"), &subnet, &address)
     }
+}
 
+impl Spelled for Fixed {
     fn read(value: &Value) -> Option<Fixed> {
         let subnet = id_of(text_in(value, "subnet_id")?)?;
         let address = address_of(text_in(value, "ip_address")?)?;
@@ -139,7 +152,9 @@ impl Listed for Pair {
         let prefix = self.prefix.print(alloc)?;
         push_pair(out, ("mac_address", "ip_address"), &mac, &prefix)
     }
+}
 
+impl Spelled for Pair {
     fn read(value: &Value) -> Option<Pair> {
         let mac = mac_of(text_in(value, "mac_address")?)?;
         let prefix = prefix_of(text_in(value, "ip_address")?)?;
@@ -161,7 +176,7 @@ pub(crate) fn list_text<T: Listed>(alloc: Global, items: &Seq<T>) -> Result<Stri
     Ok(out)
 }
 
-fn list_of<T: Listed>(alloc: Global, values: &[Value]) -> Result<Seq<T>, Trouble> {
+fn list_of<T: Spelled>(alloc: Global, values: &[Value]) -> Result<Seq<T>, Trouble> {
     let mut items = Seq::new(alloc);
     for value in values {
         match T::read(value) {
@@ -186,7 +201,7 @@ fn value_of(alloc: Global, text: &[u8]) -> Result<Value, Trouble> {
 }
 
 /// The list that a column spells.
-pub(crate) fn list_at<T: Listed>(alloc: Global, row: &Row, at: usize) -> Result<Seq<T>, Trouble> {
+pub(crate) fn list_at<T: Spelled>(alloc: Global, row: &Row, at: usize) -> Result<Seq<T>, Trouble> {
     let value = value_of(alloc, bytes_at(row, at)?)?;
     match value.as_array() {
         Some(values) => list_of(alloc, values.as_slice()),

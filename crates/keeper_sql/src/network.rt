@@ -3,8 +3,8 @@
 use crate::column::{flag_at, id_at, text_at, text_if};
 use crate::stored::{Stored, delete_by_id};
 use crate::trouble::Trouble;
-use api_types::{NetworkRow, Rows, Segment};
-use net_addr::{OutOfMemory, Text};
+use api_types::{NetworkRow, Segment};
+use net_addr::Text;
 use sqlite::{Alter, Row, Transaction, params};
 use std::alloc::Global;
 
@@ -101,9 +101,5 @@ impl Stored for NetworkRow {
             up,
             segment,
         })
-    }
-
-    fn add(self, alloc: Global, rows: &mut Rows) -> Result<bool, OutOfMemory> {
-        rows.add_network(alloc, self)
     }
 }

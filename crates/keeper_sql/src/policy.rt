@@ -3,8 +3,7 @@
 use crate::column::{bytes_at, id_at, text_at};
 use crate::stored::{Stored, delete_by_id};
 use crate::trouble::Trouble;
-use api_types::{Action, PolicyRow, Rows};
-use net_addr::OutOfMemory;
+use api_types::{Action, PolicyRow};
 use sqlite::{Alter, Row, Transaction, params};
 use std::alloc::Global;
 
@@ -74,9 +73,5 @@ impl Stored for PolicyRow {
             action,
             target,
         })
-    }
-
-    fn add(self, alloc: Global, rows: &mut Rows) -> Result<bool, OutOfMemory> {
-        rows.add_policy(alloc, self)
     }
 }

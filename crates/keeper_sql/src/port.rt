@@ -4,8 +4,7 @@ use crate::column::{bytes_at, flag_at, id_at, mac_at, text_at};
 use crate::listed::{list_at, list_text};
 use crate::stored::{Stored, delete_by_id};
 use crate::trouble::Trouble;
-use api_types::{PortRow, Rows, Vif};
-use net_addr::OutOfMemory;
+use api_types::{PortRow, Vif};
 use sqlite::{Alter, Row, Transaction, params};
 use std::alloc::Global;
 
@@ -30,7 +29,8 @@ fn vif_word(vif: Vif) -> &'static str {
     }
 }
 
-fn vif_at(row: &Row, at: usize) -> Result<Vif, Trouble> {
+/// How a port is bound.
+pub(crate) fn vif_at(row: &Row, at: usize) -> Result<Vif, Trouble> {
     match bytes_at(row, at)? {
         b"unbound" => Ok(Vif::Unbound),
         b"binding_failed" => Ok(Vif::Failed),
@@ -125,9 +125,5 @@ impl Stored for PortRow {
             vif,
             by_admin,
         })
-    }
-
-    fn add(self, alloc: Global, rows: &mut Rows) -> Result<bool, OutOfMemory> {
-        rows.add_port(alloc, self)
     }
 }

@@ -3,8 +3,7 @@
 use crate::column::text_at;
 use crate::stored::Stored;
 use crate::trouble::Trouble;
-use api_types::{ProjectRow, Rows};
-use net_addr::OutOfMemory;
+use api_types::ProjectRow;
 use sqlite::{Alter, Row, Transaction, params};
 use std::alloc::Global;
 
@@ -55,9 +54,5 @@ impl Stored for ProjectRow {
             ordinal,
             count,
         })
-    }
-
-    fn add(self, alloc: Global, rows: &mut Rows) -> Result<bool, OutOfMemory> {
-        rows.add_project(alloc, self)
     }
 }

@@ -4,7 +4,7 @@ use crate::column::{flag_at, flag_if, id_at, id_if, text_at, text_if};
 use crate::listed::{list_at, list_text};
 use crate::stored::{Stored, delete_by_id};
 use crate::trouble::Trouble;
-use api_types::{Gateway, Id, RouterRow, Rows};
+use api_types::{Gateway, Id, RouterRow};
 use net_addr::{OutOfMemory, Text};
 use sqlite::{Alter, Row, Transaction, params};
 use std::alloc::Global;
@@ -76,8 +76,8 @@ pub(crate) fn delete<S: Alter>(
     delete_by_id(alloc, to, "DELETE FROM routers WHERE id = ?1", row.id)
 }
 
-// A gateway has all three columns, and no gateway none.
-fn gateway_of(
+/// The gateway that the columns spell: all three are there, or none.
+pub(crate) fn gateway_of(
     network: Option<Id>,
     port: Option<Id>,
     snat: Option<bool>,
@@ -118,9 +118,5 @@ impl Stored for RouterRow {
             gateway,
             routes,
         })
-    }
-
-    fn add(self, alloc: Global, rows: &mut Rows) -> Result<bool, OutOfMemory> {
-        rows.add_router(alloc, self)
     }
 }

@@ -3,7 +3,7 @@
 use crate::column::{byte_if, bytes_at, id_at, id_if, prefix_if, short_if, text_at};
 use crate::stored::{Stored, delete_by_id};
 use crate::trouble::Trouble;
-use api_types::{Direction, Ethertype, Id, Rows, RuleRow};
+use api_types::{Direction, Ethertype, Id, RuleRow};
 use net_addr::{OutOfMemory, Prefix, Text};
 use sqlite::{Alter, Row, Transaction, params};
 use std::alloc::Global;
@@ -25,7 +25,8 @@ fn direction_word(direction: Direction) -> &'static str {
     }
 }
 
-fn direction_at(row: &Row, at: usize) -> Result<Direction, Trouble> {
+/// A direction.
+pub(crate) fn direction_at(row: &Row, at: usize) -> Result<Direction, Trouble> {
     match bytes_at(row, at)? {
         b"ingress" => Ok(Direction::Ingress),
         b"egress" => Ok(Direction::Egress),
@@ -40,7 +41,8 @@ fn ethertype_word(ethertype: Ethertype) -> &'static str {
     }
 }
 
-fn ethertype_at(row: &Row, at: usize) -> Result<Ethertype, Trouble> {
+/// A version of IP.
+pub(crate) fn ethertype_at(row: &Row, at: usize) -> Result<Ethertype, Trouble> {
     match bytes_at(row, at)? {
         b"IPv4" => Ok(Ethertype::Ipv4),
         b"IPv6" => Ok(Ethertype::Ipv6),
@@ -137,9 +139,5 @@ impl Stored for RuleRow {
             remote_prefix,
             remote_group,
         })
-    }
-
-    fn add(self, alloc: Global, rows: &mut Rows) -> Result<bool, OutOfMemory> {
-        rows.add_rule(alloc, self)
     }
 }

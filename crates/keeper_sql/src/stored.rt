@@ -1,7 +1,7 @@
 //! A kind of rows in the store.
 
 use crate::trouble::Trouble;
-use api_types::{Id, Rows};
+use api_types::Id;
 use net_addr::OutOfMemory;
 use sqlite::{Alter, Row, Transaction, params};
 use std::alloc::Global;
@@ -13,9 +13,12 @@ pub(crate) trait Stored: Sized + Drop {
 
     /// The row that the columns of the query spell.
     fn read(alloc: Global, row: &Row) -> Result<Self, Trouble>;
+}
 
+/// A row of a kind that is kept among others, of today or of a store of format 1.
+pub(crate) trait AddedTo<K>: Stored {
     /// Adds it last, where none has its id, and tells whether it did.
-    fn add(self, alloc: Global, rows: &mut Rows) -> Result<bool, OutOfMemory>;
+    fn add_to(self, alloc: Global, kept: &mut K) -> Result<bool, OutOfMemory>;
 }
 
 // A row that was added, where its id was new.
@@ -24,15 +27,15 @@ fn unless_twice(is_new: bool) -> Result<(), Trouble> {
 }
 
 /// Adds all rows of a kind, one at a time.
-pub(crate) fn read_all<R: Stored, S: Alter>(
+pub(crate) fn read_all<R: AddedTo<K>, K, S: Alter>(
     alloc: Global,
     from: &mut Transaction<'_, S>,
-    rows: &mut Rows,
+    kept: &mut K,
 ) -> Result<(), Trouble> {
     let mut found = from.query(R::select(), &[])?;
     for _ in 0..u64::MAX {
         match found.next()? {
-            Some(row) => unless_twice(R::read(alloc, row)?.add(alloc, rows)?)?,
+            Some(row) => unless_twice(R::read(alloc, row)?.add_to(alloc, kept)?)?,
             None => return Ok(()),
         }
     }

@@ -4,7 +4,7 @@ use crate::column::{address_if, bytes_if, flag_at, id_at, prefix_at, text_at};
 use crate::listed::{list_at, list_text};
 use crate::stored::{Stored, delete_by_id};
 use crate::trouble::Trouble;
-use api_types::{Ipv6Mode, Rows, SubnetRow};
+use api_types::{Ipv6Mode, SubnetRow};
 use net_addr::{Addr, OutOfMemory, Text};
 use sqlite::{Alter, Row, Transaction, params};
 use std::alloc::Global;
@@ -131,9 +131,5 @@ impl Stored for SubnetRow {
             dns,
             host_routes,
         })
-    }
-
-    fn add(self, alloc: Global, rows: &mut Rows) -> Result<bool, OutOfMemory> {
-        rows.add_subnet(alloc, self)
     }
 }

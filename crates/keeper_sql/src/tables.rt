@@ -1,10 +1,16 @@
-//! The tables, and the number of their format.
+//! The tables, and their format.
 
 use crate::trouble::Trouble;
-use sqlite::{Alter, Transaction, params};
+use sqlite::{Alter, Transaction};
 
-/// The number of the format.
-const FORMAT: i64 = 2;
+/// The formats of a store.
+#[derive(Clone, Copy, Debug, PartialEq, Eq)]
+pub(crate) enum Format {
+    /// All addresses are of version 4, and subnets have no modes.
+    One,
+    /// The format that is written.
+    Two,
+}
 
 const TABLES: &str = "CREATE TABLE format (number INTEGER NOT NULL) STRICT;
 CREATE TABLE projects (
@@ -23,22 +29,6 @@ CREATE TABLE networks (
     network_type TEXT NOT NULL,
     physical_network TEXT,
     segmentation_id INTEGER
-) STRICT;
-CREATE TABLE subnets (
-    place INTEGER PRIMARY KEY,
-    id TEXT NOT NULL UNIQUE,
-    project_id TEXT NOT NULL,
-    network_id TEXT NOT NULL,
-    name TEXT NOT NULL,
-    description TEXT NOT NULL,
-    cidr TEXT NOT NULL,
-    gateway_ip TEXT,
-    allocation_pools TEXT NOT NULL,
-    enable_dhcp INTEGER NOT NULL,
-    ipv6_address_mode TEXT,
-    ipv6_ra_mode TEXT,
-    dns_nameservers TEXT NOT NULL,
-    host_routes TEXT NOT NULL
 ) STRICT;
 CREATE TABLE ports (
     place INTEGER PRIMARY KEY,
@@ -115,6 +105,23 @@ CREATE TABLE rbac_policies (
     target_tenant TEXT NOT NULL
 ) STRICT;";
 
+const SUBNETS: &str = "CREATE TABLE subnets (
+    place INTEGER PRIMARY KEY,
+    id TEXT NOT NULL UNIQUE,
+    project_id TEXT NOT NULL,
+    network_id TEXT NOT NULL,
+    name TEXT NOT NULL,
+    description TEXT NOT NULL,
+    cidr TEXT NOT NULL,
+    gateway_ip TEXT,
+    allocation_pools TEXT NOT NULL,
+    enable_dhcp INTEGER NOT NULL,
+    ipv6_address_mode TEXT,
+    ipv6_ra_mode TEXT,
+    dns_nameservers TEXT NOT NULL,
+    host_routes TEXT NOT NULL
+) STRICT;";
+
 // Whether the store has a table of formats.
 fn has_format<S: Alter>(to: &mut Transaction<'_, S>) -> Result<bool, Trouble> {
     let rows = to.query_all(
@@ -124,32 +131,48 @@ fn has_format<S: Alter>(to: &mut Transaction<'_, S>) -> Result<bool, Trouble> {
     Ok(!rows.is_empty())
 }
 
-// The one number of the format.
-fn check_format<S: Alter>(to: &mut Transaction<'_, S>) -> Result<(), Trouble> {
-    let rows = to.query_all("SELECT number FROM format", &[])?;
-    match rows.as_slice() {
-        [row] => {
-            let number: i64 = row.get(0)?;
-            if number == FORMAT {
-                Ok(())
-            } else {
-                Err(Trouble::Fault)
-            }
-        }
+// Whether nothing stands in the store.
+fn is_bare<S: Alter>(to: &mut Transaction<'_, S>) -> Result<bool, Trouble> {
+    let rows = to.query_all("SELECT name FROM sqlite_schema", &[])?;
+    Ok(rows.is_empty())
+}
+
+// The format with a number, as a store says it.
+fn format_of(number: i64) -> Result<Format, Trouble> {
+    match number {
+        1 => Ok(Format::One),
+        2 => Ok(Format::Two),
         _ => Err(Trouble::Fault),
     }
 }
 
-fn write_format<S: Alter>(to: &mut Transaction<'_, S>) -> Result<(), Trouble> {
-    to.execute("INSERT INTO format (number) VALUES (?1)", params![FORMAT])?;
-    Ok(())
+// The one number of the format.
+fn read_format<S: Alter>(to: &mut Transaction<'_, S>) -> Result<Format, Trouble> {
+    let rows = to.query_all("SELECT number FROM format", &[])?;
+    match rows.as_slice() {
+        [row] => format_of(row.get(0)?),
+        _ => Err(Trouble::Fault),
+    }
 }
 
-/// Makes the tables, where there are none.
-pub(crate) fn make_tables<S: Alter>(to: &mut Transaction<'_, S>) -> Result<(), Trouble> {
+/// Makes the tables, where nothing stands in the store, and tells the format.
+pub(crate) fn make_tables<S: Alter>(to: &mut Transaction<'_, S>) -> Result<Format, Trouble> {
     if has_format(to)? {
-        return check_format(to);
+        return read_format(to);
+    }
+    if !is_bare(to)? {
+        return Err(Trouble::Fault);
     }
     to.execute_batch(TABLES)?;
-    write_format(to)
+    to.execute_batch(SUBNETS)?;
+    to.execute("INSERT INTO format (number) VALUES (2)", &[])?;
+    Ok(Format::Two)
+}
+
+/// Makes a store of format 1 one of format 2, without subnets.
+pub(crate) fn renew_tables<S: Alter>(to: &mut Transaction<'_, S>) -> Result<(), Trouble> {
+    to.execute_batch("DROP TABLE subnets")?;
+    to.execute_batch(SUBNETS)?;
+    to.execute("UPDATE format SET number = 2", &[])?;
+    Ok(())
 }

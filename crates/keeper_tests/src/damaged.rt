@@ -6,8 +6,19 @@ use sqlite::Connection;
 use std::alloc::Global;
 use std::test::Fail;
 
-/// Each leaves a value that spells no row, a wrong number of the format, or no table.
-const DAMAGES: [&str; 16] = [
+/// A table that lets two rows with one id in.
+const TWICE: &str = "DROP TABLE rbac_policies;
+CREATE TABLE rbac_policies (place INTEGER PRIMARY KEY, id TEXT, project_id TEXT, object_id TEXT,
+    action TEXT, target_tenant TEXT) STRICT;
+INSERT INTO rbac_policies (id, project_id, object_id, action, target_tenant) VALUES
+    ('00000001-0000-8000-8000-000000000001', 'a', '00000001-0000-8000-8000-000000000002',
+    'access_as_shared', '*'),
+    ('00000001-0000-8000-8000-000000000001', 'a', '00000001-0000-8000-8000-000000000003',
+    'access_as_shared', '*')";
+
+/// Each leaves a value that spells no row, a second row with one id, a wrong number of the format,
+/// or no table.
+const DAMAGES: [&str; 17] = [
     "UPDATE format SET number = 3",
     "DELETE FROM format",
     "INSERT INTO format (number) VALUES (2)",
@@ -24,6 +35,7 @@ const DAMAGES: [&str; 16] = [
     "UPDATE routers SET gateway_port_id = NULL",
     "UPDATE floating_ips SET router_id = NULL",
     "UPDATE rbac_policies SET action = 'access_as_owner'",
+    TWICE,
 ];
 
 // Whether a store with a row of each kind is refused, and the failure counted, behind the damage.
@@ -35,7 +47,7 @@ fn is_refused(alloc: Global, damage: &str) -> Result<bool, Fail> {
         return Ok(false);
     }
     let mut conn = keeper.into_conn();
-    conn.execute(damage, &[])?;
+    conn.execute_batch(damage)?;
     let mut keeper = SqlKeeper::make(conn);
     Ok(keeper.load(alloc).is_err() && keeper.faults() == 1)
 }
@@ -54,7 +66,7 @@ fn refuses_damaged_stores(rt: HostRuntime) -> Result<(), Fail> {
 fn refuses_another_database(rt: HostRuntime) -> Result<(), Fail> {
     let alloc = rt.alloc();
     let mut conn = Connection::open_in_memory(alloc)?;
-    conn.execute("CREATE TABLE ports (x TEXT) STRICT", &[])?;
+    conn.execute("CREATE TABLE songs (title TEXT) STRICT", &[])?;
     let mut keeper = SqlKeeper::make(conn);
     assert!(rt; keeper.load(alloc).is_err());
     assert_eq!(rt; keeper.faults(), 1);

@@ -1,4 +1,5 @@
-//! Tests of `keeper_sql`: what is applied is loaded, and a damaged database is refused.
+//! Tests of `keeper_sql`: what is applied is loaded, a store of format 1 is lifted, and a damaged
+//! database is refused.
 //!
 //! The rows are made by `test_rows`, and have the extremes of their columns. A crate with tests is
 //! proved twice, so they stand here, above `keeper_sql`, and not in it. It promises nothing by
@@ -7,6 +8,8 @@
 
 #[cfg(test)]
 mod damaged;
+#[cfg(test)]
+mod format_one;
 #[cfg(test)]
 mod kept;
 #[cfg(test)]

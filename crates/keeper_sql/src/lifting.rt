@@ -1,0 +1,49 @@
+//! Stores of format 1, in which all addresses are of version 4 and subnets have no modes.
+
+use crate::stored::read_all;
+use crate::subnet;
+use crate::tables::renew_tables;
+use crate::trouble::Trouble;
+use api_types::{FloatingRow, GroupRow, NetworkRow, PolicyRow, ProjectRow, Rows};
+use old_rows::{OldPort, OldRouter, OldRows, OldRule, OldSubnet, lift};
+use sqlite::{Alter, Transaction};
+use std::alloc::Global;
+
+// All rows, in the order of their kinds.
+fn read_old<S: Alter>(alloc: Global, from: &mut Transaction<'_, S>) -> Result<OldRows, Trouble> {
+    let mut old = OldRows::empty(alloc)?;
+    read_all::<ProjectRow, OldRows, S>(alloc, from, &mut old)?;
+    read_all::<NetworkRow, OldRows, S>(alloc, from, &mut old)?;
+    read_all::<OldSubnet, OldRows, S>(alloc, from, &mut old)?;
+    read_all::<OldPort, OldRows, S>(alloc, from, &mut old)?;
+    read_all::<GroupRow, OldRows, S>(alloc, from, &mut old)?;
+    read_all::<OldRule, OldRows, S>(alloc, from, &mut old)?;
+    read_all::<OldRouter, OldRows, S>(alloc, from, &mut old)?;
+    read_all::<FloatingRow, OldRows, S>(alloc, from, &mut old)?;
+    read_all::<PolicyRow, OldRows, S>(alloc, from, &mut old)?;
+    Ok(old)
+}
+
+// Only subnets have other columns than in format 1; a text of version 4 is what it was.
+fn write_subnets<S: Alter>(
+    alloc: Global,
+    to: &mut Transaction<'_, S>,
+    rows: &Rows,
+) -> Result<(), Trouble> {
+    for row in rows.subnets().rows() {
+        subnet::write(alloc, to, row.get())?;
+    }
+    Ok(())
+}
+
+/// The rows of a store of format 1, which is of format 2 behind it.
+pub(crate) fn lift_store<S: Alter>(
+    alloc: Global,
+    store: &mut Transaction<'_, S>,
+) -> Result<Rows, Trouble> {
+    let old = read_old(alloc, store)?;
+    let rows = lift(alloc, &old)?;
+    renew_tables(store)?;
+    write_subnets(alloc, store, &rows)?;
+    Ok(rows)
+}

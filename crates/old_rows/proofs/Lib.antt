@@ -1,0 +1,6 @@
+mod MapLemmas
+mod LiftLemmas
+mod LawNames
+mod LawForms
+mod LawPorts
+mod LawServices
