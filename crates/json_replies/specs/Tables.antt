@@ -71,18 +71,18 @@ abbrev pub bridge_tree : BridgeRow → Tree
 bridge_tree row = fields (
     (codes "mac", word (bridge_key_text row.key)) ∷ (codes "tag", number row.tag) ∷ (codes "to", bridge_to_tree row.to) ∷ [])
 
-abbrev pub vxlan_of : Carrier → Option ℕ
-vxlan_of (carrier.Tunnel n) = Some n
-vxlan_of (carrier.Wire wire) = None
-
 abbrev pub wire_of : Carrier → Option Wire
 wire_of (carrier.Tunnel n) = None
 wire_of (carrier.Wire wire) = Some wire
 
+-- the number of the tunnel, or that on the wire
+abbrev pub inward_number_tree : Carrier → Tree
+inward_number_tree (carrier.Tunnel n) = number n
+inward_number_tree (carrier.Wire wire) = number_tree (Some wire)
+
 abbrev pub inward_tree : InwardRow → Tree
 inward_tree row = fields (
-    (codes "number", number_tree (wire_of row.carrier)) ∷ (codes "physical", physical_tree (wire_of row.carrier))
-    ∷ (codes "tag", number row.tag) ∷ (codes "vxlan_number", or_null number (vxlan_of row.carrier)) ∷ [])
+    (codes "number", inward_number_tree row.carrier) ∷ (codes "physical", physical_tree (wire_of row.carrier)) ∷ (codes "tag", number row.tag) ∷ [])
 
 abbrev pub neighbour_tree : NeighbourRow → Tree
 neighbour_tree row = fields (

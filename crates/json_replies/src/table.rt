@@ -2,7 +2,7 @@
 ghost use Rattle.std.specs.Prelude.{◌≡◌, IfOk};
 ghost use Rattle.json_replies.specs.Printed.{or_null};
 ghost use Rattle.api_types.specs.Printed.{word, number};
-ghost use Rattle.json_replies.specs.Tables.{physical_tree, number_tree, tag_row_tree, pair_tree, tap_tree, filter_tree, set_tree, bridge_key_text, bridge_to_tree, bridge_tree, vxlan_of, wire_of, inward_tree, neighbour_tree, router_port_tree, router_tree, rank_word, route_tree, float_tree, lease_row_tree, tables_tree};
+ghost use Rattle.json_replies.specs.Tables.{physical_tree, number_tree, tag_row_tree, pair_tree, tap_tree, filter_tree, set_tree, bridge_key_text, bridge_to_tree, bridge_tree, inward_number_tree, wire_of, inward_tree, neighbour_tree, router_port_tree, router_tree, rank_word, route_tree, float_tree, lease_row_tree, tables_tree};
 
 use crate::frame::put;
 use crate::printed::Prints;
@@ -151,16 +151,6 @@ impl Prints for BridgeRow {
     }
 }
 
-// The number of VXLAN by which frames come.
-fn vxlan(carrier: &Carrier) -> Option<u32>
-    ensures { result ≡ vxlan_of carrier.now }
-{
-    match carrier {
-        Carrier::Tunnel(number) => Some(*number),
-        Carrier::Wire(_) => None,
-    }
-}
-
 // The physical network by which frames come.
 fn inward_physical(carrier: &Carrier) -> Option<&str>
     ensures { or_null (λ s. word s.now) result ≡ physical_tree (wire_of carrier.now) }
@@ -171,13 +161,16 @@ fn inward_physical(carrier: &Carrier) -> Option<&str>
     }
 }
 
-// The tag with which frames come.
-fn inward_number(carrier: &Carrier) -> Option<u16>
-    ensures { or_null number result ≡ number_tree (wire_of carrier.now) }
+// The number with which frames come: that of their tunnel, or that on their wire.
+fn inward_number(carrier: &Carrier) -> Option<u32>
+    ensures { or_null number result ≡ inward_number_tree carrier.now }
 {
     match carrier {
-        Carrier::Tunnel(_) => None,
-        Carrier::Wire(wire) => wire.tag,
+        Carrier::Tunnel(number) => Some(*number),
+        Carrier::Wire(wire) => match wire.tag {
+            Some(tag) => Some(u32::from(tag)),
+            None => None,
+        },
     }
 }
 
@@ -189,7 +182,6 @@ impl Prints for InwardRow {
         put(&mut map, alloc, "number", &inward_number(&self.carrier))?;
         put(&mut map, alloc, "physical", &inward_physical(&self.carrier))?;
         put(&mut map, alloc, "tag", &self.tag)?;
-        put(&mut map, alloc, "vxlan_number", &vxlan(&self.carrier))?;
         Ok(Value::Object(map))
     }
 }

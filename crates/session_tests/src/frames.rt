@@ -143,12 +143,12 @@ const HOSTS: [Exchange; 4] = [
     // The tables of the host with the ports.
     (
         b"GET /lab/v1/hosts/c1/tables HTTP/1.1\r\nX-Project-Id: adm\r\nX-Roles: admin\r\n\r\n",
-        b"HTTP/1.1 200 OK\r\nContent-Type: application/json\r\nContent-Length: 712\r\n\r\n\
+        b"HTTP/1.1 200 OK\r\nContent-Type: application/json\r\nContent-Length: 692\r\n\r\n\
             {\"tables\":{\"bridge\":[{\"mac\":\"02:00:00:00:00:07\",\"tag\":1,\
             \"to\":{\"kind\":\"tap\",\"port\":\"00000001-0000-8000-8000-000000000007\"}},\
             {\"mac\":\"02:00:00:00:00:08\",\"tag\":1,\"to\":{\"kind\":\"tap\",\
             \"port\":\"00000001-0000-8000-8000-000000000008\"}}],\"filters\":[],\"floats\":[],\
-            \"inward\":[{\"number\":null,\"physical\":null,\"tag\":1,\"vxlan_number\":1}],\
+            \"inward\":[{\"number\":1,\"physical\":null,\"tag\":1}],\
             \"leases\":[],\"neighbours\":[],\"routers\":[],\"routes\":[],\"sets\":[],\
             \"tags\":[{\"network\":\"00000001-0000-8000-8000-000000000006\",\"number\":null,\
             \"physical\":null,\"tag\":1}],\"taps\":[{\"allowed\":[],\
