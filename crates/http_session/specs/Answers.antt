@@ -1,5 +1,5 @@
 -- What an answer says of the world.
-use Rattle.std.specs.Prelude.{◌≡◌, ℕ, List}
+use Rattle.std.specs.Prelude.{◌≡◌, ℕ, true, List}
 use Rattle.http_heads.specs.Heads.{Asked}
 use Rattle.http_session.specs.Told.{Fixed, Moves, Answered, StoreFailed}
 use Rattle.http_session.specs.declared.handler.Answer.{Answer}
@@ -9,7 +9,7 @@ use Rattle.http_session.specs.declared.handler.Answer.TheVariants.{Reply, StoreF
 abbrev pub MovesBy : {W : Type 0} → (W → Asked → List ℕ → W → Type 0) → Fixed W → W → Asked → Answer → W → Type 0
 MovesBy step fixed old asked (Reply bytes) new = Moves step fixed old asked (Answered bytes) new
 MovesBy step fixed old asked (StoreFault bytes) new = Moves step fixed old asked (StoreFailed bytes) new
-MovesBy step fixed old asked NoMemory new = new ≡ old
+MovesBy step fixed old asked NoMemory new = (fixed.may_want ≡ true) × (new ≡ old)
 MovesBy step fixed old asked Unwritten new = (reply : List ℕ) × Moves step fixed old asked (Answered reply) new
 
 -- how many faults of the store it tells

@@ -35,9 +35,11 @@ pub record Fixed (W : Type 0) : Type 0 where
   pub refusal : ℕ → List ℕ
   -- whether a request comes to a change, which the store is to keep
   pub changes : W → Asked → Bool
+  -- whether want of memory may come in a reply's place
+  pub may_want : Bool
 
 -- a request moves the world by the machine's step, or not at all
 abbrev pub Moves : {W : Type 0} → (W → Asked → List ℕ → W → Type 0) → Fixed W → W → Asked → Told → W → Type 0
 Moves step fixed old asked (Answered reply) new = step old asked reply new
 Moves step fixed old asked (StoreFailed reply) new = (fixed.changes old asked ≡ true) × (new ≡ old) × (reply ≡ fixed.store_failed (closes asked.head))
-Moves step fixed old asked (NoMemory reply) new = (new ≡ old) × (reply ≡ fixed.no_memory (closes asked.head))
+Moves step fixed old asked (NoMemory reply) new = (fixed.may_want ≡ true) × (new ≡ old) × (reply ≡ fixed.no_memory (closes asked.head))

@@ -1,4 +1,4 @@
-ghost use Rattle.std.specs.Prelude.{◌≡◌, ℕ, ◌≤◌, List, IfOk};
+ghost use Rattle.std.specs.Prelude.{◌≡◌, ℕ, ◌≤◌, List, IfOk, is_some};
 ghost use Rattle.api_types.specs.RowLists.{RowLists};
 ghost use Rattle.http_heads.specs.Heads.{Asked, Takes};
 ghost use Rattle.keeper_core.specs.Counts.{RoseBy, Tells};
@@ -57,7 +57,8 @@ pub trait Handler: Drop {
         ensures moves { (asked : Asked) (rest : List ℕ) → Takes bytes.now asked rest → IsRequest bytes.now request asked
             → MovesBy steps fixed world.old asked result world.new }
         ensures faults { RoseBy (answer_faults result) (K.faults keeper.old) (K.faults keeper.new) }
-        ensures kept { Tells (K.kept keeper.new) (rows world.new) };
+        ensures kept { Tells (K.kept keeper.new) (rows world.new) }
+        ensures told { is_some (K.kept keeper.new) ≡ is_some (K.kept keeper.old) };
 
     /// The whole reply of a request for which memory could not be had. It takes none itself.
     fn no_memory(close: bool) -> &'static [u8]

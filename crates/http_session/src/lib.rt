@@ -23,6 +23,7 @@ pub use buffer::REQUEST_LIMIT;
 pub use handler::{Answer, Handler};
 pub use laws::session_laws;
 pub use request::Request;
+pub use sending::send;
 pub use session_end::SessionEnd;
 pub use sessions::session;
 

@@ -1,5 +1,5 @@
 //! Requests answered one after the other.
-ghost use Rattle.std.specs.Prelude.{◌≡◌, ℕ, ◌≤◌, List, []};
+ghost use Rattle.std.specs.Prelude.{◌≡◌, ℕ, ◌≤◌, List, [], is_some};
 ghost use Rattle.keeper_core.specs.Counts.{RoseBy, Tells};
 ghost use Rattle.http_session.specs.Serves.{Serves, moment};
 
@@ -33,6 +33,7 @@ pub fn session<H: Handler, K: Keeper, I: Source, O: Sink>(
         (moment world.old [] (I.left input.old) (O.written output.old) (O.flushed output.old) (K.faults keeper.old) 0)
         (moment world.new buffer (I.left input.new) (O.written output.new) (O.flushed output.new) (K.faults keeper.new) taken) result }
     ensures kept { Tells (K.kept keeper.new) (H.rows world.new) }
+    ensures told { is_some (K.kept keeper.new) ≡ is_some (K.kept keeper.old) }
     ensures read_later { I.faults input.old ≤ I.faults input.new }
     ensures write_later { O.faults output.old ≤ O.faults output.new }
     ensures read_fault { result ≡ SessionEnd.ReadFault

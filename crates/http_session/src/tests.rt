@@ -86,6 +86,7 @@ impl Handler for Echo {
       no_memory = λ close. codes "no memory;";
       refusal = λ n. codes "refused " ++ (48 + n) ∷ 59 ∷ [];
       changes = λ old asked. true;
+      may_want = true;
     } };
 
     ghost rows = { λ _. no_rows };

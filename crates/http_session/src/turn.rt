@@ -1,5 +1,5 @@
 //! One turn of a session.
-ghost use Rattle.std.specs.Prelude.{◌≡◌, ℕ, ◌+◌, ◌-◌, ◌<◌, ◌≤◌, List, length, take, option_map, true};
+ghost use Rattle.std.specs.Prelude.{◌≡◌, ℕ, ◌+◌, ◌-◌, ◌<◌, ◌≤◌, List, length, take, option_map, true, is_some};
 ghost use Rattle.http_heads.specs.Heads.{Asked, Takes};
 ghost use Rattle.http_heads.specs.Fields.{closes};
 ghost use Rattle.keeper_core.specs.Counts.{RoseBy, Tells};
@@ -60,6 +60,7 @@ fn answered<H: Handler, K: Keeper, O: Sink>(
         → IsAnswered H.steps H.fixed world.old world.new asked (K.faults keeper.old) (K.faults keeper.new)
         (O.written output.old) (O.written output.new) (O.flushed output.old) (O.flushed output.new) request.close result }
     ensures kept { Tells (K.kept keeper.new) (H.rows world.new) }
+    ensures told { is_some (K.kept keeper.new) ≡ is_some (K.kept keeper.old) }
     ensures later { O.faults output.old ≤ O.faults output.new }
     ensures fault { result ≡ Turn.Ends SessionEnd.WriteFault
         → RoseBy 1 (O.faults output.old) (O.faults output.new) }
@@ -106,6 +107,7 @@ pub(crate) fn take_turn<H: Handler, K: Keeper, I: Source, O: Sink>(
         (moment world.old buffer.old (I.left input.old) (O.written output.old) (O.flushed output.old) (K.faults keeper.old) taken.old)
         (moment world.new buffer.new (I.left input.new) (O.written output.new) (O.flushed output.new) (K.faults keeper.new) taken.new) result }
     ensures kept { Tells (K.kept keeper.new) (H.rows world.new) }
+    ensures told { is_some (K.kept keeper.new) ≡ is_some (K.kept keeper.old) }
     ensures within { taken.new ≤ limit }
     ensures read_later { I.faults input.old ≤ I.faults input.new }
     ensures write_later { O.faults output.old ≤ O.faults output.new }

@@ -1,5 +1,6 @@
 -- What a keeper tells moves with the rows.
-use Rattle.std.proofs.Common.{List, Option, None, Some, ap, option_map}
+use Rattle.std.proofs.Common.{◌≡◌, List, Option, None, Some, ap, option_map, refl}
+use Rattle.std.specs.Prelude.{is_some}
 use Rattle.api_types.specs.RowLists.{RowLists}
 use Rattle.api_types.specs.Rows.{after}
 use Rattle.api_types.specs.declared.change.Item.{Item}
@@ -8,3 +9,8 @@ use Rattle.keeper_core.specs.Counts.{Tells}
 pub tells_after : (o : Option RowLists) (rows : RowLists) (change : List Item) → Tells o rows → Tells (option_map (λ (r : RowLists). after r change) o) (after rows change)
 tells_after None rows change h = tt
 tells_after (Some kept) rows change h = ap (λ (r : RowLists). after r change) h
+
+-- and it is told still
+pub told_after : (o : Option RowLists) (change : List Item) → is_some (option_map (λ (r : RowLists). after r change) o) ≡ is_some o
+told_after None change = refl
+told_after (Some kept) change = refl

@@ -1,5 +1,5 @@
 //! Calls of the API, whose changes are kept, put in place and told to the hosts.
-ghost use Rattle.std.specs.Prelude.{◌≡◌, ◌⊎◌, ◌-◌, ◌^◌, ◌<◌, ◌≤◌, IfErr, IfOk, List, OnErr, OnOk, true, ℕ};
+ghost use Rattle.std.specs.Prelude.{◌≡◌, ◌⊎◌, ◌-◌, ◌^◌, ◌<◌, ◌≤◌, IfErr, IfOk, List, OnErr, OnOk, true, ℕ, is_some};
 ghost use Rattle.api_types.specs.Outcome.{Refused as RefusedWith};
 ghost use Rattle.api_types.specs.Rows.{Fits, after};
 ghost use Rattle.api_machine.specs.Kept.{AreKept};
@@ -49,6 +49,7 @@ impl World {
             ≡ true) × RoseBy 1 (K.faults keeper.old) (K.faults keeper.new)) }
         ensures later { K.faults keeper.old ≤ K.faults keeper.new }
         ensures kept { Tells (K.kept keeper.new) self.new.history.rows }
+        ensures told { is_some (K.kept keeper.new) ≡ is_some (K.kept keeper.old) }
     {
         let _world = self.rows();
         let Planned { change, answer } = self.machine.plan(alloc, caller, call)?;
@@ -81,6 +82,7 @@ impl World {
             × RoseBy 1 (K.faults keeper.old) (K.faults keeper.new))) }
         ensures later { K.faults keeper.old ≤ K.faults keeper.new }
         ensures kept { Tells (K.kept keeper.new) self.new.history.rows }
+        ensures told { is_some (K.kept keeper.new) ≡ is_some (K.kept keeper.old) }
     {
         let ready = self.machine.prepare(alloc, &change)?;
         match keeper.apply(alloc, &change) {

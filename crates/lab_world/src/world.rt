@@ -1,4 +1,4 @@
-ghost use Rattle.std.specs.Prelude.{◌≡◌, ◌↔◌, ◌≤◌, IfErr, IfOk, IsTrue, None, OnOk, map, true};
+ghost use Rattle.std.specs.Prelude.{◌≡◌, ◌↔◌, ◌≤◌, IfErr, IfOk, IsTrue, None, OnOk, map, true, is_some};
 ghost use Rattle.api_types.specs.Consistent.{IsConsistent};
 ghost use Rattle.api_check.specs.FirstBroken.{first_broken_of};
 ghost use Rattle.net_settings.specs.declared.settings.Host.{Host as Carrier};
@@ -148,6 +148,7 @@ impl World {
             × RoseBy 1 (K.faults keeper.old) (K.faults keeper.new) }
         ensures later { K.faults keeper.old ≤ K.faults keeper.new }
         ensures kept { Tells (K.kept keeper.new) self.new.history.rows }
+        ensures told { is_some (K.kept keeper.new) ≡ is_some (K.kept keeper.old) }
     {
         let _world = self.rows();
         match ask {

@@ -1,12 +1,16 @@
-//! The program `neutron`: its words, standard input and standard output go to the server.
+//! The program `neutron`: its words, standard input and standard output go to the server, with the
+//! desk of the system.
 #![tactic(auto)]
 
 ghost use Rattle.std.specs.Prelude.{◌≡◌};
 ghost use Rattle.std.specs.IoError.{error_kind};
 
-mod console;
+mod desk;
+mod ends;
+mod store;
 
-use crate::console::Console;
+use crate::desk::SystemDesk;
+use crate::ends::{SystemSink, SystemSource};
 use keeper_core::{ReaderSource, WriterSink};
 use net_addr::Text;
 use std::alloc::Global;
@@ -41,9 +45,9 @@ fn main(rt: HostRuntime) -> ExitCode {
         Ok(words) => words,
         Err(error) => return ExitCode::from(unread(&error)),
     };
-    let mut desk = Console::new();
-    let mut input = ReaderSource::make(rt.stdin());
-    let mut output = WriterSink::make(rt.stdout());
+    let mut input = SystemSource::Input(ReaderSource::make(rt.stdin()));
+    let mut output = SystemSink::Output(WriterSink::make(rt.stdout()));
+    let mut desk = SystemDesk::make(rt);
     let status = neutron_serve::run(alloc, words.as_slice(), &mut desk, &mut input, &mut output);
     ExitCode::from(status)
 }

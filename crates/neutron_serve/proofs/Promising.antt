@@ -143,7 +143,7 @@ Fulfils old new asked told = Moves Promised fixed_replies old asked told new × 
 moves_more : (old new : World) (asked : Asked) (told : Told) → IsWorld old → Moves Steps fixed_replies old asked told new → Fulfils old new asked told
 moves_more old new asked (ToldStep reply) held s = (step_promised old new asked reply held s, step_holds old new asked reply held s)
 moves_more old new asked (StoreFailed reply) held m = (m, subst IsWorld (sym m.1) held)
-moves_more old new asked (NoMemory reply) held m = (m, subst IsWorld (sym m.0) held)
+moves_more old new asked (NoMemory reply) held m = (m, subst IsWorld (sym m.1) held)
 
 answers_more : (old new : World) (bytes : List ℕ) (tolds : List Told) (rest : List ℕ) → IsWorld old → Answers Steps fixed_replies old bytes tolds new rest
     → Answers Promised fixed_replies old bytes tolds new rest × IsWorld new

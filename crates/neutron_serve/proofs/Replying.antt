@@ -178,5 +178,5 @@ step_moves old new asked reply close written cause same bytes handled =
 -- the reply could not be written: nothing moved, or the step is made
 pub unwritten_moves : (old new : World) (asked : Asked) (reply : Reply) (close same : Bool) → (same ≡ true → new ≡ old) → cause_in reply ≡ Step → close ≡ closes asked.head
     → Handles (request_outcome old (request_of asked)) old new reply → MovesIn Steps fixed_replies old asked (if same then answer.NoMemory else answer.Unwritten) new
-unwritten_moves old new asked reply close true is cause closes handled = is refl
+unwritten_moves old new asked reply close true is cause closes handled = (refl, is refl)
 unwritten_moves old new asked reply close false is cause closes handled = (reply_written close reply, step_moves old new asked reply close (reply_written close reply) cause closes refl handled)

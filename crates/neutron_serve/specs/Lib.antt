@@ -1,7 +1,10 @@
 pub mod Causes
+pub mod Connections
+pub mod Drills
+pub mod Openings
+pub mod Promises
 pub mod Reading
 pub mod Replies
-pub mod Promises
 pub mod Requests
 pub mod Runs
 pub mod Steps

@@ -35,4 +35,5 @@ fixed_replies = record {
   no_memory = λ close. reply_bytes 507 close None no_memory_body;
   refusal = λ n. refusal_bytes true (byte_refusal n);
   changes = λ world asked. is_change (request_outcome world (request_of asked));
+  may_want = true;
 }

@@ -1,5 +1,5 @@
 //! The Networking API as what a session is answered with.
-ghost use Rattle.std.specs.Prelude.{◌≡◌, ◌≤◌, ◌==◌, ◌&&◌, if◌then◌else◌, not, true};
+ghost use Rattle.std.specs.Prelude.{◌≡◌, ◌≤◌, ◌==◌, ◌&&◌, if◌then◌else◌, not, true, is_some};
 ghost use Rattle.http_heads.specs.Heads.{Asked};
 ghost use Rattle.http_session.specs.Requests.{IsRequest, BeginsWith};
 ghost use Rattle.keeper_core.specs.Counts.{RoseBy, Tells};
@@ -22,9 +22,9 @@ use std::alloc::Global;
 
 // A reply, and whether all is known to be as it was.
 #[derive(Drop)]
-struct Handled {
-    reply: Reply,
-    same: bool,
+pub(crate) struct Handled {
+    pub(crate) reply: Reply,
+    pub(crate) same: bool,
 }
 
 // What is answered to an ask that was read.
@@ -46,6 +46,7 @@ fn handle_ask<K: Keeper>(
         → RoseBy 1 (K.faults keeper.old) (K.faults keeper.new) }
     ensures later { K.faults keeper.old ≤ K.faults keeper.new }
     ensures kept { Tells (K.kept keeper.new) world.new.history.rows }
+    ensures told { is_some (K.kept keeper.new) ≡ is_some (K.kept keeper.old) }
 {
     let before = world.version();
     let reply = world.handle(alloc, keeper, caller, ask);
@@ -54,7 +55,7 @@ fn handle_ask<K: Keeper>(
 }
 
 // What a request that the bytes begin with is answered.
-fn reply_to<K: Keeper>(
+pub(crate) fn reply_to<K: Keeper>(
     routes: &Routes,
     world: &mut World,
     alloc: Global,
@@ -75,6 +76,7 @@ fn reply_to<K: Keeper>(
         → RoseBy 1 (K.faults keeper.old) (K.faults keeper.new) }
     ensures later { K.faults keeper.old ≤ K.faults keeper.new }
     ensures kept { Tells (K.kept keeper.new) world.new.history.rows }
+    ensures told { is_some (K.kept keeper.new) ≡ is_some (K.kept keeper.old) }
 {
     match read_request(alloc, routes, bytes, request) {
         Ok((caller, ask)) => handle_ask(world, alloc, keeper, &caller, &ask),

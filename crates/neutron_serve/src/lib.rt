@@ -10,8 +10,11 @@
 mod api;
 mod ask;
 mod caller;
+mod drilling;
+mod opening;
 mod reply;
 mod request;
+mod serving;
 mod sessions;
 mod top;
 

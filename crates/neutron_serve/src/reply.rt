@@ -22,8 +22,8 @@ fn answer_status(answer: &Answer) -> u16
     }
 }
 
-// The status code of a reply.
-fn reply_status(alloc: Global, reply: &Reply) -> Result<u16, OutOfMemory>
+/// The status code of a reply.
+pub(crate) fn reply_status(alloc: Global, reply: &Reply) -> Result<u16, OutOfMemory>
     ensures code { IfOk result (λ code. code ≡ code_in reply.now) }
     ensures known { IfOk result IsReplyCode }
 {

@@ -1,5 +1,5 @@
 //! Sessions over a world.
-ghost use Rattle.std.specs.Prelude.{◌≡◌, ℕ, ◌≤◌, List, []};
+ghost use Rattle.std.specs.Prelude.{◌≡◌, ℕ, ◌≤◌, List, [], is_some};
 ghost use Rattle.http_session.specs.Serves.{moment};
 ghost use Rattle.keeper_core.specs.Counts.{RoseBy, Tells};
 ghost use Rattle.neutron_serve.specs.Promises.{Promises};
@@ -35,6 +35,7 @@ pub fn session<K: Keeper, I: Source, O: Sink>(
         (moment world.old [] (I.left input.old) (O.written output.old) (O.flushed output.old) (K.faults keeper.old) 0)
         (moment world.new buffer (I.left input.new) (O.written output.new) (O.flushed output.new) (K.faults keeper.new) taken) result }
     ensures kept { Tells (K.kept keeper.new) world.new.history.rows }
+    ensures told { is_some (K.kept keeper.new) ≡ is_some (K.kept keeper.old) }
     ensures read_fault { result ≡ SessionEnd.ReadFault
         → RoseBy 1 (I.faults input.old) (I.faults input.new) }
     ensures write_fault { result ≡ SessionEnd.WriteFault

@@ -3,13 +3,11 @@ ghost use Rattle.std.specs.Prelude.{◌≡◌, ◌<◌, IfOk};
 ghost use Rattle.api_types.specs.Rows.{no_rows};
 
 use api_types::Rows;
-use keeper_core::{
-    MemoryKeeper, MemorySink, MemorySource, SureDesk, SureKeeper, SureSink, SureSource,
-};
+use keeper_core::{MemoryKeeper, MemorySink, MemorySource, SureKeeper, SureSink, SureSource};
 use lab_world::World;
-use net_addr::{Bytes, Numbers, OutOfMemory, Seq, Text};
+use net_addr::{Bytes, Numbers, OutOfMemory, Seq};
 use net_settings::default_settings;
-use neutron_serve::{SessionEnd, run, session};
+use neutron_serve::{SessionEnd, session};
 use std::alloc::Global;
 use std::test::Fail;
 
@@ -415,38 +413,5 @@ fn failing_ends(rt: HostRuntime) -> Result<(), Fail> {
     let write = fails(alloc, &[], &[1], b"", SessionEnd::WriteFault)?;
     let flush = fails(alloc, &[], &[2], reply, SessionEnd::WriteFault)?;
     assert!(rt; read && first_read && write && flush);
-    Ok(())
-}
-
-// The status of the program for these words, over the making of a network, and whether it writes
-// this.
-fn runs(alloc: Global, words: &[&str], status: u8, wanted: &[u8]) -> Result<bool, OutOfMemory> {
-    let mut texts = Vec::new(alloc);
-    for word in words {
-        texts.push(Text::of(alloc, word)?)?;
-    }
-    let mut desk = SureDesk::make(alloc, Seq::new(alloc), Seq::new(alloc), Seq::new(alloc))?;
-    let mut input = source(alloc, REQUESTS[0].0, 7)?;
-    let mut output = SureSink::make(alloc);
-    let found = run(alloc, texts.as_slice(), &mut desk, &mut input, &mut output);
-    Ok(found == status && output.as_slice() == wanted)
-}
-
-#[test]
-fn words(rt: HostRuntime) -> Result<(), Fail> {
-    let alloc = rt.alloc();
-    let cases: [&[&str]; 5] = [
-        &[],
-        &["serve"],
-        &["session", "--delivery", "never"],
-        &["session", "--store", "x", "--store", "y"],
-        &["drill", "7"],
-    ];
-    for words in cases {
-        let refused = runs(alloc, words, 1, b"")?;
-        assert!(rt; refused);
-    }
-    let served = runs(alloc, &["session"], 0, REQUESTS[0].1)?;
-    assert!(rt; served);
     Ok(())
 }

@@ -1,7 +1,8 @@
-//! Tests of `l2_agent`, `l3_agent` and `dhcp_agent`: the tables of hosts for rows made by hand.
+//! Tests of `l2_agent`, `l3_agent`, `dhcp_agent` and `agent_node`: the tables of hosts for rows
+//! made by hand, and what a host makes of messages.
 //!
 //! The rows of the tables were worked out by hand. A crate with tests is proved twice, so they
-//! stand here, above the three crates, and not in them. It promises nothing by itself.
+//! stand here, above the four crates, and not in them. It promises nothing by itself.
 #![tactic(auto)]
 
 #[cfg(test)]
@@ -20,5 +21,7 @@ mod routed;
 mod routers;
 #[cfg(test)]
 mod tags;
+#[cfg(test)]
+mod told;
 #[cfg(test)]
 mod world;

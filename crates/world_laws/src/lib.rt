@@ -1,8 +1,8 @@
 //! What holds of the world of a server after every list of steps, and what frames then come to.
 //!
-//! Definitions and laws alone. A world has the rows with the last changes that led to them, and each
-//! host's agents, which may lag behind the rows, sleep and forget. The functions here do nothing, and
-//! their contracts are the laws.
+//! Definitions and laws alone. A world has the rows with the last changes that led to them, and
+//! each host's agents, which may lag behind the rows, sleep and forget. The functions here do
+//! nothing, and their contracts are the laws.
 #![tactic(auto)]
 
 ghost use Rattle.std.specs.Prelude.{◌≡◌, ◌+◌, ◌≤◌, ℕ, Bool, false, List, [], Some, map};
@@ -24,48 +24,68 @@ ghost use Rattle.world_laws.specs.Lead.{IsWorld, Lead, Placed, Realised};
 ghost use Rattle.world_laws.specs.Steps.{Accept, May, MayRun, Settle, Step, run, step};
 ghost use Rattle.world_laws.specs.World.{AreSound, IsSynced, World, opened, seats};
 
-/// After every list of steps the wired rows of each host are those of its version, where these can be
-/// told, its tables are those that its rows give to it, and its entries are placed. The kept changes
-/// lead from each kept version to the next.
+/// After every list of steps the wired rows of each host are those of its version, where these can
+/// be told, its tables are those that its rows give to it, and its entries are placed. The kept
+/// changes lead from each kept version to the next.
 pub fn worlds_stay_led()
     ensures step { (w : World) (s : Step) → IsWorld w → May w s → IsWorld (step w s) }
-    ensures lists { (settings : SettingsParts) (manual : Bool) (rows : RowLists) → MeetsRules settings → AreSound settings rows → (steps : List Step) → MayRun (opened settings manual rows) steps → IsWorld (run (opened settings manual rows) steps) }
+    ensures lists { (settings : SettingsParts) (manual : Bool) (rows : RowLists) → MeetsRules settings →
+        AreSound settings rows → (steps : List Step) →
+        MayRun (opened settings manual rows) steps →
+        IsWorld (run (opened settings manual rows) steps) }
 {}
 
-/// A host that holds a version has the rows of that version, where they can be told, and one that holds
-/// the version of now has the rows of now. Its tables are those that these rows give to it, also while
-/// it is behind.
+/// A host that holds a version has the rows of that version, where they can be told, and one that
+/// holds the version of now has the rows of now. Its tables are those that these rows give to it,
+/// also while it is behind.
 pub fn holders_have_their_rows()
-    ensures told { (w : World) → IsWorld w → Each (λ (a : Agent). (v : ℕ) → a.held ≡ Some v → first_kept w.history ≤ v + 1 → a.rows ≡ rows_at w.history v) w.agents }
-    ensures now { (w : World) → IsWorld w → Each (λ (a : Agent). a.held ≡ Some w.history.version → a.rows ≡ w.history.rows) w.agents }
-    ensures tables { (w : World) → IsWorld w → Each (λ (a : Agent). (v : ℕ) → a.held ≡ Some v → first_kept w.history ≤ v + 1 → Realises (rows_at w.history v) a.name a.tables) w.agents }
+    ensures told { (w : World) → IsWorld w → Each (λ (a : Agent). (v : ℕ) → a.held ≡ Some v →
+        first_kept w.history ≤ v + 1 → a.rows ≡ rows_at w.history v) w.agents }
+    ensures now { (w : World) → IsWorld w → Each (λ (a : Agent). a.held ≡ Some w.history.version →
+        a.rows ≡ w.history.rows) w.agents }
+    ensures tables { (w : World) → IsWorld w → Each (λ (a : Agent). (v : ℕ) → a.held ≡ Some v →
+        first_kept w.history ≤ v + 1 → Realises (rows_at w.history v) a.name a.tables) w.agents }
 {}
 
-/// The change that follows what a host holds fits the rows that it has wired, and leads to sound rows,
-/// those of its number.
+/// The change that follows what a host holds fits the rows that it has wired, and leads to sound
+/// rows, those of its number.
 pub fn next_changes_fit()
-    ensures fits { (w : World) → IsWorld w → (n v : ℕ) (c : List Item) → change_at w.history n ≡ Some c → n ≡ v + 1 → Each (λ (a : Agent). a.held ≡ Some v → Fits a.rows c × AreSound w.settings (after a.rows c) × (after a.rows c ≡ rows_at w.history n)) w.agents }
+    ensures fits { (w : World) → IsWorld w → (n v : ℕ) (c : List Item) → change_at w.history n ≡ Some c →
+        n ≡ v + 1 → Each (λ (a : Agent). a.held ≡ Some v →
+        Fits a.rows c × AreSound w.settings (after a.rows c) ×
+        (after a.rows c ≡ rows_at w.history n)) w.agents }
 {}
 
-/// Where every host holds the version of now, events one after the other come by the hosts' tables to
-/// exactly what the rows of now give, and their paths cross between networks at routers alone.
+/// Where every host holds the version of now, events one after the other come by the hosts' tables
+/// to exactly what the rows of now give, and their paths cross between networks at routers alone.
 pub fn synced_hosts_mean_rows()
-    ensures verdicts { (w : World) → IsWorld w → IsSynced w → (events : List Event) → map without_hosts (fabric_verdicts (seats w) events) ≡ rows_verdicts w.history.rows (all_entries (seats w)) events }
-    ensures paths { (w : World) → IsWorld w → IsSynced w → (events : List Event) → Each (CrossesAtRouters w.history.rows) (fabric_verdicts (seats w) events) }
+    ensures verdicts { (w : World) → IsWorld w → IsSynced w → (events : List Event) →
+        map without_hosts (fabric_verdicts (seats w) events) ≡ rows_verdicts w.history.rows
+        (all_entries (seats w)) events }
+    ensures paths { (w : World) → IsWorld w → IsSynced w → (events : List Event) →
+        Each (CrossesAtRouters w.history.rows) (fabric_verdicts (seats w) events) }
 {}
 
-/// Worlds with the same settings and hosts, and the same rows now and at each version that can be told, stay so by
-/// each step, also where other changes lead to the same rows: which changes are kept is told by nobody.
+/// Worlds with the same settings and hosts, and the same rows now and at each version that can be
+/// told, stay so by each step, also where other changes lead to the same rows: which changes are
+/// kept is told by nobody.
 pub fn worlds_stay_alike()
-    ensures accepted { (w v : World) → IsWorld w → IsWorld v → AreAlike w v → (left_out : List (List ℕ)) (c d : List Item) → May w (Accept left_out c) → May v (Accept left_out d) → after w.history.rows c ≡ after v.history.rows d → AreAlike (step w (Accept left_out c)) (step v (Accept left_out d)) }
-    ensures others { (w v : World) → IsWorld w → IsWorld v → AreAlike w v → (s : Step) → accepts s ≡ false → AreAlike (step w s) (step v s) }
+    ensures accepted { (w v : World) → IsWorld w → IsWorld v → AreAlike w v →
+        (left_out : List (List ℕ)) (c d : List Item) → May w (Accept left_out c) →
+        May v (Accept left_out d) → after w.history.rows c ≡ after v.history.rows d →
+        AreAlike (step w (Accept left_out c)) (step v (Accept left_out d)) }
+    ensures others { (w v : World) → IsWorld w → IsWorld v → AreAlike w v → (s : Step) → accepts s ≡ false →
+        AreAlike (step w s) (step v s) }
 {}
 
 /// Every host holds the version of now once the world is settled; and it stays so in automatic
-/// delivery, while each host finds memory: each is then given the rows of now, as if all were wired with
-/// each change.
+/// delivery, while each host finds memory: each is then given the rows of now, as if all were
+/// wired with each change.
 pub fn hosts_come_to_now()
     ensures settled { (w : World) → IsSynced (step w Settle) }
-    ensures rewired { (w : World) (c : List Item) → IsWorld w → w.manual ≡ false → IsSynced w → (step w (Accept [] c)).agents ≡ map (rewired_by (w.history.version + 1) (after w.history.rows c)) w.agents }
-    ensures automatic { (w : World) (c : List Item) → w.manual ≡ false → IsSynced w → IsSynced (step w (Accept [] c)) }
+    ensures rewired { (w : World) (c : List Item) → IsWorld w → w.manual ≡ false → IsSynced w →
+        (step w (Accept [] c)).agents ≡
+        map (rewired_by (w.history.version + 1) (after w.history.rows c)) w.agents }
+    ensures automatic { (w : World) (c : List Item) → w.manual ≡ false → IsSynced w →
+        IsSynced (step w (Accept [] c)) }
 {}

@@ -1,4 +1,4 @@
-use Rattle.std.proofs.Common.{ℕ, List, [], arith, subst, sym}
+use Rattle.std.proofs.Common.{◌∙◌, ℕ, List, [], arith, refl, subst, sym}
 use Rattle.http_session.specs.Serves.{moment, Goes}
 use Rattle.http_session.proofs.Going.{goes_nowhere, goes_on}
 use Rattle.http_session.proofs.Turning.{last_turn, no_turn}
@@ -13,6 +13,7 @@ turns-init g c =
     record {
       goes = subst (λ b. Goes g.H.Handler.steps g.H.Handler.fixed (before []) (before b)) (sym c.in-Ok.ensures) (goes_nowhere g.H.Handler.steps g.H.Handler.fixed (before []));
       kept = c.requires;
+      told = refl;
       within = omega arith;
       read_later = omega arith;
       write_later = omega arith;
@@ -22,6 +23,7 @@ pub turns-preserved : goal.turns-preserved
 turns-preserved g c = record {
   goes = goes_on g.H.Handler.steps g.H.Handler.fixed _ _ _ c.turns.invariant.goes c.in-Again.ensures.is.0;
   kept = c.in-Again.ensures.kept;
+  told = c.in-Again.ensures.told ∙ c.turns.invariant.told;
   within = c.in-Again.ensures.within;
   read_later = omega (arith, c.turns.invariant.read_later, c.in-Again.ensures.read_later);
   write_later = omega (arith, c.turns.invariant.write_later, c.in-Again.ensures.write_later);

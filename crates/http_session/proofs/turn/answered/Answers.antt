@@ -21,12 +21,13 @@ returns-in-StoreFault-clause-is g c = λ asked rest takes is. record {
 }
 
 pub returns-in-NoMemory-clause-is : goal.returns-in-NoMemory-clause-is
-returns-in-NoMemory-clause-is g c = λ asked rest takes is. record {
-  told = NoMemory c.no_memory.result.now;
-  moves = (c.in-NoMemory.ensures.moves asked rest takes is, c.no_memory.ensures ∙ ap g.H.Handler.fixed.no_memory is.close);
-  faults = c.in-NoMemory.ensures.faults;
-  sent = c.sent-in-NoMemory.ensures.is;
-}
+returns-in-NoMemory-clause-is g c = λ asked rest takes is.
+    let moved = c.in-NoMemory.ensures.moves asked rest takes is in record {
+      told = NoMemory c.no_memory.result.now;
+      moves = (moved.0, moved.1, c.no_memory.ensures ∙ ap g.H.Handler.fixed.no_memory is.close);
+      faults = c.in-NoMemory.ensures.faults;
+      sent = c.sent-in-NoMemory.ensures.is;
+    }
 
 pub returns-in-Unwritten-clause-is : goal.returns-in-Unwritten-clause-is
 returns-in-Unwritten-clause-is g c = λ asked rest takes is.

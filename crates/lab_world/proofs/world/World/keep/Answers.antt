@@ -1,4 +1,5 @@
 use Rattle.std.proofs.Common.{◌∙◌, ◌≡◌, ◌+◌, ℕ, ap, option_map, subst, sym}
+use Rattle.std.specs.Prelude.{is_some}
 use Rattle.api_types.specs.Lists.{Each}
 use Rattle.api_types.specs.RowLists.{RowLists}
 use Rattle.api_types.specs.Rows.{Fits, after}
@@ -11,7 +12,7 @@ use Rattle.world_laws.specs.Steps.{Accept, step}
 use Rattle.world_laws.specs.World.{World}
 use Rattle.lab_world.specs.Parts.{AreParts, world_seen}
 use Rattle.lab_world.specs.Steps.{AreTold}
-use Rattle.lab_world.proofs.Keeping.{tells_after}
+use Rattle.lab_world.proofs.Keeping.{tells_after, told_after}
 use Rattle.lab_world.proofs.Parts.{accepted, can_follow, sound_after}
 use Rattle.lab_world.proofs.world.World.keep.Goals as goal
 
@@ -61,3 +62,6 @@ returns-in-Ok-clause-kept g c =
     subst (λ o. Tells o c.accept.new.self.rows) (sym c.in-Ok.ensures.applied)
     (subst (Tells (option_map (λ (r : RowLists). after r change) (g.K.Keeper.kept c.args.keeper.now))) (ap (λ (w : World). after w.history.rows change) (sym c.self.view_is) ∙ sym put)
     (tells_after (g.K.Keeper.kept c.args.keeper.now) c.args.self.now.history.rows change c.requires.kept))
+
+pub returns-in-Ok-clause-told : goal.returns-in-Ok-clause-told
+returns-in-Ok-clause-told g c = ap is_some c.in-Ok.ensures.applied ∙ told_after (g.K.Keeper.kept c.args.keeper.now) c.args.change

@@ -1,0 +1,140 @@
+//! The desk of the program: files, databases and sockets.
+ghost use Rattle.std.specs.Prelude.{◌≡◌};
+
+use crate::ends::{SystemSink, SystemSource};
+use crate::store::SystemStore;
+use api_types::Rows;
+use keeper_core::{Desk, DeskRefusal, ReaderSource, SureKeeper, WriterSink};
+use keeper_sql::SqlKeeper;
+use net_addr::{Bytes, Text};
+use sqlite::{Connection, Error, ErrorCode, File, FileStore};
+use std::alloc::Global;
+use std::net::{TcpListener, TcpStream};
+use std::{fs, io};
+
+/// Settings in files, stores in databases of SQLite, and connections of TCP. It tells nothing.
+#[derive(Drop)]
+pub(crate) struct SystemDesk {
+    rt: HostRuntime,
+    listener: Option<TcpListener>,
+    faults: u64,
+    store_faults: u64,
+}
+
+impl SystemDesk {
+    pub(crate) fn make(rt: HostRuntime) -> SystemDesk {
+        SystemDesk {
+            rt,
+            listener: None,
+            faults: 0,
+            store_faults: 0,
+        }
+    }
+}
+
+// The two ends of the next connection.
+fn accepted(listener: &TcpListener) -> io::Result<(TcpStream, TcpStream)> {
+    let (stream, _) = listener.accept()?;
+    let other = stream.try_clone()?;
+    Ok((stream, other))
+}
+
+// Copies the log of a file into it. Where that fails the log stays beside it, and the next that
+// opens it reads it.
+fn shut_file(keeper: SqlKeeper<FileStore<File>>) {
+    let _ = keeper.into_conn().close();
+}
+
+fn shut(store: SystemStore) {
+    match store {
+        SystemStore::Memory(_) => {}
+        SystemStore::File(keeper) => shut_file(keeper),
+    }
+}
+
+impl Desk for SystemDesk {
+    type In = SystemSource;
+
+    type Out = SystemSink;
+
+    type Store = SystemStore;
+
+    ghost use Rattle.std.specs.Prelude.{None};
+
+    ghost asks = { λ _. None };
+
+    ghost files = { λ _. None };
+
+    ghost stores = { λ _. None };
+
+    ghost to_come = { λ _. None };
+
+    ghost returned = { λ _. None };
+
+    ghost faults = { λ desk. desk.faults };
+
+    ghost store_faults = { λ desk. desk.store_faults };
+
+    fn settings(&mut self, _alloc: Global, name: &Text) -> Result<Bytes, DeskRefusal> {
+        match fs::read(&self.rt, name.as_str()) {
+            Ok(bytes) => Ok(Bytes::from_vec(bytes)),
+            Err(error) if error.kind() == io::ErrorKind::OutOfMemory => {
+                Err(DeskRefusal::OutOfMemory)
+            }
+            Err(_) => {
+                self.faults = self.faults.saturating_add(1);
+                Err(DeskRefusal::Failed)
+            }
+        }
+    }
+
+    fn store(&mut self, alloc: Global, name: Option<&Text>) -> Result<SystemStore, DeskRefusal> {
+        let Some(name) = name else {
+            return Ok(SystemStore::Memory(SureKeeper::make(Rows::empty(alloc)?)));
+        };
+        match Connection::open(&self.rt, name.as_str()) {
+            Ok(conn) => Ok(SystemStore::File(SqlKeeper::make(conn))),
+            Err(Error::SqliteFailure(ErrorCode::OutOfMemory)) => Err(DeskRefusal::OutOfMemory),
+            Err(_) => {
+                self.faults = self.faults.saturating_add(1);
+                Err(DeskRefusal::Failed)
+            }
+        }
+    }
+
+    fn close(&mut self, store: SystemStore) {
+        self.store_faults = self.store_faults.saturating_add(store.faults());
+        shut(store);
+    }
+
+    fn listen(&mut self, _alloc: Global, address: &Text) -> Result<(), DeskRefusal> {
+        match TcpListener::bind(&self.rt, address.as_str()) {
+            Ok(listener) => {
+                self.listener = Some(listener);
+                Ok(())
+            }
+            Err(_) => {
+                self.faults = self.faults.saturating_add(1);
+                Err(DeskRefusal::Failed)
+            }
+        }
+    }
+
+    fn next(&mut self, _alloc: Global) -> Result<Option<(SystemSource, SystemSink)>, DeskRefusal> {
+        let Some(listener) = &self.listener else {
+            return Ok(None);
+        };
+        match accepted(listener) {
+            Ok((input, output)) => Ok(Some((
+                SystemSource::Peer(ReaderSource::make(input)),
+                SystemSink::Peer(WriterSink::make(output)),
+            ))),
+            Err(_) => {
+                self.faults = self.faults.saturating_add(1);
+                Err(DeskRefusal::Failed)
+            }
+        }
+    }
+
+    fn done(&mut self, _input: SystemSource, _output: SystemSink) {}
+}

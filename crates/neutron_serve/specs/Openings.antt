@@ -1,0 +1,124 @@
+-- What a run starts from: settings, and the rows that a store keeps; or why it starts from nothing.
+use Rattle.std.specs.Prelude.{◌≡◌, ◌⊎◌, ℕ, Bool, true, false, List, [], ◌∷◌, ◌++◌, Option, Some, None, Ok, Err, IfSome, option_map, ⊤}
+use Rattle.api_check.specs.FirstBroken.{first_broken_of}
+use Rattle.api_check.specs.declared.broken.Inconsistent.{Inconsistent}
+use Rattle.api_types.specs.RowLists.{RowLists}
+use Rattle.command_lines.specs.declared.line.Delivery.{Delivery}
+use Rattle.command_lines.specs.declared.line.Delivery.TheVariants.{Automatic, Manual}
+use Rattle.command_lines.specs.declared.line.Opening.{Opening}
+use Rattle.keeper_core.specs.Counts.{RoseBy}
+use Rattle.keeper_core.specs.Desk.{Stores, closed_as, file_named, opened_as, opening_rows}
+use Rattle.keeper_core.specs.declared.ask.DeskAsk.{DeskAsk}
+use Rattle.keeper_core.specs.declared.ask.DeskAsk.TheVariants.{Settings, Store}
+use Rattle.keeper_core.specs.declared.named.Named.{Named}
+use Rattle.keeper_core.specs.declared.refusal.OutsideRefusal.{OutsideRefusal}
+use Rattle.keeper_core.specs.declared.refusal.OutsideRefusal.TheVariants as outside
+use Rattle.lab_world.specs.declared.opening.OpenRefusal.{OpenRefusal}
+use Rattle.lab_world.specs.declared.opening.OpenRefusal.TheVariants as world
+use Rattle.net_settings.specs.Defaults.{default_parts}
+use Rattle.net_settings.specs.Document.{settings_of}
+use Rattle.net_settings.specs.Settings.{SettingsParts}
+use Rattle.net_settings.specs.declared.refusal.SettingsRefusal.{SettingsRefusal}
+use Rattle.net_settings.specs.declared.refusal.SettingsRefusal.TheVariants as settings
+use Rattle.neutron_serve.specs.declared.opening.Unopened.{Unopened}
+use Rattle.neutron_serve.specs.declared.opening.Unopened.TheVariants.{BadSettings, Inconsistent as BrokenRows, Failed, OutOfMemory}
+
+abbrev pub is_manual : Delivery → Bool
+is_manual Automatic = false
+is_manual Manual = true
+
+-- what a desk tells, its connections aside
+pub record DeskSeen : Type 0 where
+  pub asks : Option (List DeskAsk)
+  pub files : Option (List (Named (List ℕ)))
+  pub stores : Option Stores
+  pub faults : ℕ
+  pub store_faults : ℕ
+
+abbrev pub desk_seen : Option (List DeskAsk) → Option (List (Named (List ℕ))) → Option Stores → ℕ → ℕ → DeskSeen
+desk_seen asks files stores faults store_faults =
+    record { asks = asks; files = files; stores = stores; faults = faults; store_faults = store_faults }
+
+-- ---- what is asked
+
+-- the settings, where they are named
+abbrev pub settings_asks : Option (List ℕ) → List DeskAsk
+settings_asks None = []
+settings_asks (Some name) = Settings name ∷ []
+
+-- then the store
+abbrev pub opening_asks : Opening → List DeskAsk
+opening_asks opening = settings_asks opening.settings ++ Store opening.store ∷ []
+
+-- the asks that were made behind others are these, in their order, or the first ones of them
+pub record AsksFirst (all : List DeskAsk) (old new : Option (List DeskAsk)) : Type 0 where
+  pub made : List DeskAsk
+  pub rest : List DeskAsk
+  pub parts : all ≡ made ++ rest
+  pub asked : new ≡ option_map (λ asks. asks ++ made) old
+
+-- ---- what is given
+
+-- bytes are those of the settings with this name, where they are told
+abbrev pub AreNamed : Option (List (Named (List ℕ))) → List ℕ → List ℕ → Type 0
+AreNamed files name bytes = IfSome files (λ told. bytes ≡ file_named name told)
+
+-- the settings are those that the named bytes spell, and the default ones without a name
+abbrev pub AreSettings : Option (List (Named (List ℕ))) → Option (List ℕ) → SettingsParts → Type 0
+AreSettings files None settings = settings ≡ default_parts
+AreSettings files (Some name) settings = (bytes : List ℕ) × AreNamed files name bytes × (settings_of bytes ≡ Ok settings)
+
+-- the named bytes spell no settings: this is the first key that breaks its rule
+abbrev pub AreBadSettings : Option (List (Named (List ℕ))) → Option (List ℕ) → Type 0
+AreBadSettings files None = ⊥
+AreBadSettings files (Some name) = (bytes : List ℕ) × (key : List ℕ) × AreNamed files name bytes × (settings_of bytes ≡ Err key)
+
+-- the rows are those with which the named store opens, where they are told
+abbrev pub AreStored : Option Stores → Option (List ℕ) → RowLists → Type 0
+AreStored stores name rows = IfSome stores (λ told. rows ≡ opening_rows name told)
+
+-- settings and rows with which a world is opened: they break no clause of consistency
+pub record Opens (old : DeskSeen) (opening : Opening) (settings : SettingsParts) (rows : RowLists) : Type 0 where
+  pub spelled : AreSettings old.files opening.settings settings
+  pub stored : AreStored old.stores opening.store rows
+  pub consistent : first_broken_of settings.hosts rows ≡ None
+
+-- the rows of the store break a clause
+pub record AreBroken (old : DeskSeen) (opening : Opening) : Type 0 where
+  pub settings : SettingsParts
+  pub rows : RowLists
+  pub broken : Inconsistent
+  pub spelled : AreSettings old.files opening.settings settings
+  pub stored : AreStored old.stores opening.store rows
+  pub breaks : first_broken_of settings.hosts rows ≡ Some broken
+
+-- why nothing is opened
+abbrev pub IsCause : Unopened → Opening → DeskSeen → DeskSeen → Type 0
+IsCause BadSettings opening old new = AreBadSettings old.files opening.settings
+IsCause BrokenRows opening old new = AreBroken old opening
+IsCause Failed opening old new = RoseBy 1 old.faults new.faults ⊎ RoseBy 1 old.store_faults new.store_faults
+IsCause OutOfMemory opening old new = ⊤
+
+-- the stores are as they were, or the one that was opened is closed with the rows that it had
+abbrev pub StoresStay : Option (List ℕ) → Option Stores → Option Stores → Type 0
+StoresStay name old new = (new ≡ old) ⊎ (new ≡ option_map (λ s. closed_as (Some name) (opening_rows name s) (opened_as name s)) old)
+
+-- nothing is opened
+pub record IsUnopened (why : Unopened) (opening : Opening) (old new : DeskSeen) : Type 0 where
+  pub cause : IsCause why opening old new
+  pub asks : AsksFirst (opening_asks opening) old.asks new.asks
+  pub stores : StoresStay opening.store old.stores new.stores
+
+-- ---- refusals on the way
+
+abbrev pub by_desk : OutsideRefusal → Unopened
+by_desk outside.Failed = Failed
+by_desk outside.OutOfMemory = OutOfMemory
+
+abbrev pub by_settings : SettingsRefusal → Unopened
+by_settings (settings.BadSettings key) = BadSettings
+by_settings settings.OutOfMemory = OutOfMemory
+
+abbrev pub by_world : OpenRefusal → Unopened
+by_world (world.Inconsistent rule kind id) = BrokenRows
+by_world world.OutOfMemory = OutOfMemory
