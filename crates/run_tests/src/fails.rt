@@ -56,12 +56,10 @@ fn fails_as_wanted(alloc: Global, case: &Case) -> Result<bool, OutOfMemory> {
 #[test]
 fn fails(rt: HostRuntime) -> Result<(), Fail> {
     let alloc = rt.alloc();
-    let mut met = 0;
     for case in &CASES {
-        if fails_as_wanted(alloc, case)? {
-            met += 1;
-        }
+        let wanted = fails_as_wanted(alloc, case)?;
+        let status = case.2;
+        assert!(rt; wanted, "status {status}");
     }
-    assert_eq!(rt; met, CASES.len());
     Ok(())
 }
