@@ -1,3 +1,4 @@
+pub mod AskedLemmas
 pub mod CutLemmas
 pub mod ListLemmas
 pub mod SeenLemmas

@@ -1,14 +1,49 @@
-ghost use Rattle.std.specs.Prelude.{◌≡◌, ◌&&◌, IfOk, map};
-ghost use Rattle.std.specs.List.{list_any};
+//! Filters, put together by their names once a query.
+
+ghost use Rattle.std.specs.Prelude.{◌≡◌, ℕ, List, Bool, IfOk, map};
+ghost use Rattle.std.specs.HashSet.{contains_text};
+ghost use Rattle.std.specs.List.{list_all, list_any};
 ghost use Rattle.std.specs.Str.{bytes_eq};
-ghost use Rattle.api_types.specs.Printed.{member_of, tree_of, truth as truth_tree};
+ghost use Rattle.api_types.specs.Printed.{member_of, tree_of, truth as truth_tree, word};
 ghost use Rattle.api_types.specs.declared.call.Filter.{Filter as TheFilter};
-ghost use Rattle.api_policy.specs.Filtered.{fits as fits_tree, has_value as has_value_in, meets as meets_all};
+ghost use Rattle.api_policy.specs.Filtered.{fits as fits_tree, meets as meets_all};
+ghost use Rattle.api_shown.specs.Asked.{AskedName, asked_under, asks_for as asks_for_tree, has_asked};
 
 use crate::showing::is_told;
-use api_types::{Filter, Members, Printed};
+use api_types::{Filter, Members, Printed, Query};
 use net_addr::{OutOfMemory, Text};
 use std::alloc::Global;
+use std::collections::HashSet;
+use std::marker::Model;
+
+/// The filters of one name: the texts that they ask for, and which truth values. Contracts see the
+/// name and all filters of the query.
+#[derive(Drop)]
+struct NameFilters<'q> {
+    filters: &'q [Filter], // for contracts alone
+    name: &'q Text,
+    texts: HashSet<String>,
+    asks_true: bool,
+    asks_false: bool,
+}
+
+impl<'q> Model for NameFilters<'q> {
+    ghost use Rattle.std.specs.Prelude.{◌≡◌, ℕ, List, true, false};
+    ghost use Rattle.std.specs.HashSet.{contains_text};
+    ghost use Rattle.api_types.specs.Printed.{truth, word};
+    ghost use Rattle.api_shown.specs.Asked.{AskedName, asked_under, asks_for};
+
+    ghost Value = { AskedName };
+
+    ghost view = { λ n. asked_under n.filters.now n.name.now };
+
+    ghost invariant = { λ n. let asked : AskedName = asked_under n.filters.now n.name.now in
+        record {
+          texts : (t : List ℕ) → contains_text n.texts t ≡ asks_for asked (word t);
+          yes : n.asks_true ≡ asks_for asked (truth true);
+          no : n.asks_false ≡ asks_for asked (truth false);
+        } };
+}
 
 fn truth_fits(value: &Text, truth: bool) -> bool
     ensures { result ≡ fits_tree value.now (truth_tree truth) }
@@ -17,74 +52,206 @@ fn truth_fits(value: &Text, truth: bool) -> bool
     value.as_str().eq_ignore_ascii_case(word)
 }
 
-// Whether the value is the printed text.
-fn fits(alloc: Global, value: &Text, printed: &Printed) -> Result<bool, OutOfMemory>
-    ensures { IfOk result (λ b. b ≡ fits_tree value.now (tree_of printed.now)) }
+// Whether a filter with the name asks for the truth value.
+fn asks_truth(filters: &[Filter], name: &Text, truth: bool) -> bool
+    ensures { result ≡ asks_for_tree (asked_under filters.now name.now) (truth_tree truth) }
 {
-    match printed {
-        Printed::Truth(truth) => Ok(truth_fits(value, *truth)),
-        Printed::Number(number) => {
-            let text = number.to_string(alloc)?;
-            Ok(value.as_str() == text.as_str())
+    filters.iter().any(|filter| *name == filter.name && truth_fits(&filter.value, truth))
+}
+
+// The values of the filters with the name.
+fn texts_of(alloc: Global, filters: &[Filter], name: &Text) -> Result<HashSet<String>, OutOfMemory>
+    ensures { IfOk result
+        (λ s. (t : List ℕ)
+        → contains_text s t ≡ asks_for_tree (asked_under filters.now name.now) (word t)) }
+{
+    let mut texts = HashSet::new(alloc);
+    for filter in filters {
+        if *name == filter.name {
+            texts.insert(String::from_str(alloc, filter.value.as_str())?)?;
         }
-        Printed::Word(text) => Ok(*value == *text),
-        Printed::Null | Printed::Items(_) | Printed::Object(_) => Ok(false),
+    }
+    Ok(texts)
+}
+
+impl<'q> NameFilters<'q> {
+    // Those of these filters that have the name.
+    fn of(
+        alloc: Global,
+        filters: &'q [Filter],
+        name: &'q Text,
+    ) -> Result<NameFilters<'q>, OutOfMemory>
+        ensures { IfOk result (λ n. n ≡ asked_under filters.now name.now) }
+    {
+        Ok(NameFilters {
+            filters,
+            name,
+            texts: texts_of(alloc, filters, name)?,
+            asks_true: asks_truth(filters, name, true),
+            asks_false: asks_truth(filters, name, false),
+        })
+    }
+
+    // Whether one of them asks for the value.
+    fn asks_for(&self, alloc: Global, printed: &Printed) -> Result<bool, OutOfMemory>
+        ensures { IfOk result (λ b. b ≡ asks_for_tree self.now (tree_of printed.now)) }
+    {
+        match printed {
+            Printed::Truth(true) => Ok(self.asks_true),
+            Printed::Truth(false) => Ok(self.asks_false),
+            Printed::Number(number) => {
+                let text = number.to_string(alloc)?;
+                Ok(self.texts.contains(text.as_str()))
+            }
+            Printed::Word(text) => Ok(self.texts.contains(text.as_str())),
+            Printed::Null | Printed::Items(_) | Printed::Object(_) => Ok(false),
+        }
+    }
+
+    // Whether a member that the caller is told has the name and a value that one of them asks for.
+    fn are_met(&self, alloc: Global, admin: bool, members: &Members) -> Result<bool, OutOfMemory>
+        ensures { IfOk result
+            (λ b. b ≡ has_asked admin (map member_of members.now) self.now) }
+    {
+        for (name, printed) in members.as_slice() {
+            let is_named = is_told(admin, name) && *self.name == *name;
+            if is_named && self.asks_for(alloc, printed)? {
+                return Ok(true);
+            }
+        }
+        Ok(false)
     }
 }
 
-// Whether a member that the caller is told has the filter's name and value.
-fn has_value(
-    alloc: Global,
-    admin: bool,
-    members: &Members,
-    filter: &Filter,
-) -> Result<bool, OutOfMemory>
-    ensures { IfOk result (λ b. b ≡ has_value_in admin (map member_of members.now) filter.now) }
+fn is_among(names: &[&Text], name: &Text) -> bool
+    ensures { result ≡ list_any (bytes_eq name.now) (map (λ n. n.now) names.now) }
 {
-    for (name, printed) in members.as_slice() {
-        let is_named = is_told(admin, name) && filter.name == *name;
-        if is_named && fits(alloc, &filter.value, printed)? {
-            return Ok(true);
+    for other in names {
+        if *name == **other {
+            return true;
         }
     }
-    Ok(false)
+    false
 }
 
-// Whether one of the filters of this name is met.
-fn meets_name(
+// The names of the filters, each once.
+fn names_of<'q>(alloc: Global, filters: &'q [Filter]) -> Result<Vec<&'q Text>, OutOfMemory>
+    ensures { IfOk result
+        (λ v. (p : List ℕ → Bool)
+        → list_all p (map (λ n. n.now) v.items)
+        ≡ list_all (λ (f : TheFilter). p f.name) filters.now) }
+{
+    let mut names = Vec::new(alloc);
+    for filter in filters {
+        if !is_among(names.as_slice(), &filter.name) {
+            names.push(&filter.name)?;
+        }
+    }
+    Ok(names)
+}
+
+// The filters of each of these names.
+fn filters_named<'q>(
+    alloc: Global,
+    filters: &'q [Filter],
+    names: &[&'q Text],
+) -> Result<Vec<NameFilters<'q>>, OutOfMemory>
+    ensures { IfOk result
+        (λ v. v.items ≡ map (λ n. asked_under filters.now n.now) names.now) }
+{
+    let mut by_name = Vec::new(alloc);
+    for name in names {
+        by_name.push(NameFilters::of(alloc, filters, *name)?)?;
+    }
+    Ok(by_name)
+}
+
+// The filters, put together by their names.
+fn filters_by_name<'q>(
+    alloc: Global,
+    filters: &'q [Filter],
+) -> Result<Vec<NameFilters<'q>>, OutOfMemory>
+    ensures { IfOk result
+        (λ v. (p : AskedName → Bool)
+        → list_all p v.items
+        ≡ list_all (λ (f : TheFilter). p (asked_under filters.now f.name)) filters.now) }
+{
+    let names = names_of(alloc, filters)?;
+    filters_named(alloc, filters, names.as_slice())
+}
+
+// Whether the filters of each name are met.
+fn are_all_met(
     alloc: Global,
     admin: bool,
     members: &Members,
-    filters: &[Filter],
-    name: &Text,
+    by_name: &[NameFilters],
 ) -> Result<bool, OutOfMemory>
     ensures { IfOk result
-        (λ b. b
-        ≡ list_any
-        (λ (g : TheFilter). bytes_eq name.now g.name
-        && has_value_in admin (map member_of members.now) g) filters.now) }
+        (λ b. b ≡ list_all (has_asked admin (map member_of members.now)) by_name.now) }
 {
-    for filter in filters {
-        if *name == filter.name && has_value(alloc, admin, members, filter)? {
-            return Ok(true);
-        }
-    }
-    Ok(false)
-}
-
-// Whether the filters are met. Its cost grows with the square of their number.
-pub(crate) fn meets(
-    alloc: Global,
-    admin: bool,
-    members: &Members,
-    filters: &[Filter],
-) -> Result<bool, OutOfMemory>
-    ensures { IfOk result (λ b. b ≡ meets_all admin filters.now (map member_of members.now)) }
-{
-    for filter in filters {
-        if !meets_name(alloc, admin, members, filters, &filter.name)? {
+    for filters in by_name {
+        if !filters.are_met(alloc, admin, members)? {
             return Ok(false);
         }
     }
     Ok(true)
+}
+
+/// A query, whose filters are put together by their names, so that a row costs the same however
+/// many there are. Contracts see the query.
+#[derive(Drop)]
+pub(crate) struct FilteredQuery<'q> {
+    query: &'q Query,
+    by_name: Vec<NameFilters<'q>>,
+}
+
+impl<'q> Model for FilteredQuery<'q> {
+    ghost use Rattle.std.specs.Prelude.{◌≡◌, Bool};
+    ghost use Rattle.std.specs.List.{list_all};
+    ghost use Rattle.api_types.specs.declared.call.Filter.{Filter};
+    ghost use Rattle.api_types.specs.declared.call.Query.{Query};
+    ghost use Rattle.api_shown.specs.Asked.{AskedName, asked_under};
+
+    ghost Value = { Query };
+
+    ghost view = { λ q. q.query.now };
+
+    ghost invariant = { λ q. (p : AskedName → Bool)
+        → list_all p q.by_name.items
+        ≡ list_all (λ (f : Filter). p (asked_under q.query.now.filters f.name))
+        q.query.now.filters };
+}
+
+impl<'q> FilteredQuery<'q> {
+    /// This query. Its cost grows with the filters, times their different names.
+    pub(crate) fn of(alloc: Global, query: &'q Query) -> Result<FilteredQuery<'q>, OutOfMemory>
+        ensures { IfOk result (λ q. q ≡ query.now) }
+    {
+        Ok(FilteredQuery {
+            query,
+            by_name: filters_by_name(alloc, query.filters.as_slice())?,
+        })
+    }
+
+    /// The query.
+    pub(crate) fn as_query(&self) -> &'q Query
+        ensures { result.now ≡ self.now }
+    {
+        self.query
+    }
+
+    /// Whether the members meet the filters. Its cost grows with the members, times the different
+    /// names of the filters.
+    pub(crate) fn meets(
+        &self,
+        alloc: Global,
+        admin: bool,
+        members: &Members,
+    ) -> Result<bool, OutOfMemory>
+        ensures { IfOk result
+            (λ b. b ≡ meets_all admin self.now.filters (map member_of members.now)) }
+    {
+        are_all_met(alloc, admin, members, self.by_name.as_slice())
+    }
 }

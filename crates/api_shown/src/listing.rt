@@ -8,7 +8,7 @@ ghost use Rattle.api_policy.specs.Listed.{behind as rows_behind, behind_marker a
 ghost use Rattle.api_shown.specs.ListRefusals.{IsListRefusal};
 ghost use Rattle.api_policy.specs.Shown.{shown_as};
 
-use crate::filtering::meets;
+use crate::filtering::FilteredQuery;
 use crate::members::Shows;
 use crate::showing::kept;
 use api_policy::{Visible, sees};
@@ -42,7 +42,7 @@ fn shown_if_met<R: Shows + Visible>(
     caller: &Caller,
     kind: Kind,
     row: &R,
-    query: &Query,
+    query: &FilteredQuery,
 ) -> Result<Option<Shown>, OutOfMemory>
     ensures { IfOk result (λ s. option_map shown_row s ≡ (if R.seen rows.now caller.now row.now && meets_all caller.now.admin query.now.filters (R.members_of rows.now caller.now row.now)
         then Some (shown_as kind caller.now.admin query.now.fields (R.members_of rows.now caller.now row.now)) else None)) }
@@ -51,10 +51,10 @@ fn shown_if_met<R: Shows + Visible>(
         return Ok(None);
     }
     let members = row.members(alloc, rows, caller)?;
-    if !meets(alloc, caller.admin, &members, query.filters.as_slice())? {
+    if !query.meets(alloc, caller.admin, &members)? {
         return Ok(None);
     }
-    let members = kept(alloc, caller.admin, &query.fields, members)?;
+    let members = kept(alloc, caller.admin, &query.as_query().fields, members)?;
     Ok(Some(Shown { kind, members }))
 }
 
@@ -75,7 +75,7 @@ fn listed_of<R: Shows + Visible>(
     caller: &Caller,
     kind: Kind,
     candidates: &[Shared<R>],
-    query: &Query,
+    query: &FilteredQuery,
 ) -> Result<ShownList, OutOfMemory>
     ensures { IfOk result
         (λ s. map shown_row s
@@ -85,7 +85,7 @@ fn listed_of<R: Shows + Visible>(
 {
     let mut listed = Vec::new(alloc);
     for row in candidates {
-        if is_full(query.limit, listed.len()) {
+        if is_full(query.as_query().limit, listed.len()) {
             break;
         }
         if let Some(shown) = shown_if_met(alloc, rows, caller, kind, row.get(), query)? {
@@ -129,14 +129,14 @@ fn listed_in<R: Shows + Visible>(
     caller: &Caller,
     kind: Kind,
     table: &Table<R>,
-    query: &Query,
+    query: &FilteredQuery,
 ) -> Result<ShownList, OutOfMemory>
     ensures { IfOk result
         (λ s. map shown_row s
         ≡ rows_listed_in R.id_of (R.seen rows.now caller.now)
         (R.members_of rows.now caller.now) kind caller.now.admin query.now table.now) }
 {
-    let candidates = behind_marker(table.rows(), &query.marker);
+    let candidates = behind_marker(table.rows(), &query.as_query().marker);
     listed_of(alloc, rows, caller, kind, candidates, query)
 }
 
@@ -145,7 +145,7 @@ fn listed_by_kind(
     rows: &Rows,
     caller: &Caller,
     kind: Kind,
-    query: &Query,
+    query: &FilteredQuery,
 ) -> Result<ShownList, OutOfMemory>
     ensures { IfOk result (λ s. map shown_row s ≡ rows_listed rows.now caller.now kind query.now) }
 {
@@ -196,8 +196,9 @@ fn check_marker(
 /// What a caller is shown of the rows of this kind: of those behind the marker's row, which has to
 /// be one of the kind that the caller sees, the ones that it sees and that meet the filters, up to
 /// the limit, in order of creation. The marker's row need not meet the filters. Only members that
-/// the caller is told are compared. Its cost grows with the rows of the kind, each by what it is to
-/// make its members and by the square of the filters.
+/// the caller is told are compared. Its cost grows with the filters times their different names,
+/// and with the rows of the kind, each by what it is to make its members, which are compared with
+/// each of these names.
 pub fn listed(
     alloc: Global,
     rows: &Rows,
@@ -212,5 +213,6 @@ pub fn listed(
     ensures refused { IfErr result (IsListRefusal rows.now caller.now kind query.now.marker) }
 {
     check_marker(alloc, rows, caller, kind, &query.marker)?;
-    Ok(listed_by_kind(alloc, rows, caller, kind, query)?)
+    let query = FilteredQuery::of(alloc, query)?;
+    Ok(listed_by_kind(alloc, rows, caller, kind, &query)?)
 }

@@ -21,5 +21,6 @@ returns g c =
       | then-loop-row-test+then-is_full w ↦
           front c.args.query.now.limit (map shown_row listed.items) (rows_of (drop c.loop-row.row-index c.args.candidates.now)) (rows_of c.args.candidates.now) c.loop-row.invariant.0 within
           (let same : length (map shown_row listed.items) ≡ w.len.result = omega (arith, many, listed.ok.0, w.len.ensures) in
-          ap (is_at_limit c.args.query.now.limit) same ∙ sym w.is_full.ensures ∙ w.if-is_full.true)
+          let query : c.args.query.now ≡ w.as_query.result.now = sym w.as_query.ensures in
+          (λ j. is_at_limit (query j).limit (same j)) ∙ sym w.is_full.ensures ∙ w.if-is_full.true)
     ]
