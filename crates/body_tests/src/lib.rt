@@ -1,7 +1,8 @@
-//! Tests of `neutron_json`: what bodies of each kind ask, and what is wrong with them.
+//! Tests of `json_values` and `neutron_json`: which values each attribute may have, what bodies of
+//! each kind ask, and what is wrong with them.
 //!
 //! The bodies and what becomes of them were worked out by hand from the Networking API reference. A
-//! crate with tests is proved twice, so they stand here, above `neutron_json`, and not in it. It
+//! crate with tests is proved twice, so they stand here, above the two crates, and not in them. It
 //! promises nothing by itself.
 #![tactic(auto)]
 
@@ -21,3 +22,5 @@ mod networks;
 mod policies;
 #[cfg(test)]
 mod routers;
+#[cfg(test)]
+mod values;

@@ -11,8 +11,6 @@ pub mod laws;
 mod line;
 mod matches;
 mod reader;
-#[cfg(test)]
-mod tests;
 mod values;
 pub mod worked;
 

@@ -9,7 +9,5 @@ mod bodies;
 mod draws;
 mod request;
 mod stream;
-#[cfg(test)]
-mod tests;
 
 pub use stream::drill;

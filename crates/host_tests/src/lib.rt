@@ -1,11 +1,14 @@
-//! Tests of `fabric_run`: what frames come to by tables made by hand.
+//! Tests of `plane_types` and `fabric_run`: keys of packets, tables and entries, and what frames
+//! come to by tables made by hand.
 //!
 //! Outcomes, paths, entries and trails were worked out by hand. A crate with tests is proved twice,
-//! so they stand here, above `fabric_run`, and not in it. It promises nothing by itself.
+//! so they stand here, above the two crates, and not in them. It promises nothing by itself.
 #![tactic(auto)]
 
 #[cfg(test)]
 mod drops;
+#[cfg(test)]
+mod keys;
 #[cfg(test)]
 mod lab;
 #[cfg(test)]
@@ -20,5 +23,7 @@ mod seen;
 mod six;
 #[cfg(test)]
 mod six_routed;
+#[cfg(test)]
+mod tables;
 #[cfg(test)]
 mod wires;

@@ -22,6 +22,3 @@ pub use values::read_number;
 
 /// The most bytes of a head.
 pub const HEAD_LIMIT: usize = 16384;
-
-#[cfg(test)]
-mod tests;

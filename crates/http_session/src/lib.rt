@@ -26,6 +26,3 @@ pub use request::Request;
 pub use sending::send;
 pub use session_end::SessionEnd;
 pub use sessions::session;
-
-#[cfg(test)]
-mod tests;

@@ -13,8 +13,9 @@ use std::alloc::Global;
 /// Answers the requests of the input, one after the other, and says why it ended.
 ///
 /// At most `limit` bytes are read. The buffer of 81,920 bytes, which the longest request fills, is
-/// taken first, then the handler is made, and no other memory is taken here. Each reply is flushed before more is read. Bytes
-/// that are refused have their reply, and a reply that closes the connection is the last one.
+/// taken first, then the handler is made, and no other memory is taken here. Each reply is flushed
+/// before more is read. Bytes that are refused have their reply, and a reply that closes the
+/// connection is the last one.
 ///
 /// A request's cost grows with its bytes and its reply, in whatever pieces either goes: each byte
 /// is read once and moved once at most, empty lines before a head are passed once, and each of at

@@ -98,8 +98,11 @@ fn packet(
     ends: &Ends,
     ttl: u8,
 ) -> Result<Map<String, Value>, OutOfMemory>
-    ensures { IfOk result (λ m. members_view m.entries ≡ members_data ((codes "dst", mac_tree dst) ∷ (codes "from", address_tree (source ends.now)) ∷ (codes "kind", word (word_of_packet ends.now))
-        ∷ (codes "src", mac_tree src) ∷ (codes "to", address_tree (destination ends.now)) ∷ (codes "ttl", number ttl) ∷ []) no_members) }
+    ensures { IfOk result (λ m. members_view m.entries ≡ members_data
+        ((codes "dst", mac_tree dst) ∷ (codes "from", address_tree (source ends.now))
+        ∷ (codes "kind", word (word_of_packet ends.now)) ∷ (codes "src", mac_tree src)
+        ∷ (codes "to", address_tree (destination ends.now)) ∷ (codes "ttl", number ttl) ∷ [])
+        no_members) }
 {
     let mut map = Map::new(alloc);
     put(&mut map, alloc, "dst", &dst)?;

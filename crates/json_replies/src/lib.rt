@@ -13,6 +13,3 @@ mod verdict;
 mod word;
 
 pub use reply::write_reply;
-
-#[cfg(test)]
-mod tests;

@@ -26,6 +26,3 @@ pub use grammar::{
     ShortText, SubnetPrefix, SubnetVersion, TargetName, VirtualCard, WireTag,
 };
 pub use text::read_id;
-
-#[cfg(test)]
-mod tests;

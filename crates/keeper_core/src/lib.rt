@@ -39,6 +39,3 @@ pub use refusal::{DeskRefusal, Failed, KeeperRefusal, OutsideRefusal, SinkRefusa
 pub use sink::Sink;
 pub use source::Source;
 pub use sure_desk::{SureDesk, SureEnds};
-
-#[cfg(test)]
-mod tests;

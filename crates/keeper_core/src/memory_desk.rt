@@ -63,8 +63,13 @@ impl MemoryDesk {
         ensures { IfOk result
             (λ desk. desk
             ≡ record {
-              told = record
-                  { asks = []; files = files; stores = record { named = stores; unnamed = None; opened = None }; to_come = connections; returned = Some (record { ended = []; out = 0 }) };
+              told = record {
+                asks = [];
+                files = files;
+                stores = record { named = stores; unnamed = None; opened = None };
+                to_come = connections;
+                returned = Some (record { ended = []; out = 0 });
+              };
               calls = record { made = 0; failing = failing; faults = 0 };
               store_failing = store_failing;
               store_faults = 0;

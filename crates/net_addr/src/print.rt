@@ -55,32 +55,3 @@ impl Prefix {
         Ok(Text::from_string(text))
     }
 }
-
-#[cfg(test)]
-mod tests {
-    use super::*;
-    use crate::address::Cidr;
-    use std::test::Fail;
-
-    #[test]
-    fn prints(rt: HostRuntime) -> Result<(), Fail> {
-        let alloc = rt.alloc();
-        assert_eq!(rt; Addr4(0).print(alloc)?.as_str(), "0.0.0.0");
-        assert_eq!(rt;
-            Addr4(0xffff_ffff).print(alloc)?.as_str(),
-            "255.255.255.255"
-        );
-        assert_eq!(rt; Addr4(0x0a00_6401).print(alloc)?.as_str(), "10.0.100.1");
-        assert_eq!(rt;
-            Mac(0xfa16_3e00_ab0d).print(alloc)?.as_str(),
-            "fa:16:3e:00:ab:0d"
-        );
-        assert_eq!(rt; Mac(0).print(alloc)?.as_str(), "00:00:00:00:00:00");
-        let cidr = Cidr {
-            addr: Addr::V4(Addr4(0x0a00_0005)),
-            len: 24,
-        };
-        assert_eq!(rt; cidr.prefix().print(alloc)?.as_str(), "10.0.0.0/24");
-        Ok(())
-    }
-}

@@ -22,6 +22,3 @@ pub use defaults::default_settings;
 pub use document::read_settings;
 pub use refusal::SettingsRefusal;
 pub use settings::{Driver, Host, Limit, Quotas, Settings};
-
-#[cfg(test)]
-mod tests;

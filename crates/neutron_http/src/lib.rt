@@ -16,6 +16,3 @@ pub use http_heads::{HEAD_LIMIT, HeadParts, HeadRead, Part, head_laws, read_head
 pub use query::{BodyRefusal, read_query};
 pub use reply::{Extra, no_memory_reply, written};
 pub use route::{Method, Route, RoutePath, RouteRefusal, Routes, find_route};
-
-#[cfg(test)]
-mod tests;

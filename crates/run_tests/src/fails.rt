@@ -1,4 +1,6 @@
 //! Runs in which one call of the outside fails.
+ghost use Rattle.std.specs.Prelude.{◌<◌};
+
 use crate::runs::{MADE, MAKE, bytes, desk, numbers, texts};
 use keeper_core::{MemorySink, MemorySource};
 use net_addr::OutOfMemory;
@@ -6,8 +8,17 @@ use neutron_serve::run;
 use std::alloc::Global;
 use std::test::Fail;
 
+/// The same is made again.
+const MADE_NEXT: &[u8] =
+    b"HTTP/1.1 201 Created\r\nContent-Type: application/json\r\nContent-Length: 211\r\n\r\n\
+        {\"network\":{\"admin_state_up\":true,\"description\":\"\",\
+        \"id\":\"00000001-0000-8000-8000-000000000007\",\"name\":\"n1\",\"project_id\":\"a\",\
+        \"router:external\":false,\"shared\":false,\"status\":\"ACTIVE\",\"subnets\":[],\
+        \"tenant_id\":\"a\"}}";
+
 /// The store failed to keep a change.
-const NOT_KEPT: &[u8] = b"HTTP/1.1 503 Service Unavailable\r\nContent-Type: application/json\r\n\
+pub(crate) const NOT_KEPT: &[u8] =
+    b"HTTP/1.1 503 Service Unavailable\r\nContent-Type: application/json\r\n\
         Content-Length: 96\r\n\r\n\
         {\"NeutronError\":{\"detail\":\"\",\"message\":\"The store failed in this request.\",\
         \"type\":\"StoreFault\"}}";
@@ -16,50 +27,89 @@ const SESSION: &[&str] = &["session", "--settings=good"];
 
 const SERVE: &[&str] = &["serve", "--listen=x", "--connections=2"];
 
+const ONCE: &[&[u8]] = &[MAKE];
+
+const THRICE: &[&[u8]] = &[MAKE, MAKE, MAKE];
+
 // Words, the numbers of the calls that fail (of the desk, of its store, reads, and writes and flushes),
-// the status over the making of a network, and what is written.
+// the requests, the status, and the replies that are written.
 type Case = (
     &'static [&'static str],
     [&'static [u64]; 4],
+    &'static [&'static [u8]],
     u8,
-    &'static [u8],
+    &'static [&'static [u8]],
 );
 
-const CASES: [Case; 11] = [
+const CASES: [Case; 13] = [
     // The desk: settings, store, listen, next.
-    (SESSION, [&[1], &[], &[], &[]], 7, b""),
-    (SESSION, [&[2], &[], &[], &[]], 7, b""),
-    (SERVE, [&[2], &[], &[], &[]], 7, b""),
-    (SERVE, [&[3], &[], &[], &[]], 7, b""),
-    // The store: its load, and what the first change is kept by.
-    (SESSION, [&[], &[1], &[], &[]], 7, b""),
-    (SESSION, [&[], &[2], &[], &[]], 0, NOT_KEPT),
+    (SESSION, [&[1], &[], &[], &[]], ONCE, 7, &[]),
+    (SESSION, [&[2], &[], &[], &[]], ONCE, 7, &[]),
+    (SERVE, [&[2], &[], &[], &[]], ONCE, 7, &[]),
+    (SERVE, [&[3], &[], &[], &[]], ONCE, 7, &[]),
+    // The store: its load, and what the first and the second change are kept by.
+    (SESSION, [&[], &[1], &[], &[]], ONCE, 7, &[]),
+    (SESSION, [&[], &[2], &[], &[]], ONCE, 0, &[NOT_KEPT]),
+    (
+        SESSION,
+        [&[], &[3], &[], &[]],
+        THRICE,
+        0,
+        &[MADE, NOT_KEPT, MADE_NEXT],
+    ),
     // The first read, and one behind a whole request.
-    (SESSION, [&[], &[], &[1], &[]], 2, b""),
-    (SESSION, [&[], &[], &[2], &[]], 2, MADE),
-    // The first write, the flush behind it, and what a drill writes.
-    (SESSION, [&[], &[], &[], &[1]], 3, b""),
-    (SESSION, [&[], &[], &[], &[2]], 3, MADE),
-    (&["drill", "7", "1"], [&[], &[], &[], &[1]], 3, b""),
+    (SESSION, [&[], &[], &[1], &[]], ONCE, 2, &[]),
+    (SESSION, [&[], &[], &[2], &[]], ONCE, 2, &[MADE]),
+    // The first write, the flush behind it, and the third write.
+    (SESSION, [&[], &[], &[], &[1]], ONCE, 3, &[]),
+    (SESSION, [&[], &[], &[], &[2]], ONCE, 3, &[MADE]),
+    (
+        SESSION,
+        [&[], &[], &[], &[5]],
+        THRICE,
+        3,
+        &[MADE, MADE_NEXT],
+    ),
+    // What a drill writes.
+    (&["drill", "7", "1"], [&[], &[], &[], &[1]], ONCE, 3, &[]),
 ];
 
-fn fails_as_wanted(alloc: Global, case: &Case) -> Result<bool, OutOfMemory> {
-    let (words, [calls, store, reads, writes], wanted, written) = *case;
+// Of a slow input, four reads of 31 bytes give the first request, and the fifth fails.
+const FIFTH_READ: Case = (SESSION, [&[], &[], &[5], &[]], THRICE, 2, &[MADE]);
+
+/// These bytes, one behind the other.
+pub(crate) fn joined(alloc: Global, parts: &[&[u8]]) -> Result<Vec<u8>, OutOfMemory> {
+    let mut all = Vec::new(alloc);
+    for part in parts {
+        all.extend_from_slice(part)?;
+    }
+    Ok(all)
+}
+
+// Whether a run is as the case says, over an input of which one read gives so many bytes.
+fn fails_as_wanted(alloc: Global, case: &Case, piece: usize) -> Result<bool, OutOfMemory>
+    requires { 0 < piece }
+{
+    let (words, [calls, store, reads, writes], requests, wanted, replies) = *case;
     let words = texts(alloc, words)?;
     let mut desk = desk(alloc, calls, store)?;
-    let mut input = MemorySource::make(bytes(alloc, MAKE)?, 100_000, numbers(alloc, reads)?);
+    let requests = joined(alloc, requests)?;
+    let replies = joined(alloc, replies)?;
+    let requests = bytes(alloc, requests.as_slice())?;
+    let mut input = MemorySource::make(requests, piece, numbers(alloc, reads)?);
     let mut output = MemorySink::make(alloc, numbers(alloc, writes)?);
     let status = run(alloc, words.as_slice(), &mut desk, &mut input, &mut output);
-    Ok(status == wanted && output.as_slice() == written)
+    Ok(status == wanted && output.as_slice() == replies.as_slice())
 }
 
 #[test]
 fn fails(rt: HostRuntime) -> Result<(), Fail> {
     let alloc = rt.alloc();
     for case in &CASES {
-        let wanted = fails_as_wanted(alloc, case)?;
-        let status = case.2;
+        let wanted = fails_as_wanted(alloc, case, 100_000)?;
+        let status = case.3;
         assert!(rt; wanted, "status {status}");
     }
+    assert!(rt; fails_as_wanted(alloc, &FIFTH_READ, 31)?);
     Ok(())
 }

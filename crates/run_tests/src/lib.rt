@@ -1,9 +1,12 @@
 //! Tests of the program's call, over a desk in memory: what its words, its desk, its input and its
-//! output make of it, with values that were worked out by hand.
+//! output make of it, with values that were worked out by hand; and the requests of a drill
+//! (`drill_gen`), as another program made them.
 //!
 //! It promises nothing by itself.
 #![tactic(auto)]
 
+#[cfg(test)]
+mod drilled_bytes;
 #[cfg(test)]
 mod drills;
 #[cfg(test)]
@@ -12,3 +15,5 @@ mod fails;
 mod runs;
 #[cfg(test)]
 mod served;
+#[cfg(test)]
+mod unkept;

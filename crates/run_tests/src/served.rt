@@ -1,6 +1,12 @@
 //! Runs that serve connections.
-use crate::runs::{MADE, MAKE, bytes, texts};
-use keeper_core::{DeskAsk, SureDesk, SureEnds, SureSink, SureSource};
+ghost use Rattle.std.specs.Prelude.{IfOk, IsTrue};
+ghost use Rattle.keeper_core.specs.Desk.{fresh_ends};
+
+use crate::runs::{MADE, MAKE, bytes, numbers, texts};
+use keeper_core::{
+    DeskAsk, EndsList, MemoryDesk, MemorySink, MemorySource, SureDesk, SureEnds, SureSink,
+    SureSource,
+};
 use net_addr::{OutOfMemory, Seq};
 use neutron_serve::run;
 use std::alloc::Global;
@@ -65,6 +71,38 @@ fn serves(rt: HostRuntime) -> Result<(), Fail> {
     let more = ["serve", "--listen", "x", "--connections", "9"];
     let spent = are_served(alloc, &more, &[MAKE, SHOW], &[MADE, SHOWN], 5)?;
     assert!(rt; both && first && spent);
+    Ok(())
+}
+
+// A connection that is cut behind its request, and one that comes next.
+fn cut_and_next(alloc: Global) -> Result<EndsList, OutOfMemory>
+    ensures { IfOk result (λ ends. IsTrue (fresh_ends ends)) }
+{
+    let mut ends = Seq::new(alloc);
+    let cut = MemorySource::make(bytes(alloc, MAKE)?, 100_000, numbers(alloc, &[2])?);
+    ends.push((cut, MemorySink::make(alloc, Seq::new(alloc))))?;
+    let next = MemorySource::make(bytes(alloc, SHOW)?, 100_000, Seq::new(alloc));
+    ends.push((next, MemorySink::make(alloc, Seq::new(alloc))))?;
+    Ok(ends)
+}
+
+// A failing read ends its connection alone: the request before it is answered, and the next
+// connection is served over what it made.
+#[test]
+fn serves_behind_a_cut(rt: HostRuntime) -> Result<(), Fail> {
+    let alloc = rt.alloc();
+    let words = texts(alloc, &["serve", "--listen=x", "--connections=2"])?;
+    let ends = cut_and_next(alloc)?;
+    let (files, stores) = (Seq::new(alloc), Seq::new(alloc));
+    let mut desk = MemoryDesk::make(alloc, files, stores, ends, Seq::new(alloc), Seq::new(alloc))?;
+    let mut input = MemorySource::make(bytes(alloc, b"")?, 7, Seq::new(alloc));
+    let mut output = MemorySink::make(alloc, Seq::new(alloc));
+    let status = run(alloc, words.as_slice(), &mut desk, &mut input, &mut output);
+    assert_eq!(rt; status, 0);
+    let Some([(_, cut), (_, next)]) = desk.ended() else {
+        return Err(Fail::new("other connections"));
+    };
+    assert!(rt; cut.as_slice() == MADE && next.as_slice() == SHOWN);
     Ok(())
 }
 

@@ -95,7 +95,7 @@ const REQUESTS: [Exchange; 7] = [
     ),
 ];
 
-const REFUSALS: [Exchange; 7] = [
+const REFUSALS: [Exchange; 8] = [
     // No project.
     (
         b"POST /v2.0/networks HTTP/1.1\r\nContent-Length: 25\r\n\r\n\
@@ -161,6 +161,19 @@ const REFUSALS: [Exchange; 7] = [
         b"HTTP/1.1 400 Bad Request\r\nContent-Type: application/json\r\nContent-Length: 98\r\n\
             \r\n{\"NeutronError\":{\"detail\":\"\",\
             \"message\":\"Invalid input for port_range_min.\",\"type\":\"InvalidInput\"}}",
+    ),
+    // A tag above the last one.
+    (
+        b"POST /v2.0/networks HTTP/1.1\r\nX-Project-Id: adm\r\nX-Roles: admin\r\n\
+            Content-Length: 115\r\n\r\n\
+            {\"network\":{\"provider:network_type\":\"vlan\",\
+            \"provider:physical_network\":\"physnet1\",\
+            \"provider:segmentation_id\":4095}}",
+        b"HTTP/1.1 400 Bad Request\r\nContent-Type: application/json\r\n\
+            Content-Length: 108\r\n\r\n\
+            {\"NeutronError\":{\"detail\":\"\",\
+            \"message\":\"Invalid input for provider:segmentation_id.\",\
+            \"type\":\"InvalidInput\"}}",
     ),
 ];
 

@@ -8,6 +8,25 @@ use std::alloc::Global;
 use std::test::Fail;
 use test_rows::{add, held, id, mac, port, prefix, project, router, subnet};
 
+/// The clauses by number, each with the kind of the first row that breaks it in the store that is
+/// spoiled so, and what its id is made of.
+pub(crate) const CLAUSES: [(u8, Kind, u8); 14] = [
+    (1, Kind::Project, 0),
+    (2, Kind::Port, 70),
+    (3, Kind::Subnet, 70),
+    (4, Kind::Port, 31),
+    (5, Kind::Port, 70),
+    (6, Kind::Subnet, 12),
+    (7, Kind::Network, 70),
+    (8, Kind::Port, 70),
+    (9, Kind::Router, 71),
+    (10, Kind::Floating, 50),
+    (11, Kind::Project, 0),
+    (12, Kind::Port, 72),
+    (13, Kind::Policy, 20),
+    (14, Kind::Router, 70),
+];
+
 // A port on a network that is not there.
 fn lose_network(alloc: Global, rows: &mut Rows) -> Result<(), OutOfMemory> {
     add(alloc, rows, Row::Port(port(alloc, 70, 99)?))
@@ -109,35 +128,21 @@ fn found(alloc: Global, rows: &Rows) -> Result<Option<Inconsistent>, OutOfMemory
     Ok(first_broken(rows, &settings))
 }
 
-// What is found of a store in which one clause is broken.
-fn found_spoiled(alloc: Global, rule: u8) -> Result<Option<Inconsistent>, OutOfMemory> {
+/// A store in which one clause is broken.
+pub(crate) fn spoiled(alloc: Global, rule: u8) -> Result<Rows, OutOfMemory> {
     let mut rows = store(alloc)?;
     spoil(alloc, &mut rows, rule)?;
-    found(alloc, &rows)
+    Ok(rows)
 }
 
 #[test]
 fn each_clause_is_named(rt: HostRuntime) -> Result<(), Fail> {
-    let table = [
-        (1, Kind::Project, 0),
-        (2, Kind::Port, 70),
-        (3, Kind::Subnet, 70),
-        (4, Kind::Port, 31),
-        (5, Kind::Port, 70),
-        (6, Kind::Subnet, 12),
-        (7, Kind::Network, 70),
-        (8, Kind::Port, 70),
-        (9, Kind::Router, 71),
-        (10, Kind::Floating, 50),
-        (11, Kind::Project, 0),
-        (12, Kind::Port, 72),
-        (13, Kind::Policy, 20),
-        (14, Kind::Router, 70),
-    ];
-    for (rule, kind, n) in table {
+    let alloc = rt.alloc();
+    for (rule, kind, n) in CLAUSES {
         let id = id(n);
         let want = Some(Inconsistent { rule, kind, id });
-        assert!(rt; found_spoiled(rt.alloc(), rule)? == want, "clause {rule}");
+        let rows = spoiled(alloc, rule)?;
+        assert!(rt; found(alloc, &rows)? == want, "clause {rule}");
     }
     Ok(())
 }

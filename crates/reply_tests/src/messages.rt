@@ -1,6 +1,9 @@
-use super::*;
+//! Routes, queries, texts of refusals, and replies around their bodies.
 use api_types::{Id, Kind, Refusal, UseRule, Value};
 use net_addr::{Addr, Addr4, OutOfMemory, Text};
+use neutron_http::{
+    BodyRefusal, Extra, Method, RoutePath, RouteRefusal, fault_of, find_route, read_query, written,
+};
 use std::alloc::Global;
 use std::test::Fail;
 

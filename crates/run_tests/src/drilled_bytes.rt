@@ -1,4 +1,5 @@
-use crate::drill;
+//! The requests of a drill.
+use drill_gen::drill;
 use std::test::Fail;
 
 // The path and the body of each request of a drill of size 3 whose draws start at 7, as another

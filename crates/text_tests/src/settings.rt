@@ -1,5 +1,6 @@
-use super::*;
+//! Settings.
 use net_addr::{Copies, OutOfMemory, Text};
+use net_settings::{Limit, SettingsRefusal, default_settings, read_settings};
 use std::alloc::Global;
 use std::test::Fail;
 

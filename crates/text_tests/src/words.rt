@@ -1,4 +1,5 @@
-use crate::{Delivery, Line, Opening, Refusal, read_line};
+//! The words of the program.
+use command_lines::{Delivery, Line, Opening, Refusal, read_line};
 use net_addr::{OutOfMemory, Text};
 use std::alloc::Global;
 use std::test::Fail;

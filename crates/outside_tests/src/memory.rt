@@ -1,19 +1,17 @@
+//! The outside in memory: sources, sinks, keepers and desks, and the adapters of std's ends.
 ghost use Rattle.std.specs.Prelude.{◌<◌, IfOk};
 ghost use Rattle.api_types.specs.Rows.{Fits, no_rows};
 
-use crate::{
+use crate::listed::numbers;
+use api_types::{Change, Item, Kind, ProjectRow, Row, Rows};
+use keeper_core::{
     Desk, DeskRefusal, EndsList, Failed, Keeper, MemoryDesk, MemoryKeeper, MemorySink,
     MemorySource, Named, NamedBytes, ReaderSource, Sink, Source, SureDesk, SureEnds, SureKeeper,
     SureSink, SureSource, WriterSink,
 };
-use api_types::{Change, Item, Kind, ProjectRow, Row, Rows};
-use net_addr::{Bytes, Numbers, OutOfMemory, Seq, Text};
+use net_addr::{Bytes, OutOfMemory, Seq, Text};
 use std::alloc::Global;
 use std::test::Fail;
-
-fn numbers(alloc: Global, numbers: &[u64]) -> Result<Numbers, OutOfMemory> {
-    Ok(Seq::from_vec(Vec::from_slice(alloc, numbers)?))
-}
 
 fn bytes(alloc: Global, text: &str) -> Result<Bytes, OutOfMemory> {
     Ok(Bytes::from_vec(Vec::from_slice(alloc, text.as_bytes())?))

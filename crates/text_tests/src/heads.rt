@@ -1,4 +1,5 @@
-use super::*;
+//! Heads of requests.
+use http_heads::{HeadRead, Part, read_head, skip_empty_lines};
 use std::alloc::Global;
 use std::test::Fail;
 

@@ -1,13 +1,15 @@
+//! Sessions over bytes, with a handler that echoes.
 ghost use Rattle.std.specs.Prelude.{◌≡◌, ◌<◌, ◌+◌, ◌%◌, ◌++◌, [], ◌∷◌, IfOk, OnOk, OnErr};
 ghost use Rattle.http_heads.specs.Heads.{Asked};
 ghost use Rattle.http_session.specs.Requests.{IsRequest, BeginsWith};
 
-use crate::{Answer, Handler, Request, SessionEnd, session};
+use crate::listed::numbers;
 use api_types::Rows;
+use http_session::{Answer, Handler, Request, SessionEnd, session};
 use keeper_core::{
     Keeper, KeeperRefusal, MemoryKeeper, MemorySink, MemorySource, SureKeeper, SureSink, SureSource,
 };
-use net_addr::{Bytes, Numbers, OutOfMemory, Seq};
+use net_addr::{Bytes, OutOfMemory};
 use std::alloc::Global;
 use std::marker::Model;
 use std::test::Fail;
@@ -229,10 +231,6 @@ fn budgets(rt: HostRuntime) -> Result<(), Fail> {
         assert!(rt; by_one && whole);
     }
     Ok(())
-}
-
-fn numbers(alloc: Global, numbers: &[u64]) -> Result<Numbers, OutOfMemory> {
-    Ok(Seq::from_vec(Vec::from_slice(alloc, numbers)?))
 }
 
 /// How a session over two requests ends, and what it writes, where these reads, these writes and

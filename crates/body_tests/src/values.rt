@@ -1,4 +1,5 @@
-use super::*;
+//! The values of bodies, by the grammars of attributes.
+use json_values::{AnyAddress, Grammar, GrammarName, allows};
 use net_addr::{OutOfMemory, Text};
 use serde_json::Value;
 use std::alloc::Global;

@@ -1,5 +1,6 @@
-use super::*;
+//! The bodies of replies.
 use api_types::{Answer, Direction, Ethertype, Id, Kind, Lease, Members, Printed, Refusal, Shown};
+use json_replies::write_reply;
 use net_addr::{Addr, Addr4, Addr6, Mac, OutOfMemory, Seq, Text};
 use plane_types::{
     Ascending, AskAnswer, BridgeKey, BridgeRow, BridgeTo, DropCause, Ends, Entry, FilterRow, Frame,
