@@ -1,6 +1,6 @@
 -- What a session promises. Begin here.
 --
--- Whole requests are answered once each, in their order, by one whole reply before more is read (`Serves`). Where the store fails to keep a
+-- Whole requests are answered once each, in their order, each by one whole reply (`Serves`). Where the store fails to keep a
 -- change, or memory is wanting, the reply says so and nothing has moved; want of memory may come in the place of any reply. Each other
 -- request is promised what follows: the reply and the rows are those of the machine of the Networking API; a tenant's reply depends on its
 -- footing alone; and after any messages that hosts missed, got twice or lost in a restart, whenever every host holds the version of now,

@@ -87,9 +87,11 @@ fn listened<D: Desk>(
 ) -> u8
     requires { Tells (D.Store.kept store.old) world.old.history.rows }
     ensures listens { Listens result address.now connections world.old (D.Store.faults store.old)
-        (line (option_map (map (end_of D.In.left D.In.faults D.Out.written D.Out.flushed D.Out.faults)) (D.to_come desk.old)) (D.returned desk.old) (D.asks desk.old))
+        (line (option_map (map (end_of D.In.left D.In.faults D.Out.written D.Out.flushed D.Out.faults))
+        (D.to_come desk.old)) (D.returned desk.old) (D.asks desk.old))
         (D.faults desk.old) world.new (D.Store.faults store.new)
-        (line (option_map (map (end_of D.In.left D.In.faults D.Out.written D.Out.flushed D.Out.faults)) (D.to_come desk.new)) (D.returned desk.new) (D.asks desk.new))
+        (line (option_map (map (end_of D.In.left D.In.faults D.Out.written D.Out.flushed D.Out.faults))
+        (D.to_come desk.new)) (D.returned desk.new) (D.asks desk.new))
         (D.faults desk.new) }
     ensures outside { result ≡ 7 → RoseBy 1 (D.faults desk.old) (D.faults desk.new) }
     ensures few { (result ≡ 0) ⊎ ((result ≡ 4) ⊎ (result ≡ 7)) }
@@ -117,8 +119,10 @@ fn run_serve<D: Desk>(
     ensures runs { RunsServe opening.now address.now connections
         (desk_seen (D.asks desk.old) (D.files desk.old) (D.stores desk.old) (D.faults desk.old) (D.store_faults desk.old))
         (desk_seen (D.asks desk.new) (D.files desk.new) (D.stores desk.new) (D.faults desk.new) (D.store_faults desk.new))
-        (line (option_map (map (end_of D.In.left D.In.faults D.Out.written D.Out.flushed D.Out.faults)) (D.to_come desk.old)) (D.returned desk.old) (D.asks desk.old))
-        (line (option_map (map (end_of D.In.left D.In.faults D.Out.written D.Out.flushed D.Out.faults)) (D.to_come desk.new)) (D.returned desk.new) (D.asks desk.new))
+        (line (option_map (map (end_of D.In.left D.In.faults D.Out.written D.Out.flushed D.Out.faults))
+        (D.to_come desk.old)) (D.returned desk.old) (D.asks desk.old))
+        (line (option_map (map (end_of D.In.left D.In.faults D.Out.written D.Out.flushed D.Out.faults))
+        (D.to_come desk.new)) (D.returned desk.new) (D.asks desk.new))
         result }
     ensures bad_settings { result ≡ 5 → AreBadSettings (D.files desk.old) opening.now.settings }
     ensures broken_rows { result ≡ 6 → AreBroken
@@ -183,8 +187,10 @@ pub fn run<D: Desk>(
         → (RunsServe opening address connections
         (desk_seen (D.asks desk.old) (D.files desk.old) (D.stores desk.old) (D.faults desk.old) (D.store_faults desk.old))
         (desk_seen (D.asks desk.new) (D.files desk.new) (D.stores desk.new) (D.faults desk.new) (D.store_faults desk.new))
-        (line (option_map (map (end_of D.In.left D.In.faults D.Out.written D.Out.flushed D.Out.faults)) (D.to_come desk.old)) (D.returned desk.old) (D.asks desk.old))
-        (line (option_map (map (end_of D.In.left D.In.faults D.Out.written D.Out.flushed D.Out.faults)) (D.to_come desk.new)) (D.returned desk.new) (D.asks desk.new))
+        (line (option_map (map (end_of D.In.left D.In.faults D.Out.written D.Out.flushed D.Out.faults))
+        (D.to_come desk.old)) (D.returned desk.old) (D.asks desk.old))
+        (line (option_map (map (end_of D.In.left D.In.faults D.Out.written D.Out.flushed D.Out.faults))
+        (D.to_come desk.new)) (D.returned desk.new) (D.asks desk.new))
         result × (input.new ≡ input.old) × (output.new ≡ output.old))
         ⊎ IsUnasked result desk.old desk.new input.old input.new output.old output.new }
     ensures drill { (start size : ℕ) (replies : Bool) → line_of words.now ≡ Some (TheDrill start size replies)

@@ -31,7 +31,7 @@ fn lease_in(alloc: Global, rows: &Rows, fixed: Fixed) -> Result<Option<Lease>, O
     }
 }
 
-// The first address of a port in a subnet in which the DHCP port holds one.
+// The first address of version 4 of a port in a subnet in which the DHCP port holds one.
 fn fixed_leased(dhcp: &PortRow, port: &PortRow) -> Option<Fixed>
     ensures { result
         ≡ find (λ (f : TheFixed). is_v4 f.address && held_in f.subnet dhcp.now) port.now.fixed }
@@ -44,9 +44,9 @@ fn fixed_leased(dhcp: &PortRow, port: &PortRow) -> Option<Fixed>
     None
 }
 
-/// What a DHCP port leases to a port: the first address of the port in a subnet in which the DHCP
-/// port holds one, with what that subnet gives (RFC 2131, RFC 2132). Its cost grows with the
-/// addresses of the two ports.
+/// What a DHCP port leases to a port: the first address of version 4 of the port in a subnet in
+/// which the DHCP port holds one, with what that subnet gives (RFC 2131, RFC 2132). Its cost grows
+/// with the addresses of the two ports.
 pub fn lease_for(
     alloc: Global,
     rows: &Rows,
