@@ -44,8 +44,11 @@ fn shown_if_met<R: Shows + Visible>(
     row: &R,
     query: &FilteredQuery,
 ) -> Result<Option<Shown>, OutOfMemory>
-    ensures { IfOk result (λ s. option_map shown_row s ≡ (if R.seen rows.now caller.now row.now && meets_all caller.now.admin query.now.filters (R.members_of rows.now caller.now row.now)
-        then Some (shown_as kind caller.now.admin query.now.fields (R.members_of rows.now caller.now row.now)) else None)) }
+    ensures { IfOk result (λ s. option_map shown_row s
+        ≡ (if R.seen rows.now caller.now row.now
+        && meets_all caller.now.admin query.now.filters (R.members_of rows.now caller.now row.now)
+        then Some (shown_as kind caller.now.admin query.now.fields
+        (R.members_of rows.now caller.now row.now)) else None)) }
 {
     if !row.is_seen(rows, caller) {
         return Ok(None);

@@ -1,10 +1,8 @@
 //! Runs in which one call of the outside fails.
 ghost use Rattle.std.specs.Prelude.{◌<◌};
 
-use crate::runs::{MADE, MAKE, bytes, desk, numbers, texts};
-use keeper_core::{MemorySink, MemorySource};
+use crate::runs::{MADE, MAKE, ran};
 use net_addr::OutOfMemory;
-use neutron_serve::run;
 use std::alloc::Global;
 use std::test::Fail;
 
@@ -90,16 +88,11 @@ pub(crate) fn joined(alloc: Global, parts: &[&[u8]]) -> Result<Vec<u8>, OutOfMem
 fn fails_as_wanted(alloc: Global, case: &Case, piece: usize) -> Result<bool, OutOfMemory>
     requires { 0 < piece }
 {
-    let (words, [calls, store, reads, writes], requests, wanted, replies) = *case;
-    let words = texts(alloc, words)?;
-    let mut desk = desk(alloc, calls, store)?;
+    let (words, failing, requests, status, replies) = *case;
     let requests = joined(alloc, requests)?;
     let replies = joined(alloc, replies)?;
-    let requests = bytes(alloc, requests.as_slice())?;
-    let mut input = MemorySource::make(requests, piece, numbers(alloc, reads)?);
-    let mut output = MemorySink::make(alloc, numbers(alloc, writes)?);
-    let status = run(alloc, words.as_slice(), &mut desk, &mut input, &mut output);
-    Ok(status == wanted && output.as_slice() == replies.as_slice())
+    let outcome = ran(alloc, words, failing, requests.as_slice(), piece)?;
+    Ok(outcome.status == status && outcome.written.as_slice() == replies.as_slice())
 }
 
 #[test]

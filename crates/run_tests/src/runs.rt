@@ -1,4 +1,6 @@
 //! Runs of one session, and words that are none.
+ghost use Rattle.std.specs.Prelude.{◌<◌};
+
 use api_types::{Row, Rows};
 use keeper_core::{
     DeskAsk, EndsList, MemoryDesk, MemorySink, MemorySource, Named, NamedBytes, NamedRows,
@@ -87,13 +89,9 @@ fn stores(alloc: Global) -> Result<NamedRows, OutOfMemory> {
     Ok(stores)
 }
 
-/// A desk with two files of settings and one store, which fails in these calls, and whose stores fail
-/// in those.
-pub(crate) fn desk(
-    alloc: Global,
-    failing: &[u64],
-    store_failing: &[u64],
-) -> Result<MemoryDesk, OutOfMemory> {
+// A desk with two files of settings and one store, which fails in these calls, and whose stores fail
+// in those.
+fn desk(alloc: Global, failing: &[u64], store_failing: &[u64]) -> Result<MemoryDesk, OutOfMemory> {
     let files = files(alloc)?;
     let stores = stores(alloc)?;
     let ends: EndsList = Seq::new(alloc);
@@ -102,14 +100,42 @@ pub(crate) fn desk(
     MemoryDesk::make(alloc, files, stores, ends, failing, store_failing)
 }
 
-fn is_as_wanted(alloc: Global, case: &Case) -> Result<bool, OutOfMemory> {
-    let (words, wanted, written, asks) = *case;
+/// What a run comes to: its status, what it writes, and how often it asks the desk.
+#[derive(Drop)]
+pub(crate) struct Outcome {
+    pub(crate) status: u8,
+    pub(crate) written: Vec<u8>,
+    pub(crate) asks: usize,
+}
+
+/// A run of these words over requests of which one read gives so many bytes. These calls fail: of the
+/// desk, of its stores, reads, and writes and flushes.
+pub(crate) fn ran(
+    alloc: Global,
+    words: &[&str],
+    failing: [&[u64]; 4],
+    requests: &[u8],
+    piece: usize,
+) -> Result<Outcome, OutOfMemory>
+    requires { 0 < piece }
+{
+    let [calls, store, reads, writes] = failing;
     let words = texts(alloc, words)?;
-    let mut desk = desk(alloc, &[], &[])?;
-    let mut input = MemorySource::make(bytes(alloc, MAKE)?, 100_000, Seq::new(alloc));
-    let mut output = MemorySink::make(alloc, Seq::new(alloc));
+    let mut desk = desk(alloc, calls, store)?;
+    let mut input = MemorySource::make(bytes(alloc, requests)?, piece, numbers(alloc, reads)?);
+    let mut output = MemorySink::make(alloc, numbers(alloc, writes)?);
     let status = run(alloc, words.as_slice(), &mut desk, &mut input, &mut output);
-    Ok(status == wanted && output.as_slice() == written && desk.asks().len() == asks)
+    Ok(Outcome {
+        status,
+        written: Vec::from_slice(alloc, output.as_slice())?,
+        asks: desk.asks().len(),
+    })
+}
+
+fn is_as_wanted(alloc: Global, case: &Case) -> Result<bool, OutOfMemory> {
+    let (words, status, written, asks) = *case;
+    let outcome = ran(alloc, words, [&[], &[], &[], &[]], MAKE, 100_000)?;
+    Ok(outcome.status == status && outcome.written.as_slice() == written && outcome.asks == asks)
 }
 
 #[test]

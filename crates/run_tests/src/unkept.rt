@@ -1,9 +1,7 @@
 //! A change that the store fails to keep leaves rows, version, tables and entries as they were.
 use crate::fails::{NOT_KEPT, joined};
-use crate::runs::{bytes, desk, texts};
-use keeper_core::{MemorySink, MemorySource};
-use net_addr::{OutOfMemory, Seq};
-use neutron_serve::run;
+use crate::runs::{Outcome, ran};
+use net_addr::OutOfMemory;
 use std::alloc::Global;
 use std::test::Fail;
 
@@ -65,14 +63,10 @@ const SEEN_AGAIN: &[&[u8]] = &[MAKES, SEND, LOOK, SEND, DELETE, LOOK, SEND];
 // What a session over these requests writes where the store fails in its fifth call, which is that of
 // the fourth change.
 fn replies(alloc: Global, requests: &[&[u8]]) -> Result<Vec<u8>, OutOfMemory> {
-    let words = texts(alloc, &["session"])?;
-    let mut desk = desk(alloc, &[], &[5])?;
     let requests = joined(alloc, requests)?;
-    let requests = bytes(alloc, requests.as_slice())?;
-    let mut input = MemorySource::make(requests, 100_000, Seq::new(alloc));
-    let mut output = MemorySink::make(alloc, Seq::new(alloc));
-    run(alloc, words.as_slice(), &mut desk, &mut input, &mut output);
-    Ok(Vec::from_slice(alloc, output.as_slice())?)
+    let failing: [&[u64]; 4] = [&[], &[5], &[], &[]];
+    let Outcome { written, .. } = ran(alloc, &["session"], failing, requests.as_slice(), 100_000)?;
+    Ok(written)
 }
 
 // Whether what is seen behind the first replies is as wanted, and is seen again behind a change that
