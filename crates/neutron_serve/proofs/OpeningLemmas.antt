@@ -1,19 +1,21 @@
 -- Why nothing is opened.
-use Rattle.std.proofs.Common.{◌≡◌, ◌∙◌, ◌+◌, ◌-◌, ◌^◌, ◌≤◌, ◌++◌, ◌∷◌, ℕ, List, [], Option, None, Some, inl, inr, ap, arith, min, option_map, refl, subst, sym}
-use Rattle.std.specs.Prelude.{Err, IfSome, is_some, false, true}
+use Rattle.std.proofs.Common.{◌≡◌, ◌⊎◌, ◌∙◌, ◌+◌, ◌-◌, ◌^◌, ◌≤◌, ◌++◌, ◌∷◌, ℕ, List, [], Option, None, Some, inl, inr, ap, arith, min, option_map, refl, subst, sym}
+use Rattle.std.specs.Prelude.{Err, IfErr, IfSome, Ok, Result, is_some, false, true}
 use Rattle.keeper_core.specs.Counts.{HasRefusalCause, RoseBy, Tells}
 use Rattle.keeper_core.specs.Desk.{AddsRefused, Closes, Stores, closed_as, opened_as, opening_rows}
-use Rattle.keeper_core.specs.declared.ask.DeskAsk.TheVariants.{Store}
+use Rattle.keeper_core.specs.declared.ask.DeskAsk.{DeskAsk}
+use Rattle.keeper_core.specs.declared.ask.DeskAsk.TheVariants.{Settings, Store}
 use Rattle.keeper_core.specs.declared.refusal.OutsideRefusal.{OutsideRefusal}
 use Rattle.keeper_core.specs.declared.refusal.OutsideRefusal.TheVariants.{Failed, OutOfMemory}
 use Rattle.api_types.specs.RowLists.{RowLists}
 use Rattle.command_lines.specs.declared.line.Opening.{Opening}
+use Rattle.net_settings.specs.Settings.{SettingsParts}
 use Rattle.neutron_serve.specs.Runs.{Closed}
-use Rattle.neutron_serve.specs.Openings.{AreBroken, AreStored, AsksFirst, DeskSeen, IsCause, IsUnopened, by_desk, settings_asks}
+use Rattle.neutron_serve.specs.Openings.{AreMade, AreSettings, AreStored, DeskSeen, EndsAtSettings, EndsAtStore, IsCause, IsSettingsCause, IsStoreCause, IsUnopened, RowsBreak, StoresStay, by_desk, opening_asks, settings_asks}
 use Rattle.neutron_serve.specs.declared.opening.Unopened.{Unopened}
 use Rattle.neutron_serve.specs.declared.opening.Unopened.TheVariants.{BadSettings, Inconsistent as Broken}
 use Rattle.neutron_serve.specs.declared.opening.Unopened.TheVariants as unopened
-use Rattle.neutron_serve.proofs.AskLemmas.{first_of, first_then, refused_asked}
+use Rattle.neutron_serve.proofs.AskLemmas.{all_asked, behind_both, first_then, none_asked}
 
 -- a count that rose in the latter half rose in the whole
 pub rose_behind : (a b c : ℕ) → a ≤ b → RoseBy 1 b c → RoseBy 1 a c
@@ -23,12 +25,35 @@ pub rose_before : (a b c : ℕ) → RoseBy 1 a b → b ≤ c → RoseBy 1 a c
 rose_before a b c rose le = omega (arith, rose, le)
 
 -- the settings were refused: the store is as it was
-pub unopened_by_settings : (why : Unopened) (opening : Opening) (old new : DeskSeen) → IsCause why opening old new → AsksFirst (settings_asks opening.settings) old.asks new.asks → new.stores ≡ old.stores → IsUnopened why opening old new
-unopened_by_settings why opening old new cause asks stores = record {
-  cause = cause;
-  asks = first_of (settings_asks opening.settings) (Store opening.store ∷ []) old.asks new.asks asks;
-  stores = inl stores;
-}
+pub unopened_by_settings : (why : Unopened) (opening : Opening) (old new : DeskSeen) → IsSettingsCause why opening old new → AreMade why (settings_asks opening.settings) old.asks new.asks → new.stores ≡ old.stores → new.store_faults ≡ old.store_faults → IsUnopened why opening old new
+unopened_by_settings why opening old new cause asks stores faults = record { ends = inl (record { cause = cause; asks = asks; stores = stores; store_faults = faults }) }
+
+pub cause_of_settings : (why : Unopened) (opening : Opening) (old new : DeskSeen) → IsSettingsCause why opening old new → IsCause why opening old new
+cause_of_settings BadSettings opening old new cause = cause
+cause_of_settings Broken opening old new cause = absurd cause
+cause_of_settings unopened.Failed opening old new cause = inl cause.1
+cause_of_settings unopened.OutOfMemory opening old new cause = tt
+
+-- the desk refused the named settings
+pub settings_refused : {X : Type 0} (e : OutsideRefusal) (name : List ℕ) (opening : Opening) (old new : DeskSeen) → opening.settings ≡ Some name → HasRefusalCause {T = X} old.faults new.faults (Err e) → IsSettingsCause (by_desk e) opening old new
+settings_refused Failed name opening old new is cause = (ap is_some is, cause.failed refl)
+settings_refused OutOfMemory name opening old new is cause = tt
+
+-- the one ask that was refused
+pub refused_made : (e : OutsideRefusal) (ask : DeskAsk) (old new : Option (List DeskAsk)) → AddsRefused e ask old new → AreMade (by_desk e) (ask ∷ []) old new
+refused_made Failed ask old new adds = adds
+refused_made OutOfMemory ask old new adds = none_asked (ask ∷ []) old new adds
+
+-- the asks of settings that are named
+pub named_made : (why : Unopened) (o : Option (List ℕ)) (name : List ℕ) (old new : Option (List DeskAsk)) → o ≡ Some name → AreMade why (Settings name ∷ []) old new → AreMade why (settings_asks o) old new
+named_made why o name old new is made = subst (λ n. AreMade why (settings_asks n) old new) (sym is) made
+
+-- all were made
+pub all_made : (why : Unopened) (all : List DeskAsk) (old new : Option (List DeskAsk)) → new ≡ option_map (λ asks. asks ++ all) old → AreMade why all old new
+all_made BadSettings all old new e = e
+all_made Broken all old new e = e
+all_made unopened.Failed all old new e = e
+all_made unopened.OutOfMemory all old new e = all_asked all old new e
 
 -- the rows that a store tells are those with which it opened
 pub told_rows : (name : Option (List ℕ)) (stores : Option Stores) (kept : Option RowLists) → IfSome stores (λ told. kept ≡ Some (opening_rows name told)) → IfSome stores (λ told. is_some kept ≡ true)
@@ -43,28 +68,46 @@ stored_rows name old mid kept rows same tells loaded = at_old old kept (subst (�
     at_old None k t l = tt
     at_old (Some told) k t l = subst (λ x. Tells x rows) t l
 
+-- the settings are good, and why there is no world is told of the store
+pub cause_of_store : (why : Unopened) (settings : SettingsParts) (opening : Opening) (old new : DeskSeen) → AreSettings old.files opening.settings settings → IsStoreCause why settings opening old new → IsCause why opening old new
+cause_of_store BadSettings settings opening old new spelled cause = absurd cause
+cause_of_store Broken settings opening old new spelled cause = record { settings = settings; spelled = spelled; breaks = cause }
+cause_of_store unopened.Failed settings opening old new spelled cause = cause
+cause_of_store unopened.OutOfMemory settings opening old new spelled cause = tt
+
+pub unopened_by_store : (why : Unopened) (settings : SettingsParts) (opening : Opening) (old new : DeskSeen) → AreSettings old.files opening.settings settings → IsStoreCause why settings opening old new
+    → AreMade why (opening_asks opening) old.asks new.asks → StoresStay opening.store old.stores new.stores → IsUnopened why opening old new
+unopened_by_store why settings opening old new spelled cause asks stores = record { ends = inr (record { settings = settings; spelled = spelled; cause = cause; asks = asks; stores = stores }) }
+
+-- what an end tells
+pub cause_of : (why : Unopened) (opening : Opening) (old new : DeskSeen) → IsUnopened why opening old new → IsCause why opening old new
+cause_of why opening old new u = by_end u.ends
+  where
+    by_end : EndsAtSettings why opening old new ⊎ EndsAtStore why opening old new → IsCause why opening old new
+    by_end (inl s) = cause_of_settings why opening old new s.cause
+    by_end (inr s) = cause_of_store why s.settings opening old new s.spelled s.cause
+
+pub if_err_cause : {X : Type 0} (opening : Opening) (old new : DeskSeen) (r : Result X Unopened) → IfErr r (λ why. IsUnopened why opening old new) → IfErr r (λ why. IsCause why opening old new)
+if_err_cause opening old new (Ok x) u = u
+if_err_cause opening old new (Err why) u = cause_of why opening old new u
+
 -- the store was refused
-pub unopened_by_store : {X : Type 0} (e : OutsideRefusal) (opening : Opening) (old mid new : DeskSeen) → old.faults ≤ mid.faults → HasRefusalCause {T = X} mid.faults new.faults (Err e)
-    → mid.asks ≡ option_map (λ asks. asks ++ settings_asks opening.settings) old.asks → AddsRefused e (Store opening.store) mid.asks new.asks
-    → mid.stores ≡ old.stores → new.stores ≡ mid.stores → IsUnopened (by_desk e) opening old new
-unopened_by_store Failed opening old mid new le cause asked adds same stores = record {
-  cause = inl (rose_behind old.faults mid.faults new.faults le (cause.failed refl));
-  asks = first_then (settings_asks opening.settings) (Store opening.store ∷ []) old.asks mid.asks new.asks asked (refused_asked Failed (Store opening.store) mid.asks new.asks adds);
-  stores = inl (stores ∙ same);
-}
-unopened_by_store OutOfMemory opening old mid new le cause asked adds same stores = record {
-  cause = tt;
-  asks = first_then (settings_asks opening.settings) (Store opening.store ∷ []) old.asks mid.asks new.asks asked (refused_asked OutOfMemory (Store opening.store) mid.asks new.asks adds);
-  stores = inl (stores ∙ same);
-}
+pub store_refused : {X : Type 0} (e : OutsideRefusal) (settings : SettingsParts) (opening : Opening) (old mid new : DeskSeen) → old.faults ≤ mid.faults → HasRefusalCause {T = X} mid.faults new.faults (Err e) → IsStoreCause (by_desk e) settings opening old new
+store_refused Failed settings opening old mid new le cause = inl (rose_behind old.faults mid.faults new.faults le (cause.failed refl))
+store_refused OutOfMemory settings opening old mid new le cause = tt
+
+pub store_made : (e : OutsideRefusal) (opening : Opening) (old mid new : Option (List DeskAsk)) → mid ≡ option_map (λ asks. asks ++ settings_asks opening.settings) old → AddsRefused e (Store opening.store) mid new
+    → AreMade (by_desk e) (opening_asks opening) old new
+store_made Failed opening old mid new asked adds = adds ∙ ap (option_map (λ asks. asks ++ Store opening.store ∷ [])) asked ∙ behind_both (settings_asks opening.settings) (Store opening.store ∷ []) old
+store_made OutOfMemory opening old mid new asked adds = first_then (settings_asks opening.settings) (Store opening.store ∷ []) old mid new asked (none_asked (Store opening.store ∷ []) mid new adds)
 
 -- the rows of the store were refused
-pub cause_of_rows : (why : Unopened) (opening : Opening) (old new : DeskSeen) (k : ℕ) → (why ≡ BadSettings → ⊥) → (why ≡ Broken → AreBroken old opening) → (why ≡ unopened.Failed → RoseBy 1 0 k)
-    → new.store_faults ≡ min (old.store_faults + k) (2 ^ 64 - 1) → IsCause why opening old new
-cause_of_rows BadSettings opening old new k settings broken failed counted = absurd (settings refl)
-cause_of_rows Broken opening old new k settings broken failed counted = broken refl
-cause_of_rows unopened.Failed opening old new k settings broken failed counted = let rose = failed refl in inr (omega (arith, rose, counted))
-cause_of_rows unopened.OutOfMemory opening old new k settings broken failed counted = tt
+pub rows_refused : (why : Unopened) (settings : SettingsParts) (opening : Opening) (old new : DeskSeen) (k : ℕ) → (why ≡ BadSettings → ⊥) → (why ≡ Broken → RowsBreak old opening settings) → (why ≡ unopened.Failed → RoseBy 1 0 k)
+    → new.store_faults ≡ min (old.store_faults + k) (2 ^ 64 - 1) → IsStoreCause why settings opening old new
+rows_refused BadSettings settings opening old new k good broken failed counted = absurd (good refl)
+rows_refused Broken settings opening old new k good broken failed counted = broken refl
+rows_refused unopened.Failed settings opening old new k good broken failed counted = let rose = failed refl in inr (omega (arith, rose, counted))
+rows_refused unopened.OutOfMemory settings opening old new k good broken failed counted = tt
 
 -- a store is closed with the rows that it had when it was opened
 pub closed_again : (name : Option (List ℕ)) (old mid : Option Stores) (first kept : Option RowLists) (opened closed : Option Stores) → mid ≡ old → kept ≡ first

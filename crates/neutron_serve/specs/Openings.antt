@@ -1,5 +1,5 @@
 -- What a run starts from: settings, and the rows that a store keeps; or why it starts from nothing.
-use Rattle.std.specs.Prelude.{◌≡◌, ◌⊎◌, ℕ, Bool, true, false, List, [], ◌∷◌, ◌++◌, Option, Some, None, Ok, Err, IfSome, option_map, ⊤}
+use Rattle.std.specs.Prelude.{◌≡◌, ◌⊎◌, ℕ, Bool, true, false, List, [], ◌∷◌, ◌++◌, Option, Some, None, Ok, Err, IfSome, is_some, option_map, ⊤}
 use Rattle.api_check.specs.FirstBroken.{first_broken_of}
 use Rattle.api_check.specs.declared.broken.Inconsistent.{Inconsistent}
 use Rattle.api_types.specs.RowLists.{RowLists}
@@ -83,31 +83,71 @@ pub record Opens (old : DeskSeen) (opening : Opening) (settings : SettingsParts)
   pub stored : AreStored old.stores opening.store rows
   pub consistent : first_broken_of settings.hosts rows ≡ None
 
--- the rows of the store break a clause
-pub record AreBroken (old : DeskSeen) (opening : Opening) : Type 0 where
-  pub settings : SettingsParts
+-- the rows of the store break a clause under these settings
+pub record RowsBreak (old : DeskSeen) (opening : Opening) (settings : SettingsParts) : Type 0 where
   pub rows : RowLists
   pub broken : Inconsistent
-  pub spelled : AreSettings old.files opening.settings settings
   pub stored : AreStored old.stores opening.store rows
   pub breaks : first_broken_of settings.hosts rows ≡ Some broken
 
--- why nothing is opened
-abbrev pub IsCause : Unopened → Opening → DeskSeen → DeskSeen → Type 0
-IsCause BadSettings opening old new = AreBadSettings old.files opening.settings
-IsCause BrokenRows opening old new = AreBroken old opening
-IsCause Failed opening old new = RoseBy 1 old.faults new.faults ⊎ RoseBy 1 old.store_faults new.store_faults
-IsCause OutOfMemory opening old new = ⊤
+-- and do so under the settings that are named
+pub record AreBroken (old : DeskSeen) (opening : Opening) : Type 0 where
+  pub settings : SettingsParts
+  pub spelled : AreSettings old.files opening.settings settings
+  pub breaks : RowsBreak old opening settings
+
+-- ---- why nothing is opened
+
+-- all of these asks are made; where memory is wanting, maybe only the first ones
+abbrev pub AreMade : Unopened → List DeskAsk → Option (List DeskAsk) → Option (List DeskAsk) → Type 0
+AreMade BadSettings all old new = new ≡ option_map (λ asks. asks ++ all) old
+AreMade BrokenRows all old new = new ≡ option_map (λ asks. asks ++ all) old
+AreMade Failed all old new = new ≡ option_map (λ asks. asks ++ all) old
+AreMade OutOfMemory all old new = AsksFirst all old new
+
+-- why there are no settings: the named bytes spell none, the desk failed to give them, or memory is wanting
+abbrev pub IsSettingsCause : Unopened → Opening → DeskSeen → DeskSeen → Type 0
+IsSettingsCause BadSettings opening old new = AreBadSettings old.files opening.settings
+IsSettingsCause BrokenRows opening old new = ⊥
+IsSettingsCause Failed opening old new = (is_some opening.settings ≡ true) × RoseBy 1 old.faults new.faults
+IsSettingsCause OutOfMemory opening old new = ⊤
+
+-- it ends with the settings, and the store isn't asked for
+pub record EndsAtSettings (why : Unopened) (opening : Opening) (old new : DeskSeen) : Type 0 where
+  pub cause : IsSettingsCause why opening old new
+  pub asks : AreMade why (settings_asks opening.settings) old.asks new.asks
+  pub stores : new.stores ≡ old.stores
+  pub store_faults : new.store_faults ≡ old.store_faults
+
+-- why there is no world under these settings: the desk or the store failed, the rows break a clause, or memory is wanting
+abbrev pub IsStoreCause : Unopened → SettingsParts → Opening → DeskSeen → DeskSeen → Type 0
+IsStoreCause BadSettings settings opening old new = ⊥
+IsStoreCause BrokenRows settings opening old new = RowsBreak old opening settings
+IsStoreCause Failed settings opening old new = RoseBy 1 old.faults new.faults ⊎ RoseBy 1 old.store_faults new.store_faults
+IsStoreCause OutOfMemory settings opening old new = ⊤
 
 -- the stores are as they were, or the one that was opened is closed with the rows that it had
 abbrev pub StoresStay : Option (List ℕ) → Option Stores → Option Stores → Type 0
 StoresStay name old new = (new ≡ old) ⊎ (new ≡ option_map (λ s. closed_as (Some name) (opening_rows name s) (opened_as name s)) old)
 
--- nothing is opened
-pub record IsUnopened (why : Unopened) (opening : Opening) (old new : DeskSeen) : Type 0 where
-  pub cause : IsCause why opening old new
-  pub asks : AsksFirst (opening_asks opening) old.asks new.asks
+-- the settings are those that are named, and it ends with the store or its rows
+pub record EndsAtStore (why : Unopened) (opening : Opening) (old new : DeskSeen) : Type 0 where
+  pub settings : SettingsParts
+  pub spelled : AreSettings old.files opening.settings settings
+  pub cause : IsStoreCause why settings opening old new
+  pub asks : AreMade why (opening_asks opening) old.asks new.asks
   pub stores : StoresStay opening.store old.stores new.stores
+
+-- nothing is opened. What comes first is looked at first, so a store is asked for only where the settings are good
+pub record IsUnopened (why : Unopened) (opening : Opening) (old new : DeskSeen) : Type 0 where
+  pub ends : EndsAtSettings why opening old new ⊎ EndsAtStore why opening old new
+
+-- what each end tells, wherever it comes
+abbrev pub IsCause : Unopened → Opening → DeskSeen → DeskSeen → Type 0
+IsCause BadSettings opening old new = AreBadSettings old.files opening.settings
+IsCause BrokenRows opening old new = AreBroken old opening
+IsCause Failed opening old new = RoseBy 1 old.faults new.faults ⊎ RoseBy 1 old.store_faults new.store_faults
+IsCause OutOfMemory opening old new = ⊤
 
 -- ---- refusals on the way
 

@@ -8,7 +8,7 @@ ghost use Rattle.keeper_core.specs.Desk.{AddsAsk, opened_as, opening_rows};
 ghost use Rattle.keeper_core.specs.declared.ask.DeskAsk.{DeskAsk};
 ghost use Rattle.net_settings.specs.Settings.{SettingsParts};
 ghost use Rattle.world_laws.specs.World.{opened as opened_world};
-ghost use Rattle.neutron_serve.specs.Openings.{AreSettings, AsksFirst, IsCause, IsUnopened, Opens, by_desk, by_settings, by_world, desk_seen, is_manual as is_manual_by, opening_asks, settings_asks};
+ghost use Rattle.neutron_serve.specs.Openings.{AreMade, AreSettings, IsCause, IsSettingsCause, IsUnopened, Opens, by_desk, by_settings, by_world, desk_seen, is_manual as is_manual_by, opening_asks, settings_asks};
 
 use command_lines::{Delivery, Opening};
 use keeper_core::{Desk, DeskRefusal, Keeper};
@@ -90,11 +90,13 @@ fn settings_for<D: Desk>(
 ) -> Result<Settings, Unopened>
     ensures ok { IfOk result (AreSettings (D.files desk.old) opening.now.settings) }
     ensures err { IfErr result (λ why.
-        IsCause why opening.now
+        IsSettingsCause why opening.now
         (desk_seen (D.asks desk.old) (D.files desk.old) (D.stores desk.old) (D.faults desk.old) (D.store_faults desk.old))
         (desk_seen (D.asks desk.new) (D.files desk.new) (D.stores desk.new) (D.faults desk.new) (D.store_faults desk.new))) }
-    ensures asked { OnOk result (D.asks desk.new ≡ option_map (λ asks. asks ++ settings_asks opening.now.settings) (D.asks desk.old)) }
-    ensures asks { AsksFirst (settings_asks opening.now.settings) (D.asks desk.old) (D.asks desk.new) }
+    ensures asked { OnOk result (D.asks desk.new
+        ≡ option_map (λ asks. asks ++ settings_asks opening.now.settings) (D.asks desk.old)) }
+    ensures made { IfErr result (λ why.
+        AreMade why (settings_asks opening.now.settings) (D.asks desk.old) (D.asks desk.new)) }
     ensures files { D.files desk.new ≡ D.files desk.old }
     ensures stores { D.stores desk.new ≡ D.stores desk.old }
     ensures to_come { D.to_come desk.new ≡ D.to_come desk.old }
@@ -154,8 +156,8 @@ fn loaded<K: Keeper>(
     Ok(World::open(alloc, rows, settings, manual)?)
 }
 
-/// Asks the desk for the settings and then for the store, and opens a world of the store's rows. A
-/// store that gives no such world is handed back.
+/// Asks the desk for the settings, and where they are good for the store, and opens a world of the
+/// store's rows. A store that gives no such world is handed back.
 pub(crate) fn opened<D: Desk>(
     alloc: Global,
     desk: &mut D,
@@ -175,6 +177,10 @@ pub(crate) fn opened<D: Desk>(
     ensures store_faults { OnOk result (D.store_faults desk.new ≡ D.store_faults desk.old) }
     ensures err { IfErr result (λ why.
         IsUnopened why opening.now
+        (desk_seen (D.asks desk.old) (D.files desk.old) (D.stores desk.old) (D.faults desk.old) (D.store_faults desk.old))
+        (desk_seen (D.asks desk.new) (D.files desk.new) (D.stores desk.new) (D.faults desk.new) (D.store_faults desk.new))) }
+    ensures cause { IfErr result (λ why.
+        IsCause why opening.now
         (desk_seen (D.asks desk.old) (D.files desk.old) (D.stores desk.old) (D.faults desk.old) (D.store_faults desk.old))
         (desk_seen (D.asks desk.new) (D.files desk.new) (D.stores desk.new) (D.faults desk.new) (D.store_faults desk.new))) }
     ensures to_come { D.to_come desk.new ≡ D.to_come desk.old }

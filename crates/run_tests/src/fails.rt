@@ -39,10 +39,14 @@ type Case = (
     &'static [&'static [u8]],
 );
 
-const CASES: [Case; 13] = [
+const BAD_SESSION: &[&str] = &["session", "--settings=bad"];
+
+const CASES: [Case; 14] = [
     // The desk: settings, store, listen, next.
     (SESSION, [&[1], &[], &[], &[]], ONCE, 7, &[]),
     (SESSION, [&[2], &[], &[], &[]], ONCE, 7, &[]),
+    // Settings that aren't in their grammar, and then a store that would fail.
+    (BAD_SESSION, [&[2], &[], &[], &[]], ONCE, 5, &[]),
     (SERVE, [&[2], &[], &[], &[]], ONCE, 7, &[]),
     (SERVE, [&[3], &[], &[], &[]], ONCE, 7, &[]),
     // The store: its load, and what the first and the second change are kept by.
