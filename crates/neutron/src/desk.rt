@@ -2,6 +2,7 @@
 ghost use Rattle.std.specs.Prelude.{◌≡◌};
 
 use crate::ends::{SystemSink, SystemSource};
+use crate::parting::part;
 use crate::store::SystemStore;
 use api_types::Rows;
 use keeper_core::{Desk, DeskRefusal, ReaderSource, SureKeeper, WriterSink};
@@ -17,6 +18,8 @@ use std::{fs, io};
 pub(crate) struct SystemDesk {
     rt: HostRuntime,
     listener: Option<TcpListener>,
+    // The connection that is out.
+    peer: Option<TcpStream>,
     faults: u64,
     store_faults: u64,
 }
@@ -26,17 +29,19 @@ impl SystemDesk {
         SystemDesk {
             rt,
             listener: None,
+            peer: None,
             faults: 0,
             store_faults: 0,
         }
     }
 }
 
-// The two ends of the next connection.
-fn accepted(listener: &TcpListener) -> io::Result<(TcpStream, TcpStream)> {
+// The next connection, and its two ends.
+fn accepted(listener: &TcpListener) -> io::Result<(TcpStream, TcpStream, TcpStream)> {
     let (stream, _) = listener.accept()?;
-    let other = stream.try_clone()?;
-    Ok((stream, other))
+    let input = stream.try_clone()?;
+    let output = stream.try_clone()?;
+    Ok((stream, input, output))
 }
 
 // Copies the log of a file into it. Where that fails the log stays beside it, and the next that
@@ -125,10 +130,13 @@ impl Desk for SystemDesk {
             return Ok(None);
         };
         match accepted(listener) {
-            Ok((input, output)) => Ok(Some((
-                SystemSource::Peer(ReaderSource::make(input)),
-                SystemSink::Peer(WriterSink::make(output)),
-            ))),
+            Ok((stream, input, output)) => {
+                self.peer = Some(stream);
+                Ok(Some((
+                    SystemSource::Peer(ReaderSource::make(input)),
+                    SystemSink::Peer(WriterSink::make(output)),
+                )))
+            }
             Err(_) => {
                 self.faults = self.faults.saturating_add(1);
                 Err(DeskRefusal::Failed)
@@ -136,5 +144,10 @@ impl Desk for SystemDesk {
         }
     }
 
-    fn done(&mut self, _input: SystemSource, _output: SystemSink) {}
+    fn done(&mut self, _input: SystemSource, _output: SystemSink) {
+        if let Some(stream) = self.peer.take() {
+            // (where that fails, the peer is gone)
+            let _ = part(&self.rt, &stream);
+        }
+    }
 }

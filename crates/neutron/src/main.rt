@@ -2,52 +2,26 @@
 //! desk of the system.
 #![tactic(auto)]
 
-ghost use Rattle.std.specs.Prelude.{◌≡◌};
-ghost use Rattle.std.specs.IoError.{error_kind};
-
 mod desk;
 mod ends;
+mod parting;
 mod store;
 
 use crate::desk::SystemDesk;
 use crate::ends::{SystemSink, SystemSource};
 use keeper_core::{ReaderSource, WriterSink};
-use net_addr::Text;
-use std::alloc::Global;
-use std::env::{self, Env};
-use std::io::{self, ErrorKind};
+use neutron_serve::{run, unread_status, words};
 use std::process::ExitCode;
-
-// The words behind the program's name.
-fn words(rt: &(impl Env + AllocGlobal), alloc: Global) -> io::Result<Vec<Text>> {
-    let mut words = Vec::new(alloc);
-    for word in env::args(rt)?.skip(1) {
-        words.push(Text::from_string(word))?;
-    }
-    Ok(words)
-}
-
-// The status where words can't be had: 1 where one is no UTF-8, as where they are no command line,
-// and 4 for want of memory.
-fn unread(error: &io::Error) -> u8
-    ensures no_text { error_kind error.now ≡ ErrorKind.InvalidData → result ≡ 1 }
-    ensures other { (error_kind error.now ≡ ErrorKind.InvalidData → ⊥) → result ≡ 4 }
-{
-    match error.kind() {
-        ErrorKind::InvalidData => 1,
-        _ => 4,
-    }
-}
 
 fn main(rt: HostRuntime) -> ExitCode {
     let alloc = rt.alloc();
     let words = match words(&rt, alloc) {
         Ok(words) => words,
-        Err(error) => return ExitCode::from(unread(&error)),
+        Err(error) => return ExitCode::from(unread_status(&error)),
     };
     let mut input = SystemSource::Input(ReaderSource::make(rt.stdin()));
     let mut output = SystemSink::Output(WriterSink::make(rt.stdout()));
     let mut desk = SystemDesk::make(rt);
-    let status = neutron_serve::run(alloc, words.as_slice(), &mut desk, &mut input, &mut output);
+    let status = run(alloc, words.as_slice(), &mut desk, &mut input, &mut output);
     ExitCode::from(status)
 }
