@@ -1,7 +1,6 @@
 //! Stores of format 1, in which all addresses are of version 4 and subnets have no modes.
 
 use crate::stored::read_all;
-use crate::subnet;
 use crate::tables::renew_tables;
 use crate::trouble::Trouble;
 use api_types::{FloatingRow, GroupRow, NetworkRow, PolicyRow, ProjectRow, Rows};
@@ -24,18 +23,6 @@ fn read_old<S: Alter>(alloc: Global, from: &mut Transaction<'_, S>) -> Result<Ol
     Ok(old)
 }
 
-// Only subnets have other columns than in format 1; a text of version 4 is what it was.
-fn write_subnets<S: Alter>(
-    alloc: Global,
-    to: &mut Transaction<'_, S>,
-    rows: &Rows,
-) -> Result<(), Trouble> {
-    for row in rows.subnets().rows() {
-        subnet::write(alloc, to, row.get())?;
-    }
-    Ok(())
-}
-
 /// The rows of a store of format 1, which is of format 2 behind it.
 pub(crate) fn lift_store<S: Alter>(
     alloc: Global,
@@ -44,6 +31,5 @@ pub(crate) fn lift_store<S: Alter>(
     let old = read_old(alloc, store)?;
     let rows = lift(alloc, &old)?;
     renew_tables(store)?;
-    write_subnets(alloc, store, &rows)?;
     Ok(rows)
 }

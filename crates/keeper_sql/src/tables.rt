@@ -122,6 +122,31 @@ const SUBNETS: &str = "CREATE TABLE subnets (
     host_routes TEXT NOT NULL
 ) STRICT;";
 
+// The subnets of format 1, set aside while their table is made anew.
+const SET_ASIDE: &str = "CREATE TABLE subnets_of_format_1 (
+    place INTEGER PRIMARY KEY,
+    id TEXT NOT NULL,
+    project_id TEXT NOT NULL,
+    network_id TEXT NOT NULL,
+    name TEXT NOT NULL,
+    description TEXT NOT NULL,
+    cidr TEXT NOT NULL,
+    gateway_ip TEXT,
+    allocation_pools TEXT NOT NULL,
+    enable_dhcp INTEGER NOT NULL,
+    dns_nameservers TEXT NOT NULL,
+    host_routes TEXT NOT NULL
+) STRICT;
+INSERT INTO subnets_of_format_1 SELECT place, id, project_id, network_id, name, description, cidr,
+    gateway_ip, allocation_pools, enable_dhcp, dns_nameservers, host_routes FROM subnets;
+DROP TABLE subnets;";
+
+// They have no modes, and each keeps its place.
+const BROUGHT_BACK: &str = "INSERT INTO subnets SELECT place, id, project_id, network_id, name,
+    description, cidr, gateway_ip, allocation_pools, enable_dhcp, NULL, NULL, dns_nameservers,
+    host_routes FROM subnets_of_format_1;
+DROP TABLE subnets_of_format_1;";
+
 // Whether the store has a table of formats.
 fn has_format<S: Alter>(to: &mut Transaction<'_, S>) -> Result<bool, Trouble> {
     let rows = to.query_all(
@@ -169,10 +194,12 @@ pub(crate) fn make_tables<S: Alter>(to: &mut Transaction<'_, S>) -> Result<Forma
     Ok(Format::Two)
 }
 
-/// Makes a store of format 1 one of format 2, without subnets.
+/// Makes a store of format 1 one of format 2. Only subnets have other columns there; a text of
+/// version 4 is what it was.
 pub(crate) fn renew_tables<S: Alter>(to: &mut Transaction<'_, S>) -> Result<(), Trouble> {
-    to.execute_batch("DROP TABLE subnets")?;
+    to.execute_batch(SET_ASIDE)?;
     to.execute_batch(SUBNETS)?;
+    to.execute_batch(BROUGHT_BACK)?;
     to.execute("UPDATE format SET number = 2", &[])?;
     Ok(())
 }

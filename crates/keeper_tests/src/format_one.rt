@@ -61,9 +61,9 @@ const ROWS: [&str; 11] = [
     "INSERT INTO networks (id, project_id, name, description, admin_state_up, network_type,
         segmentation_id) VALUES ('00000001-0000-8000-8000-000000000006', 'a', 'n1', '', 1,
         'vxlan', 1)",
-    "INSERT INTO subnets (id, project_id, network_id, name, description, cidr, gateway_ip,
+    "INSERT INTO subnets (place, id, project_id, network_id, name, description, cidr, gateway_ip,
         allocation_pools, enable_dhcp, dns_nameservers, host_routes) VALUES
-        ('00000001-0000-8000-8000-000000000007', 'a', '00000001-0000-8000-8000-000000000006',
+        (3, '00000001-0000-8000-8000-000000000007', 'a', '00000001-0000-8000-8000-000000000006',
         '', '', '10.0.0.0/24', '10.0.0.1', '[{\"start\":\"10.0.0.100\",\"end\":\"10.0.0.200\"}]',
         1, '[\"10.0.0.2\"]', '[{\"destination\":\"192.0.2.0/24\",\"nexthop\":\"10.0.0.9\"}]')",
     "INSERT INTO ports (id, project_id, network_id, name, description, admin_state_up,
@@ -198,23 +198,28 @@ fn lifted_rows(alloc: Global) -> Result<Seq<Row>, OutOfMemory> {
     Ok(rows)
 }
 
-// The number of the format, as a store says it.
-fn format_in(conn: &mut Connection<MemStore>) -> Result<i64, Fail> {
-    let rows = conn.query_all("SELECT number FROM format", &[])?;
+// The one number that a query of a store gives.
+fn number_in(conn: &mut Connection<MemStore>, query: &str) -> Result<i64, Fail> {
+    let rows = conn.query_all(query, &[])?;
     match rows.as_slice() {
         [row] => Ok(row.get(0)?),
-        _ => Err(Fail::new("not one format")),
+        _ => Err(Fail::new("not one number")),
     }
 }
 
-// It is loaded, is of format 2 from then on, and gives the same rows again.
+const FORMAT: &str = "SELECT number FROM format";
+
+const PLACE: &str = "SELECT place FROM subnets";
+
+// It is loaded, is of format 2 from then on, and gives the same rows again, each in its place.
 #[test]
 fn lifts_format_one(rt: HostRuntime) -> Result<(), Fail> {
     let alloc = rt.alloc();
     let mut keeper = SqlKeeper::make(store_of_format_one(alloc)?);
     assert!(rt; gives(alloc, &mut keeper, lifted_rows(alloc)?)?);
     let mut conn = keeper.into_conn();
-    assert_eq!(rt; format_in(&mut conn)?, 2);
+    assert_eq!(rt; number_in(&mut conn, FORMAT)?, 2);
+    assert_eq!(rt; number_in(&mut conn, PLACE)?, 3);
     let mut keeper = SqlKeeper::make(conn);
     assert!(rt; gives(alloc, &mut keeper, lifted_rows(alloc)?)?);
     assert_eq!(rt; keeper.faults(), 0);
@@ -231,6 +236,6 @@ fn refuses_version_six_in_format_one(rt: HostRuntime) -> Result<(), Fail> {
     assert!(rt; keeper.load(alloc).is_err());
     assert_eq!(rt; keeper.faults(), 1);
     let mut conn = keeper.into_conn();
-    assert_eq!(rt; format_in(&mut conn)?, 1);
+    assert_eq!(rt; number_in(&mut conn, FORMAT)?, 1);
     Ok(())
 }
