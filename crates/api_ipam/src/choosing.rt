@@ -43,7 +43,8 @@ pub enum IpamRefusal {
     BadFixed,
     /// Another port holds the address.
     AddressInUse(Addr),
-    /// Each address of the network's pools is held.
+    /// Each pool address that may be given is held: of the subnet that an item names, or of all of
+    /// the network.
     PoolsSpent(Id),
     /// Memory could not be had.
     OutOfMemory,

@@ -44,7 +44,7 @@ impl Id {
         self.ordinal
     }
 
-    /// As which of its project's ids it was drawn, from 1 on.
+    /// As which of its project's ids it was drawn, from 1 on; 0 of a project's own id.
     pub fn count(self) -> u64
         ensures { result ≡ self.count }
     {

@@ -51,8 +51,8 @@ pub fn is_floating(owner: &Text) -> bool
     owner.as_str() == "network:floatingip"
 }
 
-/// Whether a port's `device_owner` says that it is a service's: of DHCP, a router or a floating
-/// address.
+/// Whether a port's `device_owner` says that it is a service's, as of DHCP, a router or a floating
+/// address: it begins with `network:`.
 pub fn is_service(owner: &Text) -> bool
     ensures { result ≡ service_of owner.now }
 {

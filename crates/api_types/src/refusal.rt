@@ -110,7 +110,8 @@ pub enum Refusal {
         limit: u64,
         used: u64,
     },
-    /// 409: each address of the network's pools is held.
+    /// 409: each pool address of the network that may be given is held, or it has no subnet that
+    /// could give one.
     PoolsSpent {
         network: Id,
     },

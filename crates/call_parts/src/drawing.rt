@@ -201,7 +201,7 @@ fn draw_ids(alloc: Global, rows: &Rows, name: &Text, many: u64) -> Result<Drawn,
 
 /// Draws so many ids for the project with this name, which is registered first, with its default
 /// group, where it is new. It refuses where the version or a counter would pass its last value. Its
-/// cost grows with the projects.
+/// cost grows with the projects, and for a project that is new with the groups and the rules too.
 pub fn draw(
     alloc: Global,
     rows: &Rows,

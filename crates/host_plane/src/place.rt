@@ -54,10 +54,10 @@ fn stepped<'t>(
 /// this step makes is added. It takes no memory and refuses nothing.
 ///
 /// Bridge and neighbours are searched by halving, so its cost grows with the logarithm of their
-/// rows. Taps, tags, what comes inward, leases and routers are looked up. What is stepped over is a
-/// tap's own: its allowed pairs and its filter rows, and for each of these that names a group the
-/// group's set; a router's own ports with their addresses, routes and floating addresses; and the
-/// entries.
+/// rows. Taps, tags, leases and routers are looked up. What is stepped over is a tap's own: its
+/// allowed pairs and its filter rows, and for each of these that names a group the group's set; a
+/// router's own ports with their addresses and routes, and the floating addresses from its first to
+/// its last, among which others' may stand; the wires of the frame's tag; and the entries.
 pub fn step<'t>(
     tables: &'t HostTables,
     entries: &Entries,

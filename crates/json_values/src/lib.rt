@@ -4,7 +4,7 @@
 //! gives exactly what the definition says of the value, and nothing where the value isn't allowed
 //! by itself. `GrammarName` names them, for tables of attributes, and `allows` tests a value by
 //! name. Frames of the lab are read in the same way. It stands on `net_addr`, `api_types`,
-//! `plane_types` and `serde_json`, whose own words its definitions cite.
+//! `plane_types`, and on `serde_json` and `uuid`, whose own words its definitions cite.
 #![tactic(auto)]
 
 mod allowed;

@@ -6,7 +6,7 @@
 //! A key is a packet's ends and ports as its protocol has them; both ends are of one version of IP,
 //! by their type. Beside the types stands what rows and tables ask alike of single packets: keys,
 //! flows, the parts of a filter, allowed pairs and translations. Only tables take memory, where
-//! they are copied or put into order.
+//! they are copied or put into order, and tracked entries, where room is made for them.
 #![tactic(auto)]
 
 mod ascending;
