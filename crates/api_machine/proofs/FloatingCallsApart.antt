@@ -9,7 +9,8 @@ use Rattle.net_addr.specs.declared.address.Addr.TheVariants.{V4}
 use Rattle.net_addr.specs.declared.address.Addr.{Addr}
 use Rattle.api_types.specs.Association.{Aim, aim_at, fixed_for, joins_to, router_for, target_by, with_target}
 use Rattle.call_parts.specs.BodyNames.{text_of, unless_found}
-use Rattle.call_parts.specs.Edits.{Drop, Put, accepted, gone_from}
+use Rattle.call_parts.specs.Edits.{Drop, Put, accepted}
+use Rattle.api_types.specs.WithRows.{gone_from}
 use Rattle.api_ipam.specs.FixedChoice.{floating_address}
 use Rattle.plan_floatings.specs.FloatingCalls.{address_held, aim_asked, body_refusal, changed_floating, creation_refusal, deletion_refusal, floating_added, floating_changed, floating_created, floating_deleted, floating_replaced, floating_shown, floating_updated, floating_with, lacks_port, new_floating, outer_address, own_port, port_asked, update_refusal}
 use Rattle.api_types.specs.HeldAddresses.{fixed_at}

@@ -1,5 +1,5 @@
 -- A tenant is shown the same of a network wherever its footing is the same; nobody sees other subnets of one that is changed.
-use Rattle.call_parts.specs.Edits.{put_in}
+use Rattle.api_types.specs.WithRows.{put_in}
 use Rattle.std.proofs.Common.{◌≡◌, ℕ, ◌≤◌, List, Bool, true, false, Some, slice_get, ap, ◌∙◌, arith, map}
 use Rattle.std.specs.Prelude.{◌&&◌, ◌||◌, count_by, if◌then◌else◌}
 use Rattle.std.specs.Str.{bytes_eq}

@@ -3,7 +3,8 @@ use Rattle.std.proofs.Common.{◌≡◌, ℕ, ◌+◌, List, [], ◌∷◌, Bool
 use Rattle.std.specs.Prelude.{◌&&◌, ◌||◌, codes, filter, option_and_then, option_map, if◌then◌else◌}
 use Rattle.std.specs.Str.{bytes_eq}
 use Rattle.call_parts.specs.BodyNames.{no_id, text_of}
-use Rattle.call_parts.specs.Edits.{Drop, accepted, gone_from, put_in}
+use Rattle.call_parts.specs.Edits.{Drop, accepted}
+use Rattle.api_types.specs.WithRows.{gone_from, put_in}
 use Rattle.api_policy.specs.Permits.{admin_only, network_owner, owner_only}
 use Rattle.plan_policies.specs.PolicyCalls.{changed_policy, creation_refusal, deletion_refusal, equal_policy, new_policy, policy_added, policy_created, policy_deleted, policy_exists, policy_made, policy_replaced, policy_updated, update_refusal}
 use Rattle.api_policy.specs.PolicyNeeds.{policy_user}

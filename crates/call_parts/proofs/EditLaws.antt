@@ -18,8 +18,9 @@ use Rattle.api_types.specs.declared.kind.Row.{Row}
 use Rattle.api_types.proofs.ListLemmas.{any-none, count-none, false_true, none-any, none-counted, none_some, remove-filter, some_equal, uncounted}
 use Rattle.api_types.proofs.NameLemmas.{by_test, ident_same}
 use Rattle.api_types.proofs.TableLemmas.{differs}
-use Rattle.call_parts.specs.Drafts.{IsEditable, IsFound, item_of}
-use Rattle.call_parts.specs.Edits.{put_in, with_put, without_row}
+use Rattle.call_parts.specs.Drafts.{IsFound}
+use Rattle.api_types.specs.RowKinds.{IsRowKind, item_of}
+use Rattle.api_types.specs.WithRows.{put_in, with_put, without_row}
 
 -- no two rows have one id
 pub once_own : {R : Type 0} (id_of : R → Ident) (xs : List R) → HaveOwnIds id_of xs → (i : Ident) → count_by (λ r. ident_eq i (id_of r)) xs ≤ 1
@@ -69,7 +70,7 @@ least : (k p n : ℕ) → k < n → nat_lt p n ≡ false → k < p
 least k p n within h = grind (arith, nat_tests)
 
 module _ {R : Type 0} (kind : Kind) (into : R → Row) (list_of : RowLists → List R) (with_list : RowLists → List R → RowLists) (part : Row → Option R) (id_of : R → Ident)
-    (e : IsEditable kind into list_of with_list part id_of) (rows : RowLists) where
+    (e : IsRowKind kind into list_of with_list part id_of) (rows : RowLists) where
   pub put_absent : (r : R) → list_any (λ q. ident_eq (id_of r) (id_of q)) (list_of rows) ≡ false → rows ≡ with_put rows (into r)
   put_absent r none = sym (e.put rows r ∙ (ap (with_list rows) (unchanged (λ q. ident_eq (id_of r) (id_of q)) r (list_of rows) (none-any (λ q. ident_eq (id_of r) (id_of q)) (list_of rows) none)) ∙ e.itself rows))
 
