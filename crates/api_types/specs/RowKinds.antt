@@ -1,6 +1,6 @@
 -- How edits of the rows of a kind come to edits of its list.
 use Rattle.std.specs.Prelude.{◌≡◌, ℕ, ◌++◌, List, [], ◌∷◌, Option, Some}
-use Rattle.api_types.specs.Edits.{FitsTable, edited}
+use Rattle.api_types.specs.Edits.{FitsTable, list_after}
 use Rattle.api_types.specs.Ident.{Ident}
 use Rattle.api_types.specs.RowLists.{RowLists}
 use Rattle.api_types.specs.Rows.{FitsItem, after_item}
@@ -30,7 +30,7 @@ pub record IsRowKind {R : Type 0}
   pub leads :
       (rows : RowLists) (place : ℕ) (old new : Option Row)
       → after_item rows (item_of kind place old new)
-      ≡ with_list rows (edited part (list_of rows) (item_of kind place old new))
+      ≡ with_list rows (list_after part (list_of rows) (item_of kind place old new))
   pub added :
       (rows : RowLists) (r : R)
       → with_added rows (into r) ≡ with_list rows (list_of rows ++ r ∷ [])

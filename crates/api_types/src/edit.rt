@@ -4,7 +4,7 @@ ghost use Rattle.std.specs.Prelude.{◌≡◌, None, [], ◌∷◌, ◌++◌, if
 ghost use Rattle.api_types.specs.declared.kind.Row.{Row};
 ghost use Rattle.api_types.specs.Table.{is_new, row_of};
 ghost use Rattle.api_types.specs.Parts.{project_of, network_of, subnet_of, port_of, group_of, rule_of, router_of, floating_of, policy_of};
-ghost use Rattle.api_types.specs.Edits.{FitsTable, CameFrom, edited, unedited};
+ghost use Rattle.api_types.specs.Edits.{FitsTable, CameFrom, list_after, list_before};
 
 use crate::change::Item;
 use crate::row_kind::RowKind;
@@ -20,7 +20,7 @@ pub(crate) fn edit<R: RowKind>(
     item: &Item,
 ) -> Result<(), OutOfMemory>
     requires { FitsTable R.part_of R.id_of table.old item.now }
-    ensures ok { OnOk result (table.new ≡ edited R.part_of table.old item.now) }
+    ensures ok { OnOk result (table.new ≡ list_after R.part_of table.old item.now) }
     ensures err { OnErr result (table.new ≡ table.old) }
 {
     let Some(row) = &item.after else {
@@ -32,7 +32,7 @@ pub(crate) fn edit<R: RowKind>(
     };
     let row = Shared::new(alloc, row.copy(alloc)?)?;
     if item.before.is_some() {
-        table.set(item.place, row);
+        table.replace(item.place, row);
         return Ok(());
     }
     table.push(row)
@@ -46,7 +46,7 @@ pub(crate) fn unedit<R: RowKind>(
     item: &Item,
 ) -> Result<(), OutOfMemory>
     requires { CameFrom R.part_of R.id_of table.old item.now }
-    ensures ok { OnOk result (table.new ≡ unedited R.part_of table.old item.now) }
+    ensures ok { OnOk result (table.new ≡ list_before R.part_of table.old item.now) }
     ensures err { OnErr result (table.new ≡ table.old) }
 {
     let Some(row) = &item.before else {
@@ -58,7 +58,7 @@ pub(crate) fn unedit<R: RowKind>(
     };
     let row = Shared::new(alloc, row.copy(alloc)?)?;
     if item.after.is_some() {
-        table.set(item.place, row);
+        table.replace(item.place, row);
         return Ok(());
     }
     table.insert(item.place, row)
@@ -72,7 +72,7 @@ pub(crate) fn edit_shared<R: RowKind>(
     item: &Item,
 ) -> Result<(), OutOfMemory>
     requires { FitsTable R.part_of R.id_of table.old item.now }
-    ensures ok { OnOk result (table.new ≡ edited R.part_of table.old item.now) }
+    ensures ok { OnOk result (table.new ≡ list_after R.part_of table.old item.now) }
     ensures err { OnErr result (table.new ≡ table.old) }
 {
     if let Some(table) = table.get_mut() {
@@ -92,7 +92,7 @@ pub(crate) fn unedit_shared<R: RowKind>(
     item: &Item,
 ) -> Result<(), OutOfMemory>
     requires { CameFrom R.part_of R.id_of table.old item.now }
-    ensures ok { OnOk result (table.new ≡ unedited R.part_of table.old item.now) }
+    ensures ok { OnOk result (table.new ≡ list_before R.part_of table.old item.now) }
     ensures err { OnErr result (table.new ≡ table.old) }
 {
     if let Some(table) = table.get_mut() {

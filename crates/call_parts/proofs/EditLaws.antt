@@ -7,7 +7,7 @@ use Rattle.std.proofs.lemmas.List.Quantifiers.{position-Some}
 use Rattle.std.proofs.lemmas.List.Sums.{fails_before_first}
 use Rattle.std.proofs.lemmas.Option.{slice_get-get_or, slice_get_within}
 use Rattle.std.proofs.lemmas.List.Sums.{sum_by-cons}
-use Rattle.api_types.specs.Edits.{FitsAt, edited_at}
+use Rattle.api_types.specs.Edits.{FitsAt, list_after_at}
 use Rattle.api_types.specs.Ident.{Ident}
 use Rattle.api_types.specs.Lists.{Each}
 use Rattle.api_types.specs.RowLists.{RowLists}
@@ -95,7 +95,7 @@ module _ {R : Type 0} (kind : Kind) (into : R → Row) (list_of : RowLists → L
 
     pub put_leads : (r : R) → i ≡ id_of r → after_item rows (item_of kind place (Some (into old)) (Some (into r))) ≡ with_put rows (into r)
     put_leads r same = e.leads rows place (Some (into old)) (Some (into r))
-        ∙ (ap (with_list rows) ((λ j. edited_at (list_of rows) place (e.part_is old j) (e.part_is r j)) ∙ sym (put_list r same)) ∙ sym (e.put rows r))
+        ∙ (ap (with_list rows) ((λ j. list_after_at (list_of rows) place (e.part_is old j) (e.part_is r j)) ∙ sym (put_list r same)) ∙ sym (e.put rows r))
 
     pub gone_fits : FitsItem rows (item_of kind place (Some (into old)) None)
     gone_fits = e.fits rows place (Some (into old)) None (
@@ -106,7 +106,7 @@ module _ {R : Type 0} (kind : Kind) (into : R → Row) (list_of : RowLists → L
 
     pub gone_leads : after_item rows (item_of kind place (Some (into old)) None) ≡ without_row rows kind i
     gone_leads = e.leads rows place (Some (into old)) None
-        ∙ (ap (with_list rows) ((λ j. edited_at (list_of rows) place (e.part_is old j) None)
+        ∙ (ap (with_list rows) ((λ j. list_after_at (list_of rows) place (e.part_is old j) None)
         ∙ remove-filter (λ q. ident_eq i (id_of q)) (list_of rows) place old found.at found.is (once_own id_of (list_of rows) found.own_ids i)) ∙ sym (e.gone rows i))
 
 -- a first place, and none

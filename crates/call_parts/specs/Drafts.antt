@@ -1,7 +1,7 @@
 -- The rows that a call leads to, and the change that leads there, as they are being made.
 use Rattle.std.specs.Prelude.{◌≡◌, ℕ, ◌+◌, ◌++◌, List, [], ◌∷◌, Option, Some, None, slice_get, true}
 use Rattle.api_types.specs.Ident.{Ident}
-use Rattle.api_types.specs.Edits.{FitsTable, edited as list_edited}
+use Rattle.api_types.specs.Edits.{FitsTable, list_after as list_edited}
 use Rattle.api_types.specs.RowLists.{RowLists}
 use Rattle.api_types.specs.Rows.{Fits, FitsItem, after, after_item}
 use Rattle.api_types.specs.Registration.{ident}

@@ -1,5 +1,5 @@
 use Rattle.std.proofs.Common.{◌∙◌, ◌++◌, ap, codes, decimal}
-use Rattle.neutron_http.specs.Faults.{resource_of}
+use Rattle.api_types.specs.Titles.{resource_of}
 use Rattle.neutron_http.proofs.MessageLemmas.{around_three}
 use Rattle.neutron_http.proofs.fault.over_quota.Goals as goal
 
