@@ -8,7 +8,7 @@ ghost use Rattle.json_replies.specs.Bodies.{only, row_tree, answer_tree, host_tr
 
 use crate::frame::put;
 use crate::printed::{Prints, members_of};
-use api_types::{Answer, Kind, Refusal, Shown};
+use api_types::{Answer, Refusal, Shown};
 use net_addr::{Bytes, OutOfMemory};
 use neutron_http::{Fault, fault_of};
 use plane_types::{HostState, LabAnswer, Reply};

@@ -3,6 +3,8 @@ use Rattle.std.specs.Prelude.{ℕ, List, [], ◌∷◌, ◌++◌, Option, Some, 
 use Rattle.net_addr.specs.Spelling.{addr_text, mac_text}
 use Rattle.api_types.specs.Ident.{Ident, ident_text}
 use Rattle.api_types.specs.Titles.{resource_of, title_of}
+use Rattle.api_types.specs.declared.kind.Kind.{Kind}
+use Rattle.api_types.specs.declared.kind.Kind.TheVariants.{Rule}
 use Rattle.api_types.specs.declared.network.Segment.{Segment}
 use Rattle.api_types.specs.declared.network.Segment.TheVariants.{Local, Flat, Vlan, Vxlan}
 use Rattle.api_types.specs.declared.refusal.PolicyRule.{PolicyRule}
