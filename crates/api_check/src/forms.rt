@@ -7,9 +7,7 @@ ghost use Rattle.api_check.specs.FirstBroken.{forms_broken};
 
 use crate::broken::{Inconsistent, told};
 use api_check_rows::{has_few_routes, is_formed_port, is_formed_subnet, is_segment};
-use api_types::{
-    Kind, NetworkRow, PortRow, RouterRow, Rows, RuleRow, Shared, SubnetRow, is_group_of,
-};
+use api_types::{Kind, NetworkRow, PortRow, RouterRow, Rows, RuleRow, Shared, SubnetRow};
 
 fn first_network(networks: &[Shared<NetworkRow>]) -> Option<usize>
     ensures { result ≡ position (λ r. not (segment_formed r.segment)) networks.now }
@@ -60,7 +58,7 @@ fn first_rule(rows: &Rows, rules: &[Shared<RuleRow>]) -> Option<usize>
     ensures { result
         ≡ position (λ r. not (group_of_in rows.now.groups r.project r.group)) rules.now }
 {
-    rules.iter().position(|rule| !is_group_of(rows.groups().rows(), &rule.project, rule.group))
+    rules.iter().position(|rule| !rows.is_group_of(&rule.project, rule.group))
 }
 
 fn broken_rule(rows: &Rows) -> Option<Inconsistent>

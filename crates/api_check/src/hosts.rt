@@ -10,7 +10,7 @@ ghost use Rattle.api_check.specs.Placing.{port_placed};
 
 use crate::broken::{Inconsistent, told};
 use api_ml2::carries;
-use api_types::{Kind, NetworkRow, PortRow, RouterRow, Rows, Shared, Vif, is_port_of};
+use api_types::{Kind, NetworkRow, PortRow, RouterRow, Rows, Shared, Vif};
 use net_settings::{Host, Settings};
 
 fn is_carried(hosts: &[Host], networks: &[Shared<NetworkRow>], port: &PortRow) -> bool
@@ -31,7 +31,7 @@ fn is_on(port: &PortRow, router: &RouterRow) -> bool
         Some(host) => port.host == *host,
         None => false,
     };
-    !is_port_of(router, port) || there
+    !port.is_of(router) || there
 }
 
 fn is_with_router(routers: &[Shared<RouterRow>], port: &PortRow) -> bool

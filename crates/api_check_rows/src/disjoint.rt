@@ -4,7 +4,7 @@ ghost use Rattle.net_addr.specs.Prefixes.{overlaps};
 ghost use Rattle.api_types.specs.Owners.{holds_in as held_in};
 ghost use Rattle.api_types.specs.Consistent.Disjoint.{subnets_clash as clash_of_subnets, share_router as share_one, reach_alike as reach_overlap, ports_clash as clash_of_ports};
 
-use api_types::{PortRow, RouterRow, Rows, Shared, SubnetRow, holds_in, is_port_of};
+use api_types::{PortRow, RouterRow, Rows, Shared, SubnetRow};
 use net_addr::Prefix;
 
 fn subnets_clash(a: &SubnetRow, b: &SubnetRow) -> bool
@@ -24,14 +24,14 @@ fn share_router(routers: &[Shared<RouterRow>], a: &PortRow, b: &PortRow) -> bool
 {
     routers
         .iter()
-        .any(|router| is_port_of(router, a) && is_port_of(router, b))
+        .any(|router| a.is_of(router) && b.is_of(router))
 }
 
 fn holds_overlapping(subnets: &[Shared<SubnetRow>], prefix: Prefix, port: &PortRow) -> bool
     ensures { result
         ≡ list_any (λ t. held_in t.id port.now && overlaps prefix t.prefix) subnets.now }
 {
-    subnets.iter().any(|other| holds_in(other.id, port) && prefix.overlaps(other.prefix))
+    subnets.iter().any(|other| port.holds_in(other.id) && prefix.overlaps(other.prefix))
 }
 
 fn reaches(subnets: &[Shared<SubnetRow>], subnet: &SubnetRow, a: &PortRow, b: &PortRow) -> bool
@@ -40,7 +40,7 @@ fn reaches(subnets: &[Shared<SubnetRow>], subnet: &SubnetRow, a: &PortRow, b: &P
         && list_any (λ t. held_in t.id b.now && overlaps subnet.now.prefix t.prefix)
         subnets.now) }
 {
-    holds_in(subnet.id, a) && holds_overlapping(subnets, subnet.prefix, b)
+    a.holds_in(subnet.id) && holds_overlapping(subnets, subnet.prefix, b)
 }
 
 fn reach_alike(subnets: &[Shared<SubnetRow>], a: &PortRow, b: &PortRow) -> bool

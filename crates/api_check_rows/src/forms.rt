@@ -8,7 +8,7 @@ ghost use Rattle.api_types.specs.Consistent.InForm.{is_segment as segment_formed
 ghost use Rattle.api_check_rows.specs.RowTests.{subnet_formed, port_formed};
 
 use crate::modes::{are_modes, are_versions};
-use api_types::{PortRow, RouterRow, Rows, Segment, SubnetRow, is_dhcp, is_network_of};
+use api_types::{PortRow, RouterRow, Rows, Segment, SubnetRow};
 use net_addr::{Addr, Prefix, Span};
 
 /// Whether the number of a segment is in its range: 1 to 4094 of a vlan (IEEE 802.1Q), 1 to 2^24 -
@@ -56,7 +56,6 @@ fn are_pools(subnet: &SubnetRow) -> bool
 {
     subnet
         .pools
-        .as_slice()
         .iter()
         .all(|pool| is_pool(subnet, pool))
 }
@@ -109,14 +108,13 @@ fn is_subnet_form(subnet: &SubnetRow) -> bool
 pub fn is_formed_subnet(rows: &Rows, subnet: &SubnetRow) -> bool
     ensures { result ≡ subnet_formed rows.now.networks subnet.now }
 {
-    is_network_of(rows.networks().rows(), &subnet.project, subnet.network) && is_subnet_form(subnet)
+    rows.is_network_of(&subnet.project, subnet.network) && is_subnet_form(subnet)
 }
 
 fn are_unicast(port: &PortRow) -> bool
     ensures { result ≡ list_all (λ pair. is_unicast pair.mac) port.now.pairs }
 {
     port.pairs
-        .as_slice()
         .iter()
         .all(|pair| pair.mac.is_unicast())
 }
@@ -126,7 +124,7 @@ fn is_port_form(port: &PortRow) -> bool
 {
     port.mac.is_unicast()
         && are_unicast(port)
-        && (port.fixed.len() <= 5 || is_dhcp(&port.owner))
+        && (port.fixed.len() <= 5 || port.is_dhcp())
         && port.pairs.len() <= 10
         && port.groups.len() <= 20
 }
@@ -137,7 +135,7 @@ fn is_port_form(port: &PortRow) -> bool
 pub fn is_formed_port(rows: &Rows, port: &PortRow) -> bool
     ensures { result ≡ port_formed rows.now.networks port.now }
 {
-    (!is_dhcp(&port.owner) || is_network_of(rows.networks().rows(), &port.project, port.network))
+    (!port.is_dhcp() || rows.is_network_of(&port.project, port.network))
         && is_port_form(port)
 }
 

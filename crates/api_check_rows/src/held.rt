@@ -8,7 +8,7 @@ ghost use Rattle.api_types.specs.Consistent.Hosts.{is_own_address as own_address
 ghost use Rattle.api_check_rows.specs.RowTests.{is_held_once as held_once, port_alone};
 
 use crate::modes::is_eui;
-use api_types::{Fixed, Id, PortRow, Shared, SubnetRow, is_interface};
+use api_types::{Fixed, Id, PortRow, Shared, SubnetRow};
 use net_addr::{Addr, Mac};
 
 fn has_mac(network: Id, mac: Mac, port: &PortRow) -> bool
@@ -34,7 +34,6 @@ fn holds_times(network: Id, address: &Addr, port: &PortRow) -> usize
 {
     if network == port.network {
         port.fixed
-            .as_slice()
             .iter()
             .filter(|fixed| fixed.address == *address)
             .count()
@@ -57,7 +56,6 @@ fn are_held_once(ports: &[Shared<PortRow>], port: &PortRow) -> bool
     ensures { result ≡ list_all (held_once ports.now port.now.network) port.now.fixed }
 {
     port.fixed
-        .as_slice()
         .iter()
         .all(|fixed| is_held_once(ports, port.network, fixed))
 }
@@ -84,7 +82,7 @@ fn is_own_address(port: &PortRow, address: &Addr, subnet: &SubnetRow) -> bool
 {
     !is_eui(subnet)
         || (subnet.prefix.is_eui(port.mac, *address)
-            || (is_interface(&port.owner) && is_gateway(subnet, address)))
+            || (port.is_interface() && is_gateway(subnet, address)))
 }
 
 fn is_host_of_port(port: &PortRow, address: &Addr, subnet: &SubnetRow) -> bool
@@ -108,7 +106,6 @@ pub fn has_host_addresses(subnets: &[Shared<SubnetRow>], port: &PortRow) -> bool
     ensures { result ≡ list_all (host_in subnets.now port.now) port.now.fixed }
 {
     port.fixed
-        .as_slice()
         .iter()
         .all(|fixed| is_host_in(subnets, port, fixed))
 }

@@ -79,7 +79,6 @@ fn are_servers_like(subnet: &SubnetRow) -> bool
 {
     subnet
         .dns
-        .as_slice()
         .iter()
         .all(|server| subnet.prefix.base.is_same_version(server))
 }
@@ -89,7 +88,6 @@ fn are_hops_like(subnet: &SubnetRow) -> bool
 {
     subnet
         .host_routes
-        .as_slice()
         .iter()
         .all(|hop| is_hop_like(&subnet.prefix.base, hop))
 }

@@ -7,7 +7,7 @@ ghost use Rattle.api_check_rows.specs.RowTests.{subnet_named as subnet_names, po
 use crate::words::{has, is_registered};
 use api_types::{
     Fixed, FloatingRow, Gateway, PolicyRow, PortRow, RouterRow, Rows, RuleRow, Shared, SubnetRow,
-    Target, is_gateway, is_own_port,
+    Target,
 };
 
 /// Whether the network that a subnet names is there, and its project registered. Its cost grows
@@ -28,7 +28,6 @@ fn names_subnets(subnets: &[Shared<SubnetRow>], port: &PortRow) -> bool
     ensures { result ≡ list_all (subnet_of_port subnets.now port.now) port.now.fixed }
 {
     port.fixed
-        .as_slice()
         .iter()
         .all(|fixed| names_subnet(subnets, port, fixed))
 }
@@ -37,7 +36,6 @@ fn names_groups(rows: &Rows, port: &PortRow) -> bool
     ensures { result ≡ list_all (group_in rows.now.groups) port.now.groups }
 {
     port.groups
-        .as_slice()
         .iter()
         .all(|group| has(rows.groups(), *group))
 }
@@ -45,7 +43,7 @@ fn names_groups(rows: &Rows, port: &PortRow) -> bool
 fn has_project(rows: &Rows, port: &PortRow) -> bool
     ensures { result ≡ project_stands rows.now.projects rows.now.floatings port.now }
 {
-    if is_gateway(&port.owner) || is_own_port(rows.floatings().rows(), port) {
+    if port.is_gateway() || rows.is_own_port(port) {
         return port.project.is_empty();
     }
     is_registered(rows.projects().rows(), &port.project)

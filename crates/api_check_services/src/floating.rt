@@ -6,16 +6,14 @@ ghost use Rattle.api_types.specs.Consistent.Floating.{has_interface as interface
 ghost use Rattle.api_types.specs.declared.port.Fixed.{Fixed as TheFixed};
 ghost use Rattle.api_check_services.specs.ServiceTests.{target_alone, floating_leads};
 
-use api_types::{
-    FloatingRow, Id, PortRow, RouterRow, Rows, Shared, Target, device_is, holds_in, is_interface,
-};
+use api_types::{FloatingRow, Id, PortRow, RouterRow, Rows, Shared, Target};
 use net_addr::{Addr, Addr4};
 
 fn has_interface(ports: &[Shared<PortRow>], router: Id, subnet: Id) -> bool
     ensures { result ≡ interface_on ports.now router subnet }
 {
     ports.iter().any(|port| {
-        is_interface(&port.owner) && (device_is(&port.device, router) && holds_in(subnet, port))
+        port.is_interface() && (port.has_device(router) && port.holds_in(subnet))
     })
 }
 
@@ -25,7 +23,7 @@ fn holds_target(ports: &[Shared<PortRow>], target: &Target, port: &PortRow) -> b
         (λ (x : TheFixed). is_four x.address target.now.fixed
         && interface_on ports.now target.now.router x.subnet) port.now.fixed }
 {
-    port.fixed.as_slice().iter().any(|fixed| {
+    port.fixed.iter().any(|fixed| {
         fixed.address == Addr::V4(target.fixed) && has_interface(ports, target.router, fixed.subnet)
     })
 }

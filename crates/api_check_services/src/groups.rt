@@ -5,7 +5,7 @@ ghost use Rattle.api_types.specs.Consistent.InForm.{is_group_of as group_of_in};
 ghost use Rattle.api_types.specs.Consistent.Groups.{is_default_of as default_of, same_match as matches_alike, same_rule as rules_alike, rules_clash as clash_of_rules};
 ghost use Rattle.api_check_services.specs.ServiceTests.{project_grouped, port_grouped, rule_grouped};
 
-use api_types::{GroupRow, PortRow, ProjectRow, Rows, RuleRow, Shared, is_group_of};
+use api_types::{GroupRow, PortRow, ProjectRow, Rows, RuleRow, Shared};
 use net_addr::Text;
 
 fn is_default_of(name: &Text, group: &GroupRow) -> bool
@@ -25,13 +25,12 @@ pub fn has_one_default(groups: &[Shared<GroupRow>], project: &ProjectRow) -> boo
         == 1
 }
 
-fn are_its_groups(groups: &[Shared<GroupRow>], port: &PortRow) -> bool
-    ensures { result ≡ list_all (group_of_in groups.now port.now.project) port.now.groups }
+fn are_its_groups(rows: &Rows, port: &PortRow) -> bool
+    ensures { result ≡ list_all (group_of_in rows.now.groups port.now.project) port.now.groups }
 {
     port.groups
-        .as_slice()
         .iter()
-        .all(|group| is_group_of(groups, &port.project, *group))
+        .all(|group| rows.is_group_of(&port.project, *group))
 }
 
 /// Whether the groups of a port are its project's, and a port without port security has neither
@@ -39,7 +38,7 @@ fn are_its_groups(groups: &[Shared<GroupRow>], port: &PortRow) -> bool
 pub fn is_grouped_port(rows: &Rows, port: &PortRow) -> bool
     ensures { result ≡ port_grouped rows.now.groups port.now }
 {
-    are_its_groups(rows.groups().rows(), port)
+    are_its_groups(rows, port)
         && (port.secured || (port.groups.is_empty() && port.pairs.is_empty()))
 }
 
@@ -73,11 +72,11 @@ fn stands_twice(rules: &[Shared<RuleRow>], rule: &RuleRow) -> bool
     rules.iter().any(|other| rules_clash(rule, other))
 }
 
-fn is_its_remote(groups: &[Shared<GroupRow>], rule: &RuleRow) -> bool
-    ensures { result ≡ if_some (group_of_in groups.now rule.now.project) rule.now.remote_group }
+fn is_its_remote(rows: &Rows, rule: &RuleRow) -> bool
+    ensures { result ≡ if_some (group_of_in rows.now.groups rule.now.project) rule.now.remote_group }
 {
     match rule.remote_group {
-        Some(group) => is_group_of(groups, &rule.project, group),
+        Some(group) => rows.is_group_of(&rule.project, group),
         None => true,
     }
 }
@@ -87,5 +86,5 @@ fn is_its_remote(groups: &[Shared<GroupRow>], rule: &RuleRow) -> bool
 pub fn is_grouped_rule(rows: &Rows, rule: &RuleRow) -> bool
     ensures { result ≡ rule_grouped rows.now.groups rows.now.rules rule.now }
 {
-    is_its_remote(rows.groups().rows(), rule) && !stands_twice(rows.rules().rows(), rule)
+    is_its_remote(rows, rule) && !stands_twice(rows.rules().rows(), rule)
 }

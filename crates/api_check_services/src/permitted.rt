@@ -8,10 +8,7 @@ ghost use Rattle.api_types.specs.Consistent.Permitted.{same_policy as policies_a
 ghost use Rattle.api_types.specs.Consistent.NextHops.{is_reached as reached_by};
 ghost use Rattle.api_check_services.specs.ServiceTests.{router_permitted, policy_alone};
 
-use api_types::{
-    FloatingRow, Hop, PolicyRow, PortRow, RouterRow, Rows, Shared, SubnetRow, holds_in,
-    is_external_to, is_network_of, is_port_of, is_shared_with,
-};
+use api_types::{FloatingRow, Hop, PolicyRow, PortRow, RouterRow, Rows, Shared, SubnetRow};
 use net_addr::Addr;
 
 /// Whether a port may be on its network: its project is empty, an administrator marked it, or the
@@ -21,8 +18,8 @@ pub fn may_be_there(rows: &Rows, port: &PortRow) -> bool
 {
     port.project.is_empty()
         || (port.by_admin
-            || (is_shared_with(rows, port.network, &port.project)
-                || is_network_of(rows.networks().rows(), &port.project, port.network)))
+            || (rows.is_shared_with(port.network, &port.project)
+                || rows.is_network_of(&port.project, port.network)))
 }
 
 /// Whether the network of a router's gateway is external to its project. Its cost grows with the
@@ -31,7 +28,7 @@ pub fn is_permitted_router(rows: &Rows, router: &RouterRow) -> bool
     ensures { result ≡ router_permitted rows.now.policies router.now }
 {
     match router.gateway {
-        Some(gateway) => is_external_to(rows, gateway.network, &router.project),
+        Some(gateway) => rows.is_external_to(gateway.network, &router.project),
         None => true,
     }
 }
@@ -41,7 +38,7 @@ pub fn is_permitted_router(rows: &Rows, router: &RouterRow) -> bool
 pub fn is_permitted_floating(rows: &Rows, floating: &FloatingRow) -> bool
     ensures { result ≡ external_to rows.now.policies floating.now.network floating.now.project }
 {
-    is_external_to(rows, floating.network, &floating.project)
+    rows.is_external_to(floating.network, &floating.project)
 }
 
 fn same_policy(a: &PolicyRow, b: &PolicyRow) -> bool
@@ -66,7 +63,7 @@ fn reaches(subnets: &[Shared<SubnetRow>], port: &PortRow, next: &Addr) -> bool
     ensures { result
         ≡ list_any (λ s. held_in s.id port.now && contains s.prefix next.now) subnets.now }
 {
-    subnets.iter().any(|subnet| holds_in(subnet.id, port) && subnet.prefix.contains(*next))
+    subnets.iter().any(|subnet| port.holds_in(subnet.id) && subnet.prefix.contains(*next))
 }
 
 fn is_way(subnets: &[Shared<SubnetRow>], router: &RouterRow, hop: &Hop, port: &PortRow) -> bool
@@ -75,7 +72,7 @@ fn is_way(subnets: &[Shared<SubnetRow>], router: &RouterRow, hop: &Hop, port: &P
         && list_any (λ s. held_in s.id port.now && contains s.prefix hop.now.next)
         subnets.now) }
 {
-    is_port_of(router, port) && reaches(subnets, port, &hop.next)
+    port.is_of(router) && reaches(subnets, port, &hop.next)
 }
 
 fn is_reached(rows: &Rows, router: &RouterRow, hop: &Hop) -> bool
@@ -96,7 +93,6 @@ pub fn has_reached_routes(rows: &Rows, router: &RouterRow) -> bool
 {
     router
         .routes
-        .as_slice()
         .iter()
         .all(|hop| is_reached(rows, router, hop))
 }

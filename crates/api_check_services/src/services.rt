@@ -8,15 +8,13 @@ ghost use Rattle.api_check_services.specs.ServiceTests.{network_served, dhcp_ser
 
 use api_types::{
     Fixed, FloatingRow, Gateway, Id, NetworkRow, PortRow, RouterRow, Rows, Shared, SubnetRow, Vif,
-    device_is, is_dhcp, is_floating, is_gateway, is_interface, is_own_port, is_port_of,
-    is_router_port,
 };
 use net_addr::{Addr, Addr4};
 
 fn is_dhcp_of(network: Id, port: &PortRow) -> bool
     ensures { result ≡ dhcp_port_of network port.now }
 {
-    network == port.network && is_dhcp(&port.owner)
+    network == port.network && port.is_dhcp()
 }
 
 fn dhcp_ports(ports: &[Shared<PortRow>], network: Id) -> usize
@@ -53,7 +51,6 @@ fn holds_count(subnet: Id, port: &PortRow) -> usize
     ensures { result ≡ count_in subnet port.now }
 {
     port.fixed
-        .as_slice()
         .iter()
         .filter(|fixed| subnet == fixed.subnet)
         .count()
@@ -83,7 +80,6 @@ fn are_leased(subnets: &[Shared<SubnetRow>], port: &PortRow) -> bool
     ensures { result ≡ list_all (leased_in subnets.now) port.now.fixed }
 {
     port.fixed
-        .as_slice()
         .iter()
         .all(|fixed| is_leased(subnets, fixed))
 }
@@ -91,22 +87,22 @@ fn are_leased(subnets: &[Shared<SubnetRow>], port: &PortRow) -> bool
 fn serves_dhcp(subnets: &[Shared<SubnetRow>], port: &PortRow) -> bool
     ensures { result ≡ dhcp_serves subnets.now port.now }
 {
-    !is_dhcp(&port.owner)
+    !port.is_dhcp()
         || (leases_all(subnets, port) && (are_leased(subnets, port) && !port.secured))
 }
 
 fn names_router(routers: &[Shared<RouterRow>], port: &PortRow) -> bool
     ensures { result ≡ list_any (λ r. port_of r port.now) routers.now }
 {
-    routers.iter().any(|router| is_port_of(router, port))
+    routers.iter().any(|router| port.is_of(router))
 }
 
 fn serves_router(routers: &[Shared<RouterRow>], port: &PortRow) -> bool
     ensures { result ≡ router_port_serves routers.now port.now }
 {
-    (!is_router_port(&port.owner) || (names_router(routers, port) && !port.secured))
-        && ((!is_interface(&port.owner) || port.fixed.len() == 1)
-            && (!is_gateway(&port.owner) || !port.fixed.is_empty()))
+    (!port.is_router_port() || (names_router(routers, port) && !port.secured))
+        && ((!port.is_interface() || port.fixed.len() == 1)
+            && (!port.is_gateway() || !port.fixed.is_empty()))
 }
 
 /// Whether a port of a service is in order. A DHCP port holds one address in each subnet of its
@@ -119,13 +115,13 @@ pub fn is_serving_port(rows: &Rows, port: &PortRow) -> bool
 {
     serves_dhcp(rows.subnets().rows(), port)
         && (serves_router(rows.routers().rows(), port)
-            && (!is_own_port(rows.floatings().rows(), port) || !port.secured))
+            && (!rows.is_own_port(port) || !port.secured))
 }
 
 fn is_gateway_of(router: Id, port: &PortRow) -> bool
     ensures { result ≡ gateway_port_of router port.now }
 {
-    is_gateway(&port.owner) && device_is(&port.device, router)
+    port.is_gateway() && port.has_device(router)
 }
 
 fn gateway_ports(ports: &[Shared<PortRow>], router: Id) -> usize
@@ -190,7 +186,7 @@ fn is_port_for(floating: &FloatingRow, port: &PortRow) -> bool
     ensures { result ≡ serves_floating floating.now port.now }
 {
     floating.network == port.network
-        && is_floating(&port.owner)
+        && port.is_floating()
         && holds_just(floating.address, port.fixed.as_slice())
         && port.vif == Vif::Unbound
 }

@@ -3,7 +3,7 @@ use Rattle.std.proofs.Common.{◌≡◌, ◌∙◌, ℕ, ◌+◌, ◌-◌, ◌<�
 use Rattle.std.specs.Prelude.{◌||◌}
 use Rattle.std.specs.List.{list_any}
 use Rattle.std.proofs.lemmas.Bool.Decides.{nat_tests}
-use Rattle.net_addr.specs.Addresses.{addr_eq, number, renumbered, same_version}
+use Rattle.net_addr.specs.Addresses.{addr_eq, number, with_number, same_version}
 use Rattle.net_addr.specs.Prefixes.{Span}
 use Rattle.net_addr.specs.contracts.address.AddrPartialEq.TheImpl.{ghosts}
 use Rattle.net_addr.specs.declared.address.Addr.{Addr}
@@ -14,20 +14,20 @@ use Rattle.api_ipam.specs.FixedChoice.{is_in}
 use Rattle.api_ipam.proofs.LeastLemmas.{least-here, least-none, least-past}
 
 -- an address is of its version and of its number
-pub itself : (x : Addr) → x ≡ renumbered x (number x)
+pub itself : (x : Addr) → x ≡ with_number x (number x)
 itself (V4 n) = refl
 itself (V6 n) = refl
 
-pub as_numbered : (a x : Addr) → same_version a x ≡ true → x ≡ renumbered a (number x)
+pub as_numbered : (a x : Addr) → same_version a x ≡ true → x ≡ with_number a (number x)
 as_numbered (V4 m) (V4 n) h = refl
 as_numbered (V6 m) (V6 n) h = refl
 as_numbered (V4 m) (V6 n) h = cc
 as_numbered (V6 m) (V4 n) h = cc
 
 -- the next one
-pub next_is : (a x y : Addr) → x ≡ renumbered a (number x) → y ≡ renumbered x (number x + 1) → (y ≡ renumbered a (number x + 1)) × (number y ≡ number x + 1)
-next_is (V4 m) x y is e = let f : y ≡ V4 (number x + 1) = e ∙ ap (λ z. renumbered z (number x + 1)) is in (f, ap number f)
-next_is (V6 m) x y is e = let f : y ≡ V6 (number x + 1) = e ∙ ap (λ z. renumbered z (number x + 1)) is in (f, ap number f)
+pub next_is : (a x y : Addr) → x ≡ with_number a (number x) → y ≡ with_number x (number x + 1) → (y ≡ with_number a (number x + 1)) × (number y ≡ number x + 1)
+next_is (V4 m) x y is e = let f : y ≡ V4 (number x + 1) = e ∙ ap (λ z. with_number z (number x + 1)) is in (f, ap number f)
+next_is (V6 m) x y is e = let f : y ≡ V6 (number x + 1) = e ∙ ap (λ z. with_number z (number x + 1)) is in (f, ap number f)
 
 -- a list has an address, whichever way round it is looked for
 turned : (a b : Addr) → addr_eq a b ≡ addr_eq b a
@@ -62,30 +62,30 @@ pub none_lesser : (x : Option Addr) → lesser x None ≡ x
 none_lesser None = refl
 none_lesser (Some x) = refl
 
-differs : (a x y : Addr) → x ≡ renumbered a (number x) → same_version a y ≡ true → (x ≡ y → ⊥) → number x ≡ number y → ⊥
-differs a x y is same apart e = apart (is ∙ (ap (renumbered a) e ∙ sym (as_numbered a y same)))
+differs : (a x y : Addr) → x ≡ with_number a (number x) → same_version a y ≡ true → (x ≡ y → ⊥) → number x ≡ number y → ⊥
+differs a x y is same apart e = apart (is ∙ (ap (with_number a) e ∙ sym (as_numbered a y same)))
 
 module _ (test : Addr → Bool) (s : Span) where
   -- the search through a span, from an address on
   abbrev pub sought : ℕ → Option ℕ
-  sought n = least_from (λ k. test (renumbered s.first k)) n (number s.last + 1 - n)
+  sought n = least_from (λ k. test (with_number s.first k)) n (number s.last + 1 - n)
 
-  module _ (x : Addr) (to : number x ≤ number s.last) (is : x ≡ renumbered s.first (number x)) (on : sought (number x) ≡ sought (number s.first)) where
+  module _ (x : Addr) (to : number x ≤ number s.last) (is : x ≡ with_number s.first (number x)) (on : sought (number x) ≡ sought (number s.first)) where
     -- the last one is no good
     pub ended : x ≡ s.last → test x ≡ false → None ≡ least_within test s
     ended last fails =
         let at : number x ≡ number s.last = ap number last in
         let many : 0 < number s.last + 1 - number x = omega arith in
-        let none = least-past (λ k. test (renumbered s.first k)) (number x) (number s.last + 1 - number x) many (ap test (sym is) ∙ fails)
-        ∙ least-none (λ k. test (renumbered s.first k)) (number x + 1) (number s.last + 1 - number x - 1) (omega arith) in
-        ap (option_map (renumbered s.first)) (sym none ∙ on)
+        let none = least-past (λ k. test (with_number s.first k)) (number x) (number s.last + 1 - number x) many (ap test (sym is) ∙ fails)
+        ∙ least-none (λ k. test (with_number s.first k)) (number x + 1) (number s.last + 1 - number x - 1) (omega arith) in
+        ap (option_map (with_number s.first)) (sym none ∙ on)
 
     -- this one is the least
     pub found : test x ≡ true → Some x ≡ least_within test s
     found passes =
         let many : 0 < number s.last + 1 - number x = omega arith in
-        let here = least-here (λ k. test (renumbered s.first k)) (number x) (number s.last + 1 - number x) many (ap test (sym is) ∙ passes) in
-        ap Some is ∙ ap (option_map (renumbered s.first)) (sym here ∙ on)
+        let here = least-here (λ k. test (with_number s.first k)) (number x) (number s.last + 1 - number x) many (ap test (sym is) ∙ passes) in
+        ap Some is ∙ ap (option_map (with_number s.first)) (sym here ∙ on)
 
     pub inside : same_version s.first s.last ≡ true → (x ≡ s.last → ⊥) → number x < number s.last
     inside same apart = let other : number x ≡ number s.last → ⊥ = differs s.first x s.last is same apart in omega (arith, other)
@@ -94,8 +94,8 @@ module _ (test : Addr → Bool) (s : Span) where
     pub onward : number x < number s.last → test x ≡ false → sought (number x + 1) ≡ sought (number s.first)
     onward less fails =
         let many : 0 < number s.last + 1 - number x = omega arith in
-        let past = least-past (λ k. test (renumbered s.first k)) (number x) (number s.last + 1 - number x) many (ap test (sym is) ∙ fails) in
-        ap (least_from (λ k. test (renumbered s.first k)) (number x + 1)) (omega arith) ∙ (sym past ∙ on)
+        let past = least-past (λ k. test (with_number s.first k)) (number x) (number s.last + 1 - number x) many (ap test (sym is) ∙ fails) in
+        ap (least_from (λ k. test (with_number s.first k)) (number x + 1)) (omega arith) ∙ (sym past ∙ on)
 
 -- the equality of addresses as code tests it
 pub own_eq : (x y : Addr) → ghosts.eq x y ≡ addr_eq x y

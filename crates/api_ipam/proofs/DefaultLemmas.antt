@@ -2,7 +2,7 @@
 use Rattle.std.proofs.Common.{◌≡◌, ◌∙◌, ℕ, ◌+◌, ◌-◌, ◌<◌, ◌≤◌, ◌^◌, Bool, true, false, Some, None, [], ◌∷◌, ap, sym, refl, arith}
 use Rattle.std.specs.Prelude.{◌&&◌, if◌then◌else◌, nat_le, nat_lt}
 use Rattle.std.proofs.lemmas.Bool.Decides.{nat_tests}
-use Rattle.net_addr.specs.Addresses.{number, renumbered, same_version, width}
+use Rattle.net_addr.specs.Addresses.{number, with_number, same_version, width}
 use Rattle.net_addr.specs.Prefixes.{Prefix, Span, host_addresses, kept_back, last_number}
 use Rattle.net_addr.specs.Spans.{is_within}
 use Rattle.net_addr.specs.declared.address.Addr.{Addr}
@@ -18,12 +18,12 @@ few_bits (V6 n) l short = grind (arith, nat_tests)
 
 -- a prefix that isn't too long has hosts
 pub has_hosts : (p : Prefix) → p.len ≤ longest_of p.base
-    → host_addresses p ≡ Some (record { first = renumbered p.base (number p.base + 1); last = renumbered p.base (last_number p - kept_back p.base) })
+    → host_addresses p ≡ Some (record { first = with_number p.base (number p.base + 1); last = with_number p.base (last_number p - kept_back p.base) })
 unfolding host_addresses
 has_hosts p short =
-    ap (λ (b : Bool). if b then None else Some (record { first = renumbered p.base (number p.base + 1); last = renumbered p.base (last_number p - kept_back p.base) })) (few_bits p.base p.len short)
+    ap (λ (b : Bool). if b then None else Some (record { first = with_number p.base (number p.base + 1); last = with_number p.base (last_number p - kept_back p.base) })) (few_bits p.base p.len short)
 
-numbered : (x : Addr) (n : ℕ) → number (renumbered x n) ≡ n
+numbered : (x : Addr) (n : ℕ) → number (with_number x n) ≡ n
 numbered (V4 m) n = refl
 numbered (V6 m) n = refl
 
@@ -32,7 +32,7 @@ pub hosts_behind : (p : Prefix) (s : Span) → host_addresses p ≡ Some s → 0
 unfolding host_addresses
 hosts_behind p s e = by (nat_lt (width p.base - (1 + kept_back p.base)) p.len) e
   where
-    by : (b : Bool) → (if b then None else Some (record { first = renumbered p.base (number p.base + 1); last = renumbered p.base (last_number p - kept_back p.base) })) ≡ Some s → 0 < number s.first
+    by : (b : Bool) → (if b then None else Some (record { first = with_number p.base (number p.base + 1); last = with_number p.base (last_number p - kept_back p.base) })) ≡ Some s → 0 < number s.first
     by true h = absurd (cc)
     by false h = let at : number p.base + 1 ≡ number s.first = sym (numbered p.base (number p.base + 1)) ∙ ap (λ (t : Span). number t.first) (some_equal _ s h) in omega (arith, at)
 
@@ -49,19 +49,19 @@ module _ (s : Span) (x : Addr) (inside : is_within s x ≡ true) where
   unfolding is_within
   not_above = (and_both _ _ inside).1
 
-  version_of : (a y : Addr) (n : ℕ) → same_version a y ≡ true → same_version a (renumbered y n) ≡ true
+  version_of : (a y : Addr) (n : ℕ) → same_version a y ≡ true → same_version a (with_number y n) ≡ true
   version_of (V4 a) (V4 y) n h = refl
   version_of (V6 a) (V6 y) n h = refl
   version_of (V4 a) (V6 y) n h = cc
   version_of (V6 a) (V4 y) n h = cc
 
-  renumbered_as : (a y : Addr) (n : ℕ) → same_version a y ≡ true → renumbered y n ≡ renumbered a n
+  renumbered_as : (a y : Addr) (n : ℕ) → same_version a y ≡ true → with_number y n ≡ with_number a n
   renumbered_as (V4 a) (V4 y) n h = refl
   renumbered_as (V6 a) (V6 y) n h = refl
   renumbered_as (V4 a) (V6 y) n h = cc
   renumbered_as (V6 a) (V4 y) n h = cc
 
-  inside_at : (n : ℕ) → is_within s (renumbered x n) ≡ (nat_le (number s.first) n && nat_le n (number s.last))
+  inside_at : (n : ℕ) → is_within s (with_number x n) ≡ (nat_le (number s.first) n && nat_le n (number s.last))
   unfolding is_within
   inside_at n = λ j. (version_of s.first x n one_version j && nat_le (number s.first) (numbered x n j)) && nat_le (numbered x n j) (number s.last)
 
@@ -76,15 +76,15 @@ module _ (s : Span) (x : Addr) (inside : is_within s x ≡ true) where
   above_test f n l h = let more : nat_le f (n + 1) ≡ true = grind (arith, nat_tests) in ap (λ b. b && nat_le (n + 1) l) more
 
   -- the addresses below it
-  pub below_if : (b : Bool) → is_within s (renumbered x (number x - 1)) ≡ b
-      → (if b then record { first = s.first; last = renumbered x (number x - 1) } ∷ [] else []) ≡ span s.first (number s.first) (number x - 1)
+  pub below_if : (b : Bool) → is_within s (with_number x (number x - 1)) ≡ b
+      → (if b then record { first = s.first; last = with_number x (number x - 1) } ∷ [] else []) ≡ span s.first (number s.first) (number x - 1)
   below_if b e =
       let test : nat_le (number s.first) (number x - 1) ≡ b = sym (below_test (number s.first) (number x) (number s.last) not_above) ∙ (sym (inside_at (number x - 1)) ∙ e) in
       λ j. if sym test j then record { first = itself s.first j; last = renumbered_as s.first x (number x - 1) one_version j } ∷ [] else []
 
   -- the addresses above it
-  pub above_if : (b : Bool) → same_version s.first s.last ≡ true → is_within s (renumbered x (number x + 1)) ≡ b
-      → (if b then record { first = renumbered x (number x + 1); last = s.last } ∷ [] else []) ≡ span s.first (number x + 1) (number s.last)
+  pub above_if : (b : Bool) → same_version s.first s.last ≡ true → is_within s (with_number x (number x + 1)) ≡ b
+      → (if b then record { first = with_number x (number x + 1); last = s.last } ∷ [] else []) ≡ span s.first (number x + 1) (number s.last)
   above_if b same e =
       let test : nat_le (number x + 1) (number s.last) ≡ b = sym (above_test (number s.first) (number x) (number s.last) not_below) ∙ (sym (inside_at (number x + 1)) ∙ e) in
       λ j. if sym test j then record { first = renumbered_as s.first x (number x + 1) one_version j; last = as_numbered s.first s.last same j } ∷ [] else []
@@ -102,7 +102,7 @@ module _ (s : Span) (x : Addr) (inside : is_within s x ≡ true) where
       let at : number x + 1 ≡ 2 ^ width s.last = top ∙ ap (λ w. 2 ^ w) one in
       let more : number s.last < number x + 1 = omega (arith, at, bound) in
       let test : nat_le (number x + 1) (number s.last) ≡ false = grind (arith, nat_tests) in
-      ap (λ (b : Bool). if b then record { first = renumbered s.first (number x + 1); last = renumbered s.first (number s.last) } ∷ [] else []) (sym test)
+      ap (λ (b : Bool). if b then record { first = with_number s.first (number x + 1); last = with_number s.first (number s.last) } ∷ [] else []) (sym test)
 
   pub some_below : 0 < number s.first → number x ≡ 0 → ⊥
   some_below behind none = let h = not_below in let le : number s.first ≤ number x = grind (arith, nat_tests) in omega (arith, le)

@@ -3,7 +3,7 @@
 use Rattle.api_types.specs.Consistent.InForm.{all_apart}
 use Rattle.api_types.specs.Least.{least_from}
 use Rattle.api_types.specs.Lists.{if_some}
-use Rattle.net_addr.specs.Addresses.{number, renumbered}
+use Rattle.net_addr.specs.Addresses.{number, with_number}
 use Rattle.net_addr.specs.Ordered.{addr_before}
 use Rattle.net_addr.specs.Prefixes.{Prefix, Span, host_addresses, is_host_of}
 use Rattle.net_addr.specs.Spans.{is_within}
@@ -13,11 +13,11 @@ use Rattle.std.specs.Prelude.{Bool, List, None, Option, Some, [], flat_map, if�
 
 -- the gateway of a subnet for which none is named
 abbrev pub default_gateway : Prefix → Addr
-default_gateway p = renumbered p.base (number p.base + 1)
+default_gateway p = with_number p.base (number p.base + 1)
 
 -- the span from one number to another, of an address's version, or none
 abbrev pub span : Addr → ℕ → ℕ → List Span
-span x first last = if nat_le first last then record { first = renumbered x first; last = renumbered x last } ∷ [] else []
+span x first last = if nat_le first last then record { first = with_number x first; last = with_number x last } ∷ [] else []
 
 -- a span without an address
 abbrev pub span_without : Addr → Span → List Span
@@ -37,7 +37,7 @@ are_pools p gateway pools = list_all (is_pool p gateway) pools && all_apart pool
 
 -- the least address of a span that passes the test
 abbrev pub least_within : (Addr → Bool) → Span → Option Addr
-least_within test s = option_map (renumbered s.first) (least_from (λ n. test (renumbered s.first n)) (number s.first) (number s.last + 1 - number s.first))
+least_within test s = option_map (with_number s.first) (least_from (λ n. test (with_number s.first n)) (number s.first) (number s.last + 1 - number s.first))
 
 abbrev pub lesser : Option Addr → Option Addr → Option Addr
 lesser None other = other

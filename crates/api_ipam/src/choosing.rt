@@ -63,7 +63,7 @@ impl From<OutOfMemory> for IpamRefusal {
 fn holds(network: Id, address: &Addr, port: &PortRow) -> bool
     ensures { result ≡ holds_address_of network address.now port.now }
 {
-    network == port.network && api_types::holds(port, address)
+    network == port.network && port.holds(address)
 }
 
 fn holder_at<'r>(

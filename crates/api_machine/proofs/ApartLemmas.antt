@@ -9,24 +9,24 @@ use Rattle.api_types.specs.declared.form.Given.TheVariants.{Absent, Is, Null}
 use Rattle.api_types.specs.declared.form.Given.{Given}
 use Rattle.api_types.specs.declared.refusal.Refusal.{Refusal}
 use Rattle.api_types.specs.Given.{is_given}
-use Rattle.api_types.specs.Refusing.{first_refusal, needing, told, unless}
+use Rattle.api_types.specs.Refusing.{first_refusal, needing, answer_alone, unless}
 use Rattle.api_types.proofs.ListLemmas.{any-none, at-any, both_and, false_true, none_some, one_row, some_equal}
 use Rattle.api_types.proofs.NameLemmas.{and_fails, by_test, first_fails, ident_itself}
 
 -- the same is found in both states, and what goes on with it is told alike
 pub needing_same : {X : Type 0} (refusal : Refusal) (o p : Option X) (f g : X → Outcome) → o ≡ p
-    → ((x : X) → o ≡ Some x → p ≡ Some x → told (f x) ≡ told (g x)) → told (needing refusal o f) ≡ told (needing refusal p g)
+    → ((x : X) → o ≡ Some x → p ≡ Some x → answer_alone (f x) ≡ answer_alone (g x)) → answer_alone (needing refusal o f) ≡ answer_alone (needing refusal p g)
 needing_same refusal None None f g alike same = refl
 needing_same refusal None (Some y) f g alike same = none_some y _ alike
 needing_same refusal (Some x) None f g alike same = none_some x _ (sym alike)
-needing_same refusal (Some x) (Some y) f g alike same = same x refl (sym alike) ∙ ap (λ z. told (g z)) (some_equal x y alike)
+needing_same refusal (Some x) (Some y) f g alike same = same x refl (sym alike) ∙ ap (λ z. answer_alone (g z)) (some_equal x y alike)
 
 -- the same is refused in both states, and what passes is told alike
-pub unless_same : (o p : Option Refusal) (x y : Outcome) → o ≡ p → (o ≡ None → p ≡ None → told x ≡ told y) → told (unless o x) ≡ told (unless p y)
+pub unless_same : (o p : Option Refusal) (x y : Outcome) → o ≡ p → (o ≡ None → p ≡ None → answer_alone x ≡ answer_alone y) → answer_alone (unless o x) ≡ answer_alone (unless p y)
 unless_same None None x y alike same = same refl refl
 unless_same None (Some r) x y alike same = none_some r _ alike
 unless_same (Some q) None x y alike same = none_some q _ (sym alike)
-unless_same (Some q) (Some r) x y alike same = ap (λ o. told (unless o x)) alike
+unless_same (Some q) (Some r) x y alike same = ap (λ o. answer_alone (unless o x)) alike
 
 -- what stands behind a refusal is asked only where it is none
 pub first_same : (a b : Option Refusal) (rest other : List (Option Refusal)) → a ≡ b → (a ≡ None → b ≡ None → first_refusal rest ≡ first_refusal other)

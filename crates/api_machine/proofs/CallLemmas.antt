@@ -10,7 +10,7 @@ use Rattle.api_types.specs.declared.router.RouterRow.{RouterRow}
 use Rattle.api_types.specs.declared.floating.FloatingRow.{FloatingRow}
 use Rattle.api_types.proofs.ListLemmas.{none_some, some_equal}
 use Rattle.api_types.proofs.NameLemmas.{ident_itself}
-use Rattle.call_parts.specs.Edits.{put_in}
+use Rattle.api_types.specs.WithRows.{put_in}
 use Rattle.call_parts.proofs.EditLaws.{put_once}
 
 -- options

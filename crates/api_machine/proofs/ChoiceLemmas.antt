@@ -2,7 +2,7 @@
 use Rattle.std.proofs.Common.{◌≡◌, ◌⊎◌, ℕ, zero, suc, ◌+◌, ◌-◌, List, [], ◌∷◌, Bool, true, false, Option, Some, None, refl, ap, sym, ◌∙◌, not, subst, inl, inr}
 use Rattle.std.specs.Prelude.{if◌then◌else◌, ◌&&◌, ◌||◌, option_map}
 use Rattle.net_addr.proofs.AddrLemmas.{addr_itself, addr_same}
-use Rattle.net_addr.specs.Addresses.{addr_eq, number, renumbered}
+use Rattle.net_addr.specs.Addresses.{addr_eq, number, with_number}
 use Rattle.net_addr.specs.Ordered.{addr_before}
 use Rattle.net_addr.specs.Prefixes.{Span}
 use Rattle.net_addr.specs.declared.address.Addr.{Addr}
@@ -27,11 +27,11 @@ from_passes test (suc many) first x h = by (test first) refl h (from_passes test
     by false is h rest = rest h
 
 pub within_passes : (free : Addr → Bool) (s : Span) (x : Addr) → least_within free s ≡ Some x → free x ≡ true
-within_passes free s x h = by (least_from (λ n. free (renumbered s.first n)) (number s.first) (number s.last + 1 - number s.first)) refl h
+within_passes free s x h = by (least_from (λ n. free (with_number s.first n)) (number s.first) (number s.last + 1 - number s.first)) refl h
   where
-    by : (o : Option ℕ) → least_from (λ n. free (renumbered s.first n)) (number s.first) (number s.last + 1 - number s.first) ≡ o → option_map (renumbered s.first) o ≡ Some x → free x ≡ true
+    by : (o : Option ℕ) → least_from (λ n. free (with_number s.first n)) (number s.first) (number s.last + 1 - number s.first) ≡ o → option_map (with_number s.first) o ≡ Some x → free x ≡ true
     by None is h = none_some x _ h
-    by (Some n) is h = ap free (sym (some_equal (renumbered s.first n) x h)) ∙ from_passes (λ m. free (renumbered s.first m)) (number s.last + 1 - number s.first) (number s.first) n is
+    by (Some n) is h = ap free (sym (some_equal (with_number s.first n) x h)) ∙ from_passes (λ m. free (with_number s.first m)) (number s.last + 1 - number s.first) (number s.first) n is
 
 pub lesser_one : (a b : Option Addr) (x : Addr) → lesser a b ≡ Some x → (a ≡ Some x) ⊎ (b ≡ Some x)
 lesser_one None b x h = inr h

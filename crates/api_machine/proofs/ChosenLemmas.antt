@@ -2,8 +2,8 @@
 use Rattle.std.proofs.Common.{◌≡◌, ◌≤◌, ◌<◌, ◌+◌, ◌∙◌, ℕ, suc, List, [], ◌∷◌, Bool, true, false, Option, Some, None, slice_get, length, refl, ap, sym, arith, ◌⊎◌, inl, inr, ◌-◌}
 use Rattle.std.specs.Prelude.{filter, option_map, not, nat_le, is_none, ◌&&◌, ◌||◌, ◌==◌, ◌^◌, ◌/◌}
 use Rattle.std.specs.List.{list_all}
-use Rattle.net_addr.specs.Addresses.{addr_eq, is_v4, number, renumbered, same_version}
-use Rattle.net_addr.specs.Prefixes.{is_host_of, Prefix, Span, Contains, IsPrefix, eui, eui_number, last_address, last_number, turned}
+use Rattle.net_addr.specs.Addresses.{addr_eq, is_v4, number, with_number, same_version}
+use Rattle.net_addr.specs.Prefixes.{is_host_of, Prefix, Span, Contains, IsPrefix, eui, eui_number, last_address, last_number, with_flipped_bit}
 use Rattle.net_addr.specs.declared.address.Addr.{Addr}
 use Rattle.net_addr.specs.declared.address.Addr.TheVariants.{V4, V6}
 use Rattle.api_types.specs.Ident.{Ident}
@@ -35,22 +35,22 @@ below (V4 k) n m top less h = omega (arith, less, h)
 below (V6 k) n m top less h = omega (arith, less, h)
 
 -- between two host addresses are host addresses
-pub between_hosts : (p : Prefix) → IsPrefix p → (first last : Addr) → is_host_of p first ≡ true → is_host_of p last ≡ true → (n : ℕ) → number first ≤ n → n ≤ number last → is_host_of p (renumbered first n) ≡ true
+pub between_hosts : (p : Prefix) → IsPrefix p → (first last : Addr) → is_host_of p first ≡ true → is_host_of p last ≡ true → (n : ℕ) → number first ≤ n → n ≤ number last → is_host_of p (with_number first n) ≡ true
 between_hosts p is first last h g n low high =
     let a = (host_decides p first is).0 h in
     let b = (host_decides p last is).0 g in
     let same = number_kept first n in
-    (host_decides p (renumbered first n) is).1 (
-      version_on first p.base (renumbered first n) (version_turned p.base first a.0) (version_kept first n),
+    (host_decides p (with_number first n) is).1 (
+      version_on first p.base (with_number first n) (version_turned p.base first a.0) (version_kept first n),
       omega (arith, same, low, a.1),
       omega (arith, same, high, b.2),
-      below p.base (number (renumbered first n)) (number last) (last_number p) (omega (arith, same, high)) b.3,
+      below p.base (number (with_number first n)) (number last) (last_number p) (omega (arith, same, high)) b.3,
     )
 
-within_is : (free : Addr → Bool) (s : Span) (x : Addr) → least_within free s ≡ Some x → (n : ℕ) × (renumbered s.first n ≡ x) × (number s.first ≤ n) × (n ≤ number s.last)
+within_is : (free : Addr → Bool) (s : Span) (x : Addr) → least_within free s ≡ Some x → (n : ℕ) × (with_number s.first n ≡ x) × (number s.first ≤ n) × (n ≤ number s.last)
 within_is free s x h =
-    let found = mapped (renumbered s.first) (least_from (λ n. free (renumbered s.first n)) (number s.first) (number s.last + 1 - number s.first)) x h in
-    let bounds = from_bounds (λ n. free (renumbered s.first n)) (number s.last + 1 - number s.first) (number s.first) found.0 found.1 in
+    let found = mapped (with_number s.first) (least_from (λ n. free (with_number s.first n)) (number s.first) (number s.last + 1 - number s.first)) x h in
+    let bounds = from_bounds (λ n. free (with_number s.first n)) (number s.last + 1 - number s.first) (number s.first) found.0 found.1 in
     (found.0, found.2, bounds.0, omega (arith, bounds.0, bounds.1))
 
 pub pool_host : (p : Prefix) → IsPrefix p → (free : Addr → Bool) (pools : List Span) (x : Addr) → list_all (λ (s : Span). is_host_of p s.first && is_host_of p s.last) pools ≡ true → least_free_address free pools ≡ Some x → is_host_of p x ≡ true
@@ -115,7 +115,7 @@ eui_host s mac is modes makes low high =
     let p : Prefix = s.prefix in
     let six = eui_is s modes makes in
     let small = eui_small mac low high in
-    let x : Addr = renumbered p.base (number p.base + eui_number mac) in
+    let x : Addr = with_number p.base (number p.base + eui_number mac) in
     let inside : Contains p x = eui_contained p (eui_number mac) is six.0 six.1 small.1 in
     let same = number_kept p.base (number p.base + eui_number mac) in
     let last = number_kept p.base (last_number p) in

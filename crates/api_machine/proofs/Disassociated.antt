@@ -16,7 +16,8 @@ use Rattle.row_laws.proofs.FloatingReplaced.{floating_replaced}
 use Rattle.api_types.proofs.ListLemmas.{at_filter, false_true, none_some, one_row, some_equal, sum-set}
 use Rattle.api_types.proofs.NameLemmas.{and_fails, by_test, ident_itself}
 use Rattle.api_machine.proofs.EditedRows.{filter_has, get_map, map_get, put_at}
-use Rattle.call_parts.specs.Edits.{Edit, Put, made, put_in}
+use Rattle.call_parts.specs.Edits.{Edit, Put, made}
+use Rattle.api_types.specs.WithRows.{put_in}
 use Rattle.call_parts.specs.Leaving.{disassociated, disassociations, loses_target}
 
 -- the rows after floating addresses were disassociated

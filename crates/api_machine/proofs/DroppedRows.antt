@@ -6,7 +6,8 @@ use Rattle.row_laws.specs.Gone.{names_group, without_group, without_network}
 use Rattle.api_types.proofs.ListLemmas.{any-at, at_filter, at-any, false_true, one_row}
 use Rattle.api_types.proofs.NameLemmas.{by_test, ident_itself, ident_sym}
 use Rattle.api_machine.proofs.EditedRows.{filter_has, get_map, map_get}
-use Rattle.call_parts.specs.Edits.{Drop, Edit, dropped, gone_from, made}
+use Rattle.call_parts.specs.Edits.{Drop, Edit, dropped, made}
+use Rattle.api_types.specs.WithRows.{gone_from}
 use Rattle.plan_groups.specs.GroupCalls.{group_gone}
 use Rattle.api_types.specs.Consistent.{IsConsistent}
 use Rattle.api_types.specs.Ident.{Ident}

@@ -11,7 +11,8 @@ use Rattle.api_types.specs.declared.floating.FloatingRow.{FloatingRow}
 use Rattle.api_types.specs.declared.port.PortRow.{PortRow}
 use Rattle.api_types.specs.declared.subnet.SubnetRow.{SubnetRow}
 use Rattle.api_types.proofs.ListLemmas.{remove-filter}
-use Rattle.call_parts.specs.Edits.{Put, dropped, edited, gone_from, made, put_in}
+use Rattle.call_parts.specs.Edits.{Put, dropped, edited, made}
+use Rattle.api_types.specs.WithRows.{gone_from, put_in}
 
 module _ {R : Type 0} (id_of : R → Ident) where
   -- the row at a place goes

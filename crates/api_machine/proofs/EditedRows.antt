@@ -7,7 +7,7 @@ use Rattle.api_types.specs.Table.{ident_eq}
 use Rattle.api_types.specs.declared.refusal.Refusal.{Refusal}
 use Rattle.api_types.proofs.ListLemmas.{none_some, some_equal}
 use Rattle.api_types.proofs.NameLemmas.{ident_itself}
-use Rattle.call_parts.specs.Edits.{put_in}
+use Rattle.api_types.specs.WithRows.{put_in}
 use Rattle.api_types.specs.Refusing.{first_refusal}
 use Rattle.call_parts.proofs.EditLaws.{put_once}
 

@@ -9,7 +9,8 @@ use Rattle.net_addr.specs.declared.address.Addr.TheVariants.{V4}
 use Rattle.net_addr.specs.declared.address.Addr.{Addr}
 use Rattle.api_types.specs.Association.{Aim, aim_at, fixed_for, joins_to, router_for, target_by, with_target}
 use Rattle.call_parts.specs.BodyNames.{text_of, unless_found}
-use Rattle.call_parts.specs.Edits.{Drop, Put, accepted, gone_from}
+use Rattle.call_parts.specs.Edits.{Drop, Put, accepted}
+use Rattle.api_types.specs.WithRows.{gone_from}
 use Rattle.api_ipam.specs.FixedChoice.{floating_address}
 use Rattle.plan_floatings.specs.FloatingCalls.{address_held, aim_asked, body_refusal, changed_floating, creation_refusal, deletion_refusal, floating_added, floating_changed, floating_created, floating_deleted, floating_replaced, floating_shown, floating_updated, floating_with, lacks_port, new_floating, outer_address, own_port, port_asked, update_refusal}
 use Rattle.api_types.specs.HeldAddresses.{fixed_at}
@@ -26,7 +27,7 @@ use Rattle.api_policy.specs.Floatings.{floating_members}
 use Rattle.api_policy.specs.Shown.{shown_as}
 use Rattle.api_machine.specs.Footing.{Near, blank, footing, is_near}
 use Rattle.api_types.specs.Given.{are_unlike, is_for_other, is_given, owner_of, value_of}
-use Rattle.api_types.specs.Refusing.{at_name, first_refusal, needing, not_found, told, unless, when}
+use Rattle.api_types.specs.Refusing.{at_name, first_refusal, needing, not_found, answer_alone, unless, when}
 use Rattle.call_parts.specs.State.{State, drawing_at, is_last}
 use Rattle.api_types.specs.Consistent.{IsConsistent}
 use Rattle.api_types.specs.Consistent.Floating.{has_interface, stands_for}
@@ -163,7 +164,7 @@ module _ (settings : SettingsParts) (caller : Caller) (tenant : caller.admin ≡
           (λ k r at is. or_right caller.admin _ (and_both (bytes_eq r.project caller.project) (is_some_so (λ (g : Gateway). ident_eq network g.network) r.gateway)
           (and_both (bytes_eq r.project caller.project && is_some_so (λ (g : Gateway). ident_eq network g.network) r.gateway) (has_interface state.rows.ports r.id subnet) is).0).0))
 
-  target_alike : (network : Ident) (o : Option Aim) (f g : Option Target → Outcome) → ((x : Option Target) → told (f x) ≡ told (g x)) → told (with_target s.rows caller.project network o f) ≡ told (with_target t.rows caller.project network o g)
+  target_alike : (network : Ident) (o : Option Aim) (f g : Option Target → Outcome) → ((x : Option Target) → answer_alone (f x) ≡ answer_alone (g x)) → answer_alone (with_target s.rows caller.project network o f) ≡ answer_alone (with_target t.rows caller.project network o g)
   target_alike network None f g here = here None
   target_alike network (Some aim) f g here = needing_same (NoGateway network aim.fixed.subnet) (router_for s.rows caller.project network aim.fixed.subnet) (router_for t.rows caller.project network aim.fixed.subnet)
       (λ r. f (Some (target_by aim r))) (λ r. g (Some (target_by aim r))) (joins_alike network aim.fixed.subnet) (λ r _ _. here (Some (target_by aim r)))
@@ -234,7 +235,7 @@ module _ (settings : SettingsParts) (caller : Caller) (tenant : caller.admin ≡
   added form n target outer mac z = let f : FloatingRow = new_floating form caller.project n (drawn_id z 0) (drawn_id z 1) (number outer.address) target in floating_added caller z.rows f (own_port settings n f mac outer)
 
   with_alike : (form : FloatingForm) (n m : NetworkRow) → is_near s.rows caller n.id ≡ true → blank n ≡ blank m → (target : Option Target)
-      → told (floating_with settings s caller form caller.project n target) ≡ told (floating_with settings t caller form caller.project m target)
+      → answer_alone (floating_with settings s caller form caller.project n target) ≡ answer_alone (floating_with settings t caller form caller.project m target)
   with_alike form n m near alike target = unless_same (over_quota settings s.rows caller.project FloatingKind) (over_quota settings t.rows caller.project FloatingKind) (chosen s n) (chosen t m)
       (quota_own settings caller tenant s t same caller.project refl FloatingKind)
       (λ _ _. chosen_alike settings caller tenant s t same (PoolsSpent n.id) (outer_address s.rows n.id (value_of form.floating_ip_address)) (outer_address t.rows m.id (value_of form.floating_ip_address))
@@ -243,23 +244,23 @@ module _ (settings : SettingsParts) (caller : Caller) (tenant : caller.admin ≡
       caller.project refl 2 (added form n target) (added form m target)
       (λ outer mac x y at_x at_y counts. λ j. Told (NewRow (shown_as FloatingKind caller.admin [] (floating_members
       (new_floating form caller.project (alike j) (ident (counts j).0 ((counts j).1 + 0)) (ident (counts j).0 ((counts j).1 + 1)) (number outer.address) target)))))
-      ∙ (λ j. told (needing (PoolsSpent (alike j).id) (outer_address t.rows m.id (value_of form.floating_ip_address)) (λ outer.
+      ∙ (λ j. answer_alone (needing (PoolsSpent (alike j).id) (outer_address t.rows m.id (value_of form.floating_ip_address)) (λ outer.
       needing CountersSpent (free_mac t.rows.ports m.id) (λ mac. needing CountersSpent (drawing_at t caller.project 2) (added form m target outer mac))))))
     where
       chosen : State → NetworkRow → Outcome
       chosen state r = needing (PoolsSpent r.id) (outer_address state.rows r.id (value_of form.floating_ip_address)) (λ outer.
           needing CountersSpent (free_mac state.rows.ports r.id) (λ mac. needing CountersSpent (drawing_at state caller.project 2) (added form r target outer mac)))
 
-  pub floating_created_apart : (form : FloatingForm) → told (floating_created settings s caller form) ≡ told (floating_created settings t caller form)
+  pub floating_created_apart : (form : FloatingForm) → answer_alone (floating_created settings s caller form) ≡ answer_alone (floating_created settings t caller form)
   floating_created_apart form = unless_same (body_refusal s.rows caller form owner (network_seen s.rows caller name)) (body_refusal t.rows caller form owner (network_seen t.rows caller name)) (on s) (on t)
       (body_same form owner (λ h. owner_own caller form.project_id form.tenant_id h))
       (λ body _. named_alike settings caller s t same (not_found NetworkKind (text_of name)) name (at s) (at t)
       (λ n m found_n found_m alike. let near = named_near s.rows caller name n found_n in
       unless_same (creation_refusal s.rows caller form n) (creation_refusal t.rows caller form m) (led s owner n) (led t owner m)
       (creation_same form owner n m near alike mine (none_at (body_refusals s) body 4 (option_and_then (bad_aim owner (value_of form.fixed_ip_address)) (port_asked s.rows caller form)) refl))
-      (λ passes _. subst (λ project. told (led s project n) ≡ told (led t project m)) (sym (mine (none_at (refusals s n) passes 1 admin refl)))
+      (λ passes _. subst (λ project. answer_alone (led s project n) ≡ answer_alone (led t project m)) (sym (mine (none_at (refusals s n) passes 1 admin refl)))
       (target_alike n.id (aim_asked s.rows caller form) (floating_with settings s caller form caller.project n) (floating_with settings t caller form caller.project m) (with_alike form n m near alike)
-      ∙ (λ j. told (with_target t.rows caller.project (alike j).id (aim_alike form j) (floating_with settings t caller form caller.project m)))))))
+      ∙ (λ j. answer_alone (with_target t.rows caller.project (alike j).id (aim_alike form j) (floating_with settings t caller form caller.project m)))))))
     where
       name : Option Ident
       name = value_of form.floating_network_id
@@ -320,12 +321,12 @@ module _ (settings : SettingsParts) (caller : Caller) (tenant : caller.admin ≡
           ∷ option_and_then (aim_in_use state.rows caller (gone_from (λ (g : FloatingRow). g.id) f.id state.rows.floatings) f.network) (aim_asked state.rows caller form)
           ∷ []
 
-  changed_alike : (form : FloatingForm) (f : FloatingRow) → f.project ≡ caller.project → told (floating_changed s caller form f) ≡ told (floating_changed t caller form f)
+  changed_alike : (form : FloatingForm) (f : FloatingRow) → f.project ≡ caller.project → answer_alone (floating_changed s caller form f) ≡ answer_alone (floating_changed t caller form f)
   changed_alike form f mine = unless_same (update_refusal s caller form f) (update_refusal t caller form f) (led s f.project) (led t f.project) (update_same form f mine)
-      (λ _ _. subst (λ project. told (led s project) ≡ told (led t project)) (sym mine)
+      (λ _ _. subst (λ project. answer_alone (led s project) ≡ answer_alone (led t project)) (sym mine)
       (target_alike f.network (aim_asked s.rows caller form) (replaced s) (replaced t)
       (λ target. unless_same (when (is_last s) CountersSpent) (when (is_last t) CountersSpent) (put s target) (put t target) (λ j. when (same j).is_last CountersSpent) (λ _ _. refl))
-      ∙ (λ j. told (with_target t.rows caller.project f.network (aim_alike form j) (replaced t)))))
+      ∙ (λ j. answer_alone (with_target t.rows caller.project f.network (aim_alike form j) (replaced t)))))
     where
       put : State → Option Target → Outcome
       put state target = accepted state.rows (Put (Floating (changed_floating form f target)) ∷ []) (λ after. OneRow (floating_shown after caller (changed_floating form f target) []))
@@ -336,7 +337,7 @@ module _ (settings : SettingsParts) (caller : Caller) (tenant : caller.admin ≡
       led : State → List ℕ → Outcome
       led state project = with_target state.rows project f.network (aim_asked state.rows caller form) (replaced state)
 
-  pub floating_updated_apart : (name : IdText) (form : FloatingForm) → told (floating_updated s caller name form) ≡ told (floating_updated t caller name form)
+  pub floating_updated_apart : (name : IdText) (form : FloatingForm) → answer_alone (floating_updated s caller name form) ≡ answer_alone (floating_updated t caller name form)
   floating_updated_apart name form = unless_same lacks lacks (on s) (on t) refl
       (λ _ _. needing_same (not_found FloatingKind name.text) (floating_seen s.rows caller name.id) (floating_seen t.rows caller name.id) (floating_changed s caller form) (floating_changed t caller form) (floating_found name.id)
       (λ f found_s _. changed_alike form f (bytes_same f.project caller.project (own_here caller tenant (λ (g : FloatingRow). g.id) (λ (g : FloatingRow). g.project) name.id s.rows.floatings f found_s).2)))
@@ -349,7 +350,7 @@ module _ (settings : SettingsParts) (caller : Caller) (tenant : caller.admin ≡
 
   -- taking a floating address out
 
-  pub floating_deleted_apart : (name : IdText) → told (floating_deleted s caller name) ≡ told (floating_deleted t caller name)
+  pub floating_deleted_apart : (name : IdText) → answer_alone (floating_deleted s caller name) ≡ answer_alone (floating_deleted t caller name)
   floating_deleted_apart name = needing_same (not_found FloatingKind name.text) (floating_seen s.rows caller name.id) (floating_seen t.rows caller name.id)
       (λ f. unless (deletion_refusal s caller f) (accepted s.rows (Drop PortKind f.own_port ∷ Drop FloatingKind f.id ∷ []) (λ rows. NoRow)))
       (λ f. unless (deletion_refusal t caller f) (accepted t.rows (Drop PortKind f.own_port ∷ Drop FloatingKind f.id ∷ []) (λ rows. NoRow))) (floating_found name.id)

@@ -34,7 +34,8 @@ use Rattle.row_laws.proofs.FloatingReplaced.{floating_replaced as replaced_kept}
 use Rattle.api_types.proofs.ListLemmas.{count-none, sum-remove, sum-set, each-filter}
 use Rattle.api_types.proofs.NameLemmas.{by_test, count-set, ident_itself}
 use Rattle.api_types.specs.Association.{Aim, with_target}
-use Rattle.call_parts.specs.Edits.{Drop, Put, accepted, gone_from}
+use Rattle.call_parts.specs.Edits.{Drop, Put, accepted}
+use Rattle.api_types.specs.WithRows.{gone_from}
 use Rattle.plan_floatings.specs.FloatingCalls.{aim_asked, changed_floating, deletion_refusal, floating_changed, floating_deleted, floating_replaced, floating_shown, floating_updated, lacks_port, port_asked, target_after, update_refusal}
 use Rattle.call_parts.specs.BodyNames.{unless_found}
 use Rattle.api_policy.specs.Permits.{owner_only}

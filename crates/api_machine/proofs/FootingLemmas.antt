@@ -18,7 +18,7 @@ use Rattle.api_policy.specs.Visibility.{owns_network, seen_networks, seen_ports,
 use Rattle.api_policy.specs.Networks.{subnets_of}
 use Rattle.api_machine.specs.Footing.{blank, footing, guard, is_close, is_near, near_of}
 use Rattle.api_types.specs.Given.{is_for_other, is_other, owner_of, value_or}
-use Rattle.api_types.specs.Refusing.{at_name, first_refusal, needing, told, unless, when}
+use Rattle.api_types.specs.Refusing.{at_name, first_refusal, needing, answer_alone, unless, when}
 use Rattle.call_parts.specs.State.{State}
 use Rattle.api_types.proofs.ListLemmas.{and_both, any-filter_kept, at-any, at_filter, both_and, false_true, none_some, or_none, some_equal}
 use Rattle.api_types.proofs.NameLemmas.{bytes_same, ident_itself, not_false}
@@ -32,12 +32,12 @@ port_id p = p.id
 
 -- outcomes
 
-pub unless_alike : (o : Option Refusal) (x y : Outcome) → (o ≡ None → told x ≡ told y) → told (unless o x) ≡ told (unless o y)
+pub unless_alike : (o : Option Refusal) (x y : Outcome) → (o ≡ None → answer_alone x ≡ answer_alone y) → answer_alone (unless o x) ≡ answer_alone (unless o y)
 unless_alike None x y same = same refl
 unless_alike (Some refusal) x y same = refl
 
 pub needing_alike : {X Y : Type 0} (refusal : Refusal) (o : Option X) (p : Option Y) (f : X → Outcome) (g : Y → Outcome) → is_some o ≡ is_some p
-    → ((x : X) (y : Y) → o ≡ Some x → p ≡ Some y → told (f x) ≡ told (g y)) → told (needing refusal o f) ≡ told (needing refusal p g)
+    → ((x : X) (y : Y) → o ≡ Some x → p ≡ Some y → answer_alone (f x) ≡ answer_alone (g y)) → answer_alone (needing refusal o f) ≡ answer_alone (needing refusal p g)
 needing_alike refusal None None f g alike same = refl
 needing_alike refusal None (Some y) f g alike same = false_true _ alike
 needing_alike refusal (Some x) None f g alike same = false_true _ (sym alike)
@@ -45,7 +45,7 @@ needing_alike refusal (Some x) (Some y) f g alike same = same x y refl refl
 
 -- the same where what is found is told alike by a view of it
 pub needing_by : {X V : Type 0} (refusal : Refusal) (o p : Option X) (f g : X → Outcome) (view : X → V) → option_map view o ≡ option_map view p
-    → ((x y : X) → o ≡ Some x → p ≡ Some y → view x ≡ view y → told (f x) ≡ told (g y)) → told (needing refusal o f) ≡ told (needing refusal p g)
+    → ((x y : X) → o ≡ Some x → p ≡ Some y → view x ≡ view y → answer_alone (f x) ≡ answer_alone (g y)) → answer_alone (needing refusal o f) ≡ answer_alone (needing refusal p g)
 needing_by refusal None None f g view alike same = refl
 needing_by refusal None (Some y) f g view alike same = none_some (view y) _ alike
 needing_by refusal (Some x) None f g view alike same = none_some (view x) _ (sym alike)
@@ -137,7 +137,7 @@ module _ (settings : SettingsParts) (caller : Caller) (s t : State) (same : foot
   -- what goes on with a named network is told alike, where it is so for two networks that differ in their number alone
   pub named_alike : (refusal : Refusal) (name : Option Ident) (f g : NetworkRow → Outcome)
       → ((n m : NetworkRow) → at_name network_id name (seen_networks s.rows caller) ≡ Some n → at_name network_id name (seen_networks t.rows caller) ≡ Some m
-      → blank n ≡ blank m → told (f n) ≡ told (g m))
-      → told (needing refusal (at_name network_id name (seen_networks s.rows caller)) f) ≡ told (needing refusal (at_name network_id name (seen_networks t.rows caller)) g)
+      → blank n ≡ blank m → answer_alone (f n) ≡ answer_alone (g m))
+      → answer_alone (needing refusal (at_name network_id name (seen_networks s.rows caller)) f) ≡ answer_alone (needing refusal (at_name network_id name (seen_networks t.rows caller)) g)
   named_alike refusal name f g here =
       needing_by refusal (at_name network_id name (seen_networks s.rows caller)) (at_name network_id name (seen_networks t.rows caller)) f g blank (named_same name) here

@@ -19,7 +19,7 @@ use Rattle.api_policy.specs.Trees.{id_word, list_of}
 use Rattle.api_machine.specs.Footing.{footing, owned}
 use Rattle.api_types.specs.Given.{are_unlike, is_for_other, is_given, owner_of, value_of}
 use Rattle.api_machine.specs.Reads.{row_told}
-use Rattle.api_types.specs.Refusing.{at_name, first_refusal, needing, not_found, told, unless, when}
+use Rattle.api_types.specs.Refusing.{at_name, first_refusal, needing, not_found, answer_alone, unless, when}
 use Rattle.call_parts.specs.State.{State, drawing_at}
 use Rattle.api_types.specs.Consistent.{IsConsistent}
 use Rattle.api_types.specs.Consistent.Groups.{is_direction, is_ethertype, same_match, same_rule}
@@ -120,23 +120,23 @@ module _ (settings : SettingsParts) (caller : Caller) (tenant : caller.admin ≡
   -- reads
 
   pub group_shown_apart : IsConsistent s.rows → IsConsistent t.rows → (name : IdText) (fields : List (List ℕ))
-      → told (row_told GroupKind group_id (group_members s.rows) caller name fields (own_rows (λ r. r.project) caller s.rows.groups))
-      ≡ told (row_told GroupKind group_id (group_members t.rows) caller name fields (own_rows (λ r. r.project) caller t.rows.groups))
+      → answer_alone (row_told GroupKind group_id (group_members s.rows) caller name fields (own_rows (λ r. r.project) caller s.rows.groups))
+      ≡ answer_alone (row_told GroupKind group_id (group_members t.rows) caller name fields (own_rows (λ r. r.project) caller t.rows.groups))
   group_shown_apart c d name fields = needing_same (not_found GroupKind name.text) (group_seen s.rows caller name.id) (group_seen t.rows caller name.id)
       (λ g. Told (OneRow (shown_as GroupKind caller.admin fields (group_members s.rows g)))) (λ g. Told (OneRow (shown_as GroupKind caller.admin fields (group_members t.rows g))))
       (group_found name.id)
       (λ g found_s found_t. ap (λ rules. Told (OneRow (shown_as GroupKind caller.admin fields (group_printed g rules)))) (rules_same c d name.id g found_s found_t))
 
   pub rule_shown_apart : (name : IdText) (fields : List (List ℕ))
-      → told (row_told RuleKind (λ r. r.id) rule_members caller name fields (own_rows (λ r. r.project) caller s.rows.rules))
-      ≡ told (row_told RuleKind (λ r. r.id) rule_members caller name fields (own_rows (λ r. r.project) caller t.rows.rules))
-  rule_shown_apart name fields = ap (λ rows. told (row_told RuleKind (λ (r : RuleRow). r.id) rule_members caller name fields rows)) (rules_alike settings caller tenant s t same)
+      → answer_alone (row_told RuleKind (λ r. r.id) rule_members caller name fields (own_rows (λ r. r.project) caller s.rows.rules))
+      ≡ answer_alone (row_told RuleKind (λ r. r.id) rule_members caller name fields (own_rows (λ r. r.project) caller t.rows.rules))
+  rule_shown_apart name fields = ap (λ rows. answer_alone (row_told RuleKind (λ (r : RuleRow). r.id) rule_members caller name fields rows)) (rules_alike settings caller tenant s t same)
 
   -- making a group
 
   group_added_alike : not (is_empty caller.project) ≡ true → IsConsistent s.rows → IsConsistent t.rows → (form : GroupForm) (x y : Drawing)
       → drawing_at s caller.project 3 ≡ Some x → drawing_at t caller.project 3 ≡ Some y → counts_of x ≡ counts_of y
-      → told (group_added caller x (new_group form caller.project (drawn_id x 0))) ≡ told (group_added caller y (new_group form caller.project (drawn_id y 0)))
+      → answer_alone (group_added caller x (new_group form caller.project (drawn_id x 0))) ≡ answer_alone (group_added caller y (new_group form caller.project (drawn_id y 0)))
   group_added_alike named c d form x y at_x at_y counts =
       ap (λ rules. Told (NewRow (shown_as GroupKind caller.admin [] (group_printed (new_group form caller.project (drawn_id x 0)) rules)))) (rules_at s x c at_x)
       ∙ ((λ j. Told (NewRow (shown_as GroupKind caller.admin [] (printed (counts j).0 (counts j).1))))
@@ -158,7 +158,7 @@ module _ (settings : SettingsParts) (caller : Caller) (tenant : caller.admin ≡
           new_rules z.rows drawing.consistent (new_group form caller.project (drawn_id z 0))
           (none-counted (λ (h : GroupRow). ident_eq (drawn_id z 0) h.id) z.rows.groups (omega (arith, drawing.fresh 0 (omega arith)))) (drawn_id z 1) (drawn_id z 2)
 
-  pub group_created_apart : not (is_empty caller.project) ≡ true → IsConsistent s.rows → IsConsistent t.rows → (form : GroupForm) → told (group_created settings s caller form) ≡ told (group_created settings t caller form)
+  pub group_created_apart : not (is_empty caller.project) ≡ true → IsConsistent s.rows → IsConsistent t.rows → (form : GroupForm) → answer_alone (group_created settings s caller form) ≡ answer_alone (group_created settings t caller form)
   group_created_apart named c d form = unless_same (group_creation_refusal settings s.rows caller form owner) (group_creation_refusal settings t.rows caller form owner)
       (needing CountersSpent (drawing_at s owner 3) (λ drawing. group_added caller drawing (new_group form owner (drawn_id drawing 0))))
       (needing CountersSpent (drawing_at t owner 3) (λ drawing. group_added caller drawing (new_group form owner (drawn_id drawing 0))))
@@ -185,16 +185,16 @@ module _ (settings : SettingsParts) (caller : Caller) (tenant : caller.admin ≡
           (λ passes also. ap (λ o. first_refusal (o ∷ [])) (quota_own settings caller tenant s t same owner (mine passes) GroupKind)))
 
       made : owner ≡ caller.project
-          → told (needing CountersSpent (drawing_at s owner 3) (λ drawing. group_added caller drawing (new_group form owner (drawn_id drawing 0))))
-          ≡ told (needing CountersSpent (drawing_at t owner 3) (λ drawing. group_added caller drawing (new_group form owner (drawn_id drawing 0))))
-      made own = subst (λ name. told (needing CountersSpent (drawing_at s name 3) (λ drawing. group_added caller drawing (new_group form name (drawn_id drawing 0))))
-          ≡ told (needing CountersSpent (drawing_at t name 3) (λ drawing. group_added caller drawing (new_group form name (drawn_id drawing 0))))) (sym own)
+          → answer_alone (needing CountersSpent (drawing_at s owner 3) (λ drawing. group_added caller drawing (new_group form owner (drawn_id drawing 0))))
+          ≡ answer_alone (needing CountersSpent (drawing_at t owner 3) (λ drawing. group_added caller drawing (new_group form owner (drawn_id drawing 0))))
+      made own = subst (λ name. answer_alone (needing CountersSpent (drawing_at s name 3) (λ drawing. group_added caller drawing (new_group form name (drawn_id drawing 0))))
+          ≡ answer_alone (needing CountersSpent (drawing_at t name 3) (λ drawing. group_added caller drawing (new_group form name (drawn_id drawing 0))))) (sym own)
           (drawn_alike settings caller tenant s t same caller.project refl 3 (λ drawing. group_added caller drawing (new_group form caller.project (drawn_id drawing 0)))
           (λ drawing. group_added caller drawing (new_group form caller.project (drawn_id drawing 0))) (group_added_alike named c d form))
 
   -- changing a group
 
-  pub group_updated_apart : IsConsistent s.rows → IsConsistent t.rows → (name : IdText) (form : GroupForm) → told (group_updated s caller name form) ≡ told (group_updated t caller name form)
+  pub group_updated_apart : IsConsistent s.rows → IsConsistent t.rows → (name : IdText) (form : GroupForm) → answer_alone (group_updated s caller name form) ≡ answer_alone (group_updated t caller name form)
   group_updated_apart c d name form = needing_same (not_found GroupKind name.text) (group_seen s.rows caller name.id) (group_seen t.rows caller name.id)
       (λ g. unless (group_update_refusal s caller form g) (group_replaced caller s.rows (changed_group form g)))
       (λ g. unless (group_update_refusal t caller form g) (group_replaced caller t.rows (changed_group form g)))
@@ -215,7 +215,7 @@ module _ (settings : SettingsParts) (caller : Caller) (tenant : caller.admin ≡
       ∙ (ap (λ f. option_map (seen_user SecurityGroupInUse GroupKind g.id) (find (is_group_user g.id) f.ports)) same
       ∙ sym (users_seen t.rows caller d SecurityGroupInUse GroupKind g.id (is_group_user g.id) (group_users t.rows caller d there.0 g there.1 there.2)))
 
-  pub group_deleted_apart : IsConsistent s.rows → IsConsistent t.rows → (name : IdText) → told (group_deleted s caller name) ≡ told (group_deleted t caller name)
+  pub group_deleted_apart : IsConsistent s.rows → IsConsistent t.rows → (name : IdText) → answer_alone (group_deleted s caller name) ≡ answer_alone (group_deleted t caller name)
   group_deleted_apart c d name = needing_same (not_found GroupKind name.text) (group_seen s.rows caller name.id) (group_seen t.rows caller name.id)
       (λ g. unless (group_deletion_refusal s caller g) (accepted s.rows (group_gone s.rows g.id) (λ rows. NoRow)))
       (λ g. unless (group_deletion_refusal t caller g) (accepted t.rows (group_gone t.rows g.id) (λ rows. NoRow)))
@@ -242,7 +242,7 @@ module _ (settings : SettingsParts) (caller : Caller) (tenant : caller.admin ≡
   equal_same : (r : RuleRow) → r.project ≡ caller.project → equal_rule s.rows.rules r ≡ equal_rule t.rows.rules r
   equal_same r own = equal_own s.rows r own ∙ (ap (λ f. equal_rule f.rules r) same ∙ sym (equal_own t.rows r own))
 
-  pub rule_created_apart : (form : RuleForm) → told (rule_created settings s caller form) ≡ told (rule_created settings t caller form)
+  pub rule_created_apart : (form : RuleForm) → answer_alone (rule_created settings s caller form) ≡ answer_alone (rule_created settings t caller form)
   rule_created_apart form = unless_same (rule_body_refusal s.rows caller form (group_seen s.rows caller group)) (rule_body_refusal t.rows caller form (group_seen t.rows caller group))
       (needing refusal (group_seen s.rows caller group) (on s)) (needing refusal (group_seen t.rows caller group) (on t)) (body_same form)
       (λ passes also. needing_same refusal (group_seen s.rows caller group) (group_seen t.rows caller group) (on s) (on t) (group_found group)
@@ -269,7 +269,7 @@ module _ (settings : SettingsParts) (caller : Caller) (tenant : caller.admin ≡
 
   -- taking a rule out
 
-  pub rule_deleted_apart : (name : IdText) → told (rule_deleted s caller name) ≡ told (rule_deleted t caller name)
+  pub rule_deleted_apart : (name : IdText) → answer_alone (rule_deleted s caller name) ≡ answer_alone (rule_deleted t caller name)
   rule_deleted_apart name = needing_same (not_found RuleKind name.text) (rule_seen s.rows caller name.id) (rule_seen t.rows caller name.id)
       (λ r. unless (rule_deletion_refusal s caller r) (accepted s.rows (Drop RuleKind r.id ∷ []) (λ rows. NoRow)))
       (λ r. unless (rule_deletion_refusal t caller r) (accepted t.rows (Drop RuleKind r.id ∷ []) (λ rows. NoRow)))

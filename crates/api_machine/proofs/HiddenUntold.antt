@@ -4,7 +4,7 @@ use Rattle.std.specs.Prelude.{is_some, nat_le}
 use Rattle.std.specs.Str.{bytes_eq}
 use Rattle.api_machine.specs.WholeStep.{api_step}
 use Rattle.api_ml2.specs.Numbers.{least_free}
-use Rattle.api_types.specs.Refusing.{told}
+use Rattle.api_types.specs.Refusing.{answer_alone}
 use Rattle.api_types.specs.Consistent.{IsConsistent}
 use Rattle.api_types.specs.Consistent.Numbered.{times_in}
 use Rattle.api_types.specs.Consistent.Segments.{most_networks}
@@ -22,7 +22,7 @@ pub hidden_untold : (settings : SettingsParts) (version : ℕ) (caller : Caller)
     → IsConsistent rows → IsConsistent (with_network rows n) → times_in rows n.id ≡ 0 → bytes_eq n.project caller.project ≡ false
     → is_some (least_free (rows.networks ++ n ∷ []) settings.vxlan_first (settings.vxlan_last + 1 - settings.vxlan_first)) ≡ is_some (least_free rows.networks settings.vxlan_first (settings.vxlan_last + 1 - settings.vxlan_first))
     → nat_le most_networks (length (rows.networks ++ n ∷ [])) ≡ nat_le most_networks (length rows.networks)
-    → (call : Call) → told (api_step settings (record { rows = with_network rows n; version = version }) caller call) ≡ told (api_step settings (record { rows = rows; version = version }) caller call)
+    → (call : Call) → answer_alone (api_step settings (record { rows = with_network rows n; version = version }) caller call) ≡ answer_alone (api_step settings (record { rows = rows; version = version }) caller call)
 hidden_untold settings version caller rows n tenant named c d fresh others number full =
     step_apart settings caller (record { rows = with_network rows n; version = version }) (record { rows = rows; version = version }) tenant named d c
     (hidden_network caller tenant rows c n fresh others settings version number full)

@@ -19,7 +19,7 @@ use Rattle.api_policy.specs.Uses.{floating_in_use, leads_through}
 use Rattle.api_policy.specs.Visibility.{is_own, owns_network}
 use Rattle.api_policy.specs.Trees.{id_word, list_of}
 use Rattle.api_machine.specs.Footing.{footing}
-use Rattle.api_types.specs.Refusing.{first_refusal, needing, not_found, told, when}
+use Rattle.api_types.specs.Refusing.{first_refusal, needing, not_found, answer_alone, when}
 use Rattle.call_parts.specs.State.{State, drawing_at}
 use Rattle.api_types.specs.Consistent.{IsConsistent}
 use Rattle.api_types.specs.Ident.{Ident, ident_text}
@@ -101,14 +101,14 @@ module _ (settings : SettingsParts) (caller : Caller) (tenant : caller.admin ≡
     abbrev chosen_at : State → SubnetRow → NetworkRow → Addr → Outcome
     chosen_at state sub n x = needing CountersSpent (free_mac state.rows.ports n.id) (λ mac. needing CountersSpent (drawing_at state r.project 1) (made_at sub n x mac))
 
-    chosen_alike_at : (sub : SubnetRow) (x : Addr) (n m : NetworkRow) → n.id ≡ m.id → owns_network s.rows caller.project n.id ≡ true → told (chosen_at s sub n x) ≡ told (chosen_at t sub m x)
+    chosen_alike_at : (sub : SubnetRow) (x : Addr) (n m : NetworkRow) → n.id ≡ m.id → owns_network s.rows caller.project n.id ≡ true → answer_alone (chosen_at s sub n x) ≡ answer_alone (chosen_at t sub m x)
     chosen_alike_at sub x n m ids owns = needing_same CountersSpent (free_mac s.rows.ports n.id) (free_mac t.rows.ports m.id)
         (λ mac. needing CountersSpent (drawing_at s r.project 1) (made_at sub n x mac)) (λ mac. needing CountersSpent (drawing_at t r.project 1) (made_at sub m x mac))
         (free_mac_same s.rows.ports t.rows.ports n.id (owned_macs settings caller tenant s t c d same n.id owns) ∙ ap (free_mac t.rows.ports) ids)
         (λ mac _ _. drawn_alike settings caller tenant s t same r.project (bytes_same r.project caller.project own) 1 (made_at sub n x mac) (made_at sub m x mac)
         (λ y z at_y at_z counts. λ j. Told (InterfaceRow (interface_printed r (ids j) (ident (counts j).0 ((counts j).1 + 0)) sub.id))))
 
-    by_subnet_alike : (i : Ident) → told (interface_by settings s caller r (BySubnet i)) ≡ told (interface_by settings t caller r (BySubnet i))
+    by_subnet_alike : (i : Ident) → answer_alone (interface_by settings s caller r (BySubnet i)) ≡ answer_alone (interface_by settings t caller r (BySubnet i))
     by_subnet_alike i = needing_same refusal (subnet_seen s.rows caller (Some i)) (subnet_seen t.rows caller (Some i)) (on s) (on t) (subnet_found settings caller tenant s t c d same (Some i))
         (λ sub found_s found_t. let here = subnet_here settings caller tenant s t c d same s (Some i) sub found_s in let there = subnet_here settings caller tenant s t c d same t (Some i) sub found_t in
         let n0 = found_there (λ (n : NetworkRow). ident_eq sub.network n.id) s.rows.networks (c.named.networks.of_subnets here.0 sub here.1) in
@@ -138,7 +138,7 @@ module _ (settings : SettingsParts) (caller : Caller) (tenant : caller.admin ≡
 
     -- an interface by port
 
-    by_port_alike : (i : Ident) → told (interface_by settings s caller r (ByPort i)) ≡ told (interface_by settings t caller r (ByPort i))
+    by_port_alike : (i : Ident) → answer_alone (interface_by settings s caller r (ByPort i)) ≡ answer_alone (interface_by settings t caller r (ByPort i))
     by_port_alike i = needing_same refusal (port_seen s.rows caller (Some i)) (port_seen t.rows caller (Some i)) (on s) (on t) (port_found settings caller tenant s t c d same (Some i))
         (λ p found_s found_t. let here = port_here settings caller tenant s t c d same s (Some i) p found_s in let there = port_here settings caller tenant s t c d same t (Some i) p found_t in
         let n0 = found_there (λ (n : NetworkRow). ident_eq p.network n.id) s.rows.networks (c.named.networks.of_ports here.0 p here.1) in
@@ -199,7 +199,7 @@ module _ (settings : SettingsParts) (caller : Caller) (tenant : caller.admin ≡
 
     -- the port is found among the router's interfaces
     removed_alike : (refusal : Refusal) (test : PortRow → Bool) (owner other : Option Refusal) → owner ≡ other
-        → told (needing refusal (find test (interfaces_of s.rows.ports r)) (port_removed s caller r owner)) ≡ told (needing refusal (find test (interfaces_of t.rows.ports r)) (port_removed t caller r other))
+        → answer_alone (needing refusal (find test (interfaces_of s.rows.ports r)) (port_removed s caller r owner)) ≡ answer_alone (needing refusal (find test (interfaces_of t.rows.ports r)) (port_removed t caller r other))
     removed_alike refusal test owner other owners = needing_same refusal (find test (interfaces_of s.rows.ports r)) (find test (interfaces_of t.rows.ports r)) (port_removed s caller r owner) (port_removed t caller r other)
         (ap (find test) interfaces)
         (λ p found_s found_t. let first = find_here test (interfaces_of s.rows.ports r) p found_s in let second = find_here test (interfaces_of t.rows.ports r) p found_t in
@@ -211,7 +211,7 @@ module _ (settings : SettingsParts) (caller : Caller) (tenant : caller.admin ≡
         gone : State → PortRow → Outcome
         gone state p = accepted state.rows (interface_gone state.rows.floatings p) (λ after. InterfaceRow (interface_shown r p (first_subnet p.fixed)))
 
-    removed_by_alike : (by : InterfaceBy) → told (removed_by s caller r by) ≡ told (removed_by t caller r by)
+    removed_by_alike : (by : InterfaceBy) → answer_alone (removed_by s caller r by) ≡ answer_alone (removed_by t caller r by)
     removed_by_alike (BySubnet i) = needing_same (not_found SubnetKind (ident_text i)) (subnet_seen s.rows caller (Some i)) (subnet_seen t.rows caller (Some i))
         (λ sub. needing (no_interface i) (find (holds_in i) (interfaces_of s.rows.ports r)) (port_removed s caller r (network_owner s.rows caller true sub.network)))
         (λ sub. needing (no_interface i) (find (holds_in i) (interfaces_of t.rows.ports r)) (port_removed t caller r (network_owner t.rows caller true sub.network)))
@@ -223,17 +223,17 @@ module _ (settings : SettingsParts) (caller : Caller) (tenant : caller.admin ≡
         (port_found settings caller tenant s t c d same (Some i))
         (λ p _ _. removed_alike (no_interface i) (λ (q : PortRow). ident_eq i q.id) (owner_only caller p.project) (owner_only caller p.project) refl)
 
-    added_by_alike : (by : InterfaceBy) → told (interface_by settings s caller r by) ≡ told (interface_by settings t caller r by)
+    added_by_alike : (by : InterfaceBy) → answer_alone (interface_by settings s caller r by) ≡ answer_alone (interface_by settings t caller r by)
     added_by_alike (BySubnet i) = by_subnet_alike i
     added_by_alike (ByPort i) = by_port_alike i
 
-  pub interface_added_apart : (name : IdText) (by : InterfaceBy) → told (interface_added settings s caller name by) ≡ told (interface_added settings t caller name by)
+  pub interface_added_apart : (name : IdText) (by : InterfaceBy) → answer_alone (interface_added settings s caller name by) ≡ answer_alone (interface_added settings t caller name by)
   interface_added_apart name by = needing_same (not_found RouterKind name.text) (router_seen s.rows caller name.id) (router_seen t.rows caller name.id)
       (λ r. interface_by settings s caller r by) (λ r. interface_by settings t caller r by) (router_found settings caller tenant named s t c d same name.id)
       (λ r found_s found_t. let here = router_here settings caller tenant named s t c d same s name.id r found_s in let there = router_here settings caller tenant named s t c d same t name.id r found_t in
       added_by_alike here.0 there.0 r here.1 there.1 here.2 by)
 
-  pub interface_removed_apart : (name : IdText) (by : InterfaceBy) → told (interface_removed s caller name by) ≡ told (interface_removed t caller name by)
+  pub interface_removed_apart : (name : IdText) (by : InterfaceBy) → answer_alone (interface_removed s caller name by) ≡ answer_alone (interface_removed t caller name by)
   interface_removed_apart name by = needing_same (not_found RouterKind name.text) (router_seen s.rows caller name.id) (router_seen t.rows caller name.id)
       (λ r. removed_by s caller r by) (λ r. removed_by t caller r by) (router_found settings caller tenant named s t c d same name.id)
       (λ r found_s found_t. let here = router_here settings caller tenant named s t c d same s name.id r found_s in let there = router_here settings caller tenant named s t c d same t name.id r found_t in

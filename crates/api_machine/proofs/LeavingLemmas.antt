@@ -14,7 +14,8 @@ use Rattle.row_laws.specs.OwnPorts.{freed_if, with_floatings_freed}
 use Rattle.row_laws.proofs.FloatingsFreed.{floatings_freed}
 use Rattle.api_types.proofs.ListLemmas.{any-none, at_filter, false_true, filter-any, one_row}
 use Rattle.api_types.proofs.NameLemmas.{by_test, ident_itself, ident_sym}
-use Rattle.call_parts.specs.Edits.{Put, made, put_in}
+use Rattle.call_parts.specs.Edits.{Put, made}
+use Rattle.api_types.specs.WithRows.{put_in}
 use Rattle.call_parts.specs.Leaving.{disassociated, disassociations, loses_target}
 use Rattle.api_machine.proofs.EditLemmas.{all_put, floatings_put}
 

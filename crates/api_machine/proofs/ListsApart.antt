@@ -25,7 +25,7 @@ use Rattle.api_policy.specs.Ports.{port_members}
 use Rattle.api_policy.specs.Shown.{shown_as}
 use Rattle.api_machine.specs.Footing.{Near, blank, footing, is_near}
 use Rattle.api_machine.specs.Reads.{marker_text, rows_listed}
-use Rattle.api_types.specs.Refusing.{not_found, told, unless, when}
+use Rattle.api_types.specs.Refusing.{not_found, answer_alone, unless, when}
 use Rattle.call_parts.specs.State.{State}
 use Rattle.api_types.proofs.ListLemmas.{and_both, any-at, none_some, one_row}
 use Rattle.api_machine.proofs.FootingLemmas.{near_same, network_id, port_id, port_near, seen_near, subnets_same, unless_alike}
@@ -198,15 +198,15 @@ module _ (settings : SettingsParts) (caller : Caller) (tenant : caller.admin ≡
   -- where the marker is the same to both, and so is what is listed behind it
   listed_alike : (kind : Kind) (q : Query) → has_marker s.rows caller kind q.marker ≡ has_marker t.rows caller kind q.marker
       → (has_marker s.rows caller kind q.marker ≡ true → has_marker t.rows caller kind q.marker ≡ true → listed s.rows caller kind q ≡ listed t.rows caller kind q)
-      → told (rows_listed s.rows caller kind q) ≡ told (rows_listed t.rows caller kind q)
+      → answer_alone (rows_listed s.rows caller kind q) ≡ answer_alone (rows_listed t.rows caller kind q)
   listed_alike kind q marker alike =
-      ap (λ b. told (unless (when (not b) (not_found kind (marker_text q.marker))) (Told (ManyRows kind (listed s.rows caller kind q))))) marker
+      ap (λ b. answer_alone (unless (when (not b) (not_found kind (marker_text q.marker))) (Told (ManyRows kind (listed s.rows caller kind q))))) marker
       ∙ unless_alike (when (not (has_marker t.rows caller kind q.marker)) (not_found kind (marker_text q.marker))) (Told (ManyRows kind (listed s.rows caller kind q))) (Told (ManyRows kind (listed t.rows caller kind q)))
       (λ passes. let there = when_none (has_marker t.rows caller kind q.marker) (not_found kind (marker_text q.marker)) passes in
       ap (λ rows. Told (ManyRows kind rows)) (alike (marker ∙ there) there))
 
-  pub networks_listed_apart : (q : Query) → told (rows_listed s.rows caller NetworkKind q) ≡ told (rows_listed t.rows caller NetworkKind q)
+  pub networks_listed_apart : (q : Query) → answer_alone (rows_listed s.rows caller NetworkKind q) ≡ answer_alone (rows_listed t.rows caller NetworkKind q)
   networks_listed_apart q = listed_alike NetworkKind q (network_marker_same q.marker) (networks_same q)
 
-  pub ports_listed_apart : (q : Query) → told (rows_listed s.rows caller PortKind q) ≡ told (rows_listed t.rows caller PortKind q)
+  pub ports_listed_apart : (q : Query) → answer_alone (rows_listed s.rows caller PortKind q) ≡ answer_alone (rows_listed t.rows caller PortKind q)
   ports_listed_apart q = listed_alike PortKind q (port_marker_same q.marker) (ports_same q)

@@ -13,7 +13,7 @@ use Rattle.api_policy.specs.Permits.{network_owner}
 use Rattle.api_policy.specs.Seen.{network_seen}
 use Rattle.api_policy.specs.Visibility.{owns_network, seen_ports, sees_port}
 use Rattle.api_machine.specs.Footing.{blank, footing}
-use Rattle.api_types.specs.Refusing.{needing, told, when}
+use Rattle.api_types.specs.Refusing.{needing, answer_alone, when}
 use Rattle.call_parts.specs.State.{State, drawing_at}
 use Rattle.api_types.specs.Consistent.{IsConsistent}
 use Rattle.api_types.specs.Consistent.InForm.{is_eui}
@@ -107,9 +107,9 @@ module _ (settings : SettingsParts) (caller : Caller) (tenant : caller.admin ≡
 
   -- addresses, a MAC address and ids are chosen alike
   pub chosen_alike : {A : Type 0} (refusal : Refusal) (o p : Option A) → o ≡ p → (q r : Option ℕ) → q ≡ r → (name : List ℕ) → name ≡ caller.project → (many : ℕ) (f g : A → ℕ → Drawing → Outcome)
-      → ((a : A) (mac : ℕ) (x y : Drawing) → drawing_at s caller.project many ≡ Some x → drawing_at t caller.project many ≡ Some y → counts_of x ≡ counts_of y → told (f a mac x) ≡ told (g a mac y))
-      → told (needing refusal o (λ a. needing CountersSpent q (λ mac. needing CountersSpent (drawing_at s name many) (f a mac))))
-      ≡ told (needing refusal p (λ a. needing CountersSpent r (λ mac. needing CountersSpent (drawing_at t name many) (g a mac))))
+      → ((a : A) (mac : ℕ) (x y : Drawing) → drawing_at s caller.project many ≡ Some x → drawing_at t caller.project many ≡ Some y → counts_of x ≡ counts_of y → answer_alone (f a mac x) ≡ answer_alone (g a mac y))
+      → answer_alone (needing refusal o (λ a. needing CountersSpent q (λ mac. needing CountersSpent (drawing_at s name many) (f a mac))))
+      ≡ answer_alone (needing refusal p (λ a. needing CountersSpent r (λ mac. needing CountersSpent (drawing_at t name many) (g a mac))))
   chosen_alike refusal o p addresses q r macs name own many f g here =
       needing_same refusal o p (λ a. needing CountersSpent q (λ mac. needing CountersSpent (drawing_at s name many) (f a mac))) (λ a. needing CountersSpent r (λ mac. needing CountersSpent (drawing_at t name many) (g a mac))) addresses
       (λ a _ _. needing_same CountersSpent q r (λ mac. needing CountersSpent (drawing_at s name many) (f a mac)) (λ mac. needing CountersSpent (drawing_at t name many) (g a mac)) macs

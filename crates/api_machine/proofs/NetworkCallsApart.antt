@@ -15,7 +15,7 @@ use Rattle.api_policy.specs.Networks.{is_open, subnets_of}
 use Rattle.api_machine.specs.Footing.{Near, blank, footing, is_near}
 use Rattle.api_types.specs.Given.{are_unlike, is_for_other, is_given, owner_of, value_of, value_or}
 use Rattle.api_ml2.specs.Numbers.{is_taken, least_free, numbers}
-use Rattle.api_types.specs.Refusing.{first_refusal, needing, not_found, told, unless, when}
+use Rattle.api_types.specs.Refusing.{first_refusal, needing, not_found, answer_alone, unless, when}
 use Rattle.call_parts.specs.State.{State, drawing_at, is_last}
 use Rattle.api_types.specs.Consistent.{IsConsistent}
 use Rattle.api_types.specs.Consistent.Segments.{most_networks}
@@ -149,7 +149,7 @@ module _ (settings : SettingsParts) (caller : Caller) (tenant : caller.admin ≡
 
   added_alike : (form : NetworkForm) (segment other : Segment) (x y : Drawing)
       → drawing_at s caller.project 1 ≡ Some x → drawing_at t caller.project 1 ≡ Some y → counts_of x ≡ counts_of y
-      → told (added_plain caller x.rows (new_network caller.project form (drawn_id x 0) segment)) ≡ told (added_plain caller y.rows (new_network caller.project form (drawn_id y 0) other))
+      → answer_alone (added_plain caller x.rows (new_network caller.project form (drawn_id x 0) segment)) ≡ answer_alone (added_plain caller y.rows (new_network caller.project form (drawn_id y 0) other))
   added_alike form segment other x y at_x at_y counts =
       let dx = drawn_one s caller.project x c named at_x in
       let dy = drawn_one t caller.project y d named at_y in
@@ -165,7 +165,7 @@ module _ (settings : SettingsParts) (caller : Caller) (tenant : caller.admin ≡
   chosen_same : is_some (chosen_segment settings s.rows.networks None) ≡ is_some (chosen_segment settings t.rows.networks None)
   chosen_same = chosen_some settings s.rows.networks ∙ ((λ j. not (same j).is_full && (same j).has_number) ∙ sym (chosen_some settings t.rows.networks))
 
-  made_alike : (form : NetworkForm) → told (made_plain settings s caller form caller.project) ≡ told (made_plain settings t caller form caller.project)
+  made_alike : (form : NetworkForm) → answer_alone (made_plain settings s caller form caller.project) ≡ answer_alone (made_plain settings t caller form caller.project)
   made_alike form = needing_alike NoNetwork (chosen_segment settings s.rows.networks None) (chosen_segment settings t.rows.networks None)
       (λ segment. needing CountersSpent (drawing_at s caller.project 1) (λ drawing. added_plain caller drawing.rows (new_network caller.project form (drawn_id drawing 0) segment)))
       (λ segment. needing CountersSpent (drawing_at t caller.project 1) (λ drawing. added_plain caller drawing.rows (new_network caller.project form (drawn_id drawing 0) segment)))
@@ -174,7 +174,7 @@ module _ (settings : SettingsParts) (caller : Caller) (tenant : caller.admin ≡
       (λ drawing. added_plain caller drawing.rows (new_network caller.project form (drawn_id drawing 0) segment)) (λ drawing. added_plain caller drawing.rows (new_network caller.project form (drawn_id drawing 0) other))
       (added_alike form segment other))
 
-  pub network_created_apart : (form : NetworkForm) → told (network_created settings s caller form) ≡ told (network_created settings t caller form)
+  pub network_created_apart : (form : NetworkForm) → answer_alone (network_created settings s caller form) ≡ answer_alone (network_created settings t caller form)
   network_created_apart form = unless_same (creation_refusal settings s.rows caller form owner) (creation_refusal settings t.rows caller form owner)
       (made_with settings s caller form owner) (made_with settings t caller form owner)
       (first_behind heads (segment_in_use s.rows.networks (asked_segment form) ∷ over_quota settings s.rows owner NetworkKind ∷ []) (segment_in_use t.rows.networks (asked_segment form) ∷ over_quota settings t.rows owner NetworkKind ∷ [])
@@ -183,9 +183,9 @@ module _ (settings : SettingsParts) (caller : Caller) (tenant : caller.admin ≡
       let quota = quota_own settings caller tenant s t same owner (own is.1) NetworkKind in
       (λ j. first_refusal (asked j ∷ quota j ∷ []))))
       (λ passes _. let is = plain_here (heads_none heads (segment_in_use s.rows.networks (asked_segment form) ∷ over_quota settings s.rows owner NetworkKind ∷ []) passes) in
-      ap told (plain_is settings s caller form owner is.0)
-      ∙ (subst (λ name. told (made_plain settings s caller form name) ≡ told (made_plain settings t caller form name)) (sym (own is.1)) (made_alike form)
-      ∙ sym (ap told (plain_is settings t caller form owner is.0))))
+      ap answer_alone (plain_is settings s caller form owner is.0)
+      ∙ (subst (λ name. answer_alone (made_plain settings s caller form name) ≡ answer_alone (made_plain settings t caller form name)) (sym (own is.1)) (made_alike form)
+      ∙ sym (ap answer_alone (plain_is settings t caller form owner is.0))))
     where
       owner : List ℕ
       owner = owner_of caller form.project_id form.tenant_id
@@ -212,7 +212,7 @@ module _ (settings : SettingsParts) (caller : Caller) (tenant : caller.admin ≡
 
   replaced_alike : (form : NetworkForm) (k l : ℕ) (n m : NetworkRow) → slice_get s.rows.networks k ≡ Some n → slice_get t.rows.networks l ≡ Some m → is_near s.rows caller n.id ≡ true → blank n ≡ blank m
       → (x y : Drawing) → drawing_at s caller.project 0 ≡ Some x → drawing_at t caller.project 0 ≡ Some y → counts_of x ≡ counts_of y
-      → told (replaced_plain caller x.rows (changed_network form n)) ≡ told (replaced_plain caller y.rows (changed_network form m))
+      → answer_alone (replaced_plain caller x.rows (changed_network form n)) ≡ answer_alone (replaced_plain caller y.rows (changed_network form m))
   replaced_alike form k l n m at_n at_m near alike x y at_x at_y counts =
       let dx : IsDrawing s.rows caller.project 0 x = (drawn_ids s caller.project 0 x c named (omega arith) at_x).0 in
       let dy : IsDrawing t.rows caller.project 0 y = (drawn_ids t caller.project 0 y d named (omega arith) at_y).0 in
@@ -230,11 +230,11 @@ module _ (settings : SettingsParts) (caller : Caller) (tenant : caller.admin ≡
       ∙ sym (subnets_kept y.rows dy.consistent l m (ap (λ ns. slice_get ns l) dy.networks ∙ at_m) form caller m.id)))))))
 
   changed_alike : (form : NetworkForm) (k l : ℕ) (n m : NetworkRow) → slice_get s.rows.networks k ≡ Some n → slice_get t.rows.networks l ≡ Some m → is_near s.rows caller n.id ≡ true → blank n ≡ blank m
-      → n.project ≡ caller.project → told (changed_plain s caller form n) ≡ told (changed_plain t caller form m)
+      → n.project ≡ caller.project → answer_alone (changed_plain s caller form n) ≡ answer_alone (changed_plain t caller form m)
   changed_alike form k l n m at_n at_m near alike own =
       drawn_alike settings caller tenant s t same n.project own 0 (λ drawing. replaced_plain caller drawing.rows (changed_network form n)) (λ drawing. replaced_plain caller drawing.rows (changed_network form m))
       (replaced_alike form k l n m at_n at_m near alike)
-      ∙ (λ j. told (needing CountersSpent (drawing_at t (alike j).project 0) (λ drawing. replaced_plain caller drawing.rows (changed_network form m))))
+      ∙ (λ j. answer_alone (needing CountersSpent (drawing_at t (alike j).project 0) (λ drawing. replaced_plain caller drawing.rows (changed_network form m))))
 
   update_same : (form : NetworkForm) (n m : NetworkRow) → blank n ≡ blank m → update_refusal s caller form n ≡ update_refusal t caller form m
   update_same form n m alike = first_same (admin_only caller (network_for_admin caller form)) (admin_only caller (network_for_admin caller form))
@@ -248,7 +248,7 @@ module _ (settings : SettingsParts) (caller : Caller) (tenant : caller.admin ≡
       closed_none : (state : State) (r : NetworkRow) → IsPlain form → closed state r ≡ None
       closed_none state r is = λ j. if is_cleared (is.shared j) || is_cleared (is.external j) then open_in_use state.rows caller (filter (is_kept form r.id) state.rows.policies) r else None
 
-  pub network_updated_apart : (name : IdText) (form : NetworkForm) → told (network_updated s caller name form) ≡ told (network_updated t caller name form)
+  pub network_updated_apart : (name : IdText) (form : NetworkForm) → answer_alone (network_updated s caller name form) ≡ answer_alone (network_updated t caller name form)
   network_updated_apart name form = named_alike settings caller s t same (not_found NetworkKind name.text) name.id (network_changed s caller form) (network_changed t caller form)
       (λ n m found_n found_m alike.
       let at_n = seen_here s.rows caller name.id n found_n in
@@ -256,8 +256,8 @@ module _ (settings : SettingsParts) (caller : Caller) (tenant : caller.admin ≡
       unless_same (update_refusal s caller form n) (update_refusal t caller form m) (changed_with s caller form n) (changed_with t caller form m) (update_same form n m alike)
       (λ passes _. let is = (plain caller tenant form (none_at (refusals s n) passes 0 (admin_only caller (network_for_admin caller form)) refl)).0 in
       let own = bytes_same n.project caller.project (owner_passes caller tenant n.project (none_at (refusals s n) passes 1 (owner_only caller n.project) refl)) in
-      ap told (changed_is s caller form n is)
-      ∙ (changed_alike form at_n.0 at_m.0 n m at_n.1 at_m.1 (named_near s.rows caller name.id n found_n) alike own ∙ sym (ap told (changed_is t caller form m is)))))
+      ap answer_alone (changed_is s caller form n is)
+      ∙ (changed_alike form at_n.0 at_m.0 n m at_n.1 at_m.1 (named_near s.rows caller name.id n found_n) alike own ∙ sym (ap answer_alone (changed_is t caller form m is)))))
     where
       refusals : State → NetworkRow → List (Option Refusal)
       refusals state r = admin_only caller (network_for_admin caller form) ∷ owner_only caller r.project
@@ -275,7 +275,7 @@ module _ (settings : SettingsParts) (caller : Caller) (tenant : caller.admin ≡
       users : (state : State) (i : ℕ) (r : NetworkRow) → slice_get state.rows.networks i ≡ Some r → bytes_eq r.project caller.project ≡ true → Each (λ p. is_network_user r.id p ≡ true → sees_port state.rows caller p ≡ true) state.rows.ports
       users state i r at mine o p at_p uses = own_sees_port state.rows caller i r at mine p (ident_sym r.id p.network (and_both (ident_eq r.id p.network) (not (is_dhcp p.owner)) uses).0)
 
-  pub network_deleted_apart : (name : IdText) → told (network_deleted s caller name) ≡ told (network_deleted t caller name)
+  pub network_deleted_apart : (name : IdText) → answer_alone (network_deleted s caller name) ≡ answer_alone (network_deleted t caller name)
   network_deleted_apart name = named_alike settings caller s t same (not_found NetworkKind name.text) name.id
       (λ n. unless (deletion_refusal s caller n) (accepted s.rows (network_gone s.rows n.id) (λ rows. NoRow)))
       (λ n. unless (deletion_refusal t caller n) (accepted t.rows (network_gone t.rows n.id) (λ rows. NoRow)))

@@ -1,5 +1,5 @@
 -- A tenant is shown the same of a network wherever its footing is the same; nobody sees other subnets of one that is changed.
-use Rattle.call_parts.specs.Edits.{put_in}
+use Rattle.api_types.specs.WithRows.{put_in}
 use Rattle.std.proofs.Common.{◌≡◌, ℕ, ◌≤◌, List, Bool, true, false, Some, slice_get, ap, ◌∙◌, arith, map}
 use Rattle.std.specs.Prelude.{◌&&◌, ◌||◌, count_by, if◌then◌else◌}
 use Rattle.std.specs.Str.{bytes_eq}
@@ -22,7 +22,7 @@ use Rattle.api_policy.specs.Networks.{network_members, subnets_of}
 use Rattle.api_machine.specs.Footing.{Near, blank, footing, is_near}
 use Rattle.plan_networks.specs.NetworkCalls.{changed_network, network_shown}
 use Rattle.api_machine.specs.Reads.{row_told}
-use Rattle.api_types.specs.Refusing.{not_found, told}
+use Rattle.api_types.specs.Refusing.{not_found, answer_alone}
 use Rattle.call_parts.specs.State.{State}
 use Rattle.api_types.proofs.ListLemmas.{one_row}
 use Rattle.api_types.proofs.NameLemmas.{by_test, ident_itself}
@@ -61,8 +61,8 @@ module _ (settings : SettingsParts) (caller : Caller) (tenant : caller.admin ≡
       (subnets_same settings caller s t same n.id ∙ ap (λ x. subnets_of t.rows caller x.id) alike)
 
   pub network_shown_apart : (name : IdText) (fields : List (List ℕ))
-      → told (row_told NetworkKind network_id (network_members s.rows caller) caller name fields (seen_networks s.rows caller))
-      ≡ told (row_told NetworkKind network_id (network_members t.rows caller) caller name fields (seen_networks t.rows caller))
+      → answer_alone (row_told NetworkKind network_id (network_members s.rows caller) caller name fields (seen_networks s.rows caller))
+      ≡ answer_alone (row_told NetworkKind network_id (network_members t.rows caller) caller name fields (seen_networks t.rows caller))
   network_shown_apart name fields = named_alike settings caller s t same (not_found NetworkKind name.text) name.id
       (λ n. Told (OneRow (network_shown s.rows caller n fields))) (λ n. Told (OneRow (network_shown t.rows caller n fields)))
       (λ n m found_n found_m alike. ap (λ (row : ShownRow). Told (OneRow row)) (shown_same n m (named_near s.rows caller name.id n found_n) alike fields))

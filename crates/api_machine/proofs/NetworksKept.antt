@@ -42,7 +42,8 @@ use Rattle.row_laws.proofs.NetworkCreated.{network_created as made_kept, vxlan_a
 use Rattle.row_laws.proofs.NetworkGone.{gone_carried, network_gone as network_off}
 use Rattle.row_laws.specs.Gone.{IsUnused}
 use Rattle.row_laws.specs.NewRows.{IsAlone, with_network, with_policy}
-use Rattle.call_parts.specs.Edits.{Add, Drop, Put, accepted, made, put_in, with_put}
+use Rattle.call_parts.specs.Edits.{Add, Drop, Put, accepted, made}
+use Rattle.api_types.specs.WithRows.{put_in, with_put}
 use Rattle.call_parts.specs.InForm.{IsFormed, are_owners, is_network_body}
 use Rattle.api_policy.specs.Permits.{admin_only, owner_only}
 use Rattle.api_policy.specs.PolicyNeeds.{policy_user}

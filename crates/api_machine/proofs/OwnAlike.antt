@@ -11,7 +11,7 @@ use Rattle.api_policy.specs.Seen.{own_rows}
 use Rattle.api_policy.specs.Uses.{used_by_port}
 use Rattle.api_policy.specs.Visibility.{is_own, owns_network, seen_networks, seen_ports, sees_network, sees_port, sees_row, sees_subnet}
 use Rattle.api_machine.specs.Footing.{blank, footing, owned}
-use Rattle.api_types.specs.Refusing.{at_name, needing, told, when}
+use Rattle.api_types.specs.Refusing.{at_name, needing, answer_alone, when}
 use Rattle.call_parts.specs.State.{State, drawing_at}
 use Rattle.api_types.specs.Consistent.{IsConsistent}
 use Rattle.api_types.specs.Ident.{Ident}
@@ -147,9 +147,9 @@ module _ (settings : SettingsParts) (caller : Caller) (tenant : caller.admin ≡
 
   -- what is drawn for the caller's project
   pub drawn_alike : (name : List ℕ) → name ≡ caller.project → (many : ℕ) (f g : Drawing → Outcome)
-      → ((x y : Drawing) → drawing_at s caller.project many ≡ Some x → drawing_at t caller.project many ≡ Some y → counts_of x ≡ counts_of y → told (f x) ≡ told (g y))
-      → told (needing CountersSpent (drawing_at s name many) f) ≡ told (needing CountersSpent (drawing_at t name many) g)
-  drawn_alike name own many f g here = subst (λ name. told (needing CountersSpent (drawing_at s name many) f) ≡ told (needing CountersSpent (drawing_at t name many) g)) (sym own)
+      → ((x y : Drawing) → drawing_at s caller.project many ≡ Some x → drawing_at t caller.project many ≡ Some y → counts_of x ≡ counts_of y → answer_alone (f x) ≡ answer_alone (g y))
+      → answer_alone (needing CountersSpent (drawing_at s name many) f) ≡ answer_alone (needing CountersSpent (drawing_at t name many) g)
+  drawn_alike name own many f g here = subst (λ name. answer_alone (needing CountersSpent (drawing_at s name many) f) ≡ answer_alone (needing CountersSpent (drawing_at t name many) g)) (sym own)
       (needing_by CountersSpent (drawing_at s caller.project many) (drawing_at t caller.project many) f g counts_of (counts_same settings caller s t same many) here)
 
 -- who isn't refused as a tenant asks for nothing that is for administrators, and makes rows of its own

@@ -18,7 +18,7 @@ use Rattle.api_types.specs.declared.network.NetworkRow.{NetworkRow}
 use Rattle.api_types.specs.declared.port.PortRow.{PortRow}
 use Rattle.api_types.specs.declared.refusal.Refusal.TheVariants.{Invalid}
 use Rattle.call_parts.specs.BodyNames.{text_of, unless_found}
-use Rattle.call_parts.specs.Edits.{gone_from}
+use Rattle.api_types.specs.WithRows.{gone_from}
 use Rattle.call_parts.specs.State.{State}
 use Rattle.api_machine.proofs.Own.{is_own_outcome, own_first, own_needing, own_target, own_then, own_unless, owns}
 use Rattle.api_machine.proofs.OwnChecks.{own_admin_only, own_aim_in_use, own_owner_only, own_unless_found}

@@ -16,7 +16,7 @@ use Rattle.api_types.specs.declared.network.NetworkRow.{NetworkRow}
 use Rattle.api_types.specs.declared.policy.PolicyRow.{PolicyRow}
 use Rattle.api_types.specs.declared.refusal.Refusal.TheVariants.{CountersSpent, Invalid}
 use Rattle.call_parts.specs.BodyNames.{no_id, text_of}
-use Rattle.call_parts.specs.Edits.{gone_from, put_in}
+use Rattle.api_types.specs.WithRows.{gone_from, put_in}
 use Rattle.call_parts.specs.State.{State, drawing_at, is_last}
 use Rattle.api_machine.proofs.Own.{is_own_outcome, own_first, own_needing, own_unless, owns}
 use Rattle.api_machine.proofs.OwnChecks.{own_admin_only, own_network_owner, own_over_quota, own_owner_only, own_policy_in_use}

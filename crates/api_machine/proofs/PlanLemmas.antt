@@ -6,7 +6,7 @@ use Rattle.api_types.specs.Consistent.{IsConsistent}
 use Rattle.api_types.specs.Lists.{is_empty}
 use Rattle.api_types.specs.Outcome.{Outcome, Moved, Refused, Told}
 use Rattle.api_types.specs.Printed.{Reply, ShownRow, reply_of}
-use Rattle.api_types.specs.Refusing.{told}
+use Rattle.api_types.specs.Refusing.{answer_alone}
 use Rattle.api_types.specs.Rows.{Fits, after}
 use Rattle.api_types.specs.declared.call.Call.{Call}
 use Rattle.api_types.specs.declared.call.Caller.{Caller}
@@ -59,16 +59,16 @@ planned_so settings state caller call rules c typed form within (Some change) re
 -- what a tenant is told
 
 pub told_alike : (settings : SettingsParts) (caller : Caller) (now other : State) (call : Call) → not (is_empty caller.project) ≡ true → IsConsistent now.rows → AreAlike settings caller now other
-    → told (api_step settings now caller call) ≡ told (api_step settings other caller call)
+    → answer_alone (api_step settings now caller call) ≡ answer_alone (api_step settings other caller call)
 told_alike settings caller now other call named c alike = step_apart settings caller now other alike.tenant named c alike.consistent alike.same call
 
-pub planned_told : (settings : SettingsParts) (state : State) (outcome : Outcome) (change : Option (List Item)) (reply : Reply) → PlansAs settings state outcome change reply → told outcome ≡ Told reply
-planned_told settings state outcome None reply plans = ap told plans
-planned_told settings state outcome (Some change) reply plans = ap told plans.moved
+pub planned_told : (settings : SettingsParts) (state : State) (outcome : Outcome) (change : Option (List Item)) (reply : Reply) → PlansAs settings state outcome change reply → answer_alone outcome ≡ Told reply
+planned_told settings state outcome None reply plans = ap answer_alone plans
+planned_told settings state outcome (Some change) reply plans = ap answer_alone plans.moved
 
-pub refused_alike : (outcome other : Outcome) (refusal : Refusal) → told outcome ≡ told other → IsRefusalOf outcome refusal → IsRefusalOf (told other) refusal
+pub refused_alike : (outcome other : Outcome) (refusal : Refusal) → answer_alone outcome ≡ answer_alone other → IsRefusalOf outcome refusal → IsRefusalOf (answer_alone other) refusal
 refused_alike outcome other refusal same (inl memory) = inl memory
-refused_alike outcome other refusal same (inr refused) = inr (sym same ∙ ap told refused)
+refused_alike outcome other refusal same (inr refused) = inr (sym same ∙ ap answer_alone refused)
 
 pub if_ok : {T E : Type 0} (P Q : T → Type 0) (r : Result T E) → ((x : T) → P x → Q x) → IfOk r P → IfOk r Q
 if_ok P Q (Ok x) weaker p = weaker x p

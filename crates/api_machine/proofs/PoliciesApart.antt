@@ -3,7 +3,8 @@ use Rattle.std.proofs.Common.{◌≡◌, ℕ, ◌+◌, List, [], ◌∷◌, Bool
 use Rattle.std.specs.Prelude.{◌&&◌, ◌||◌, codes, filter, option_and_then, option_map, if◌then◌else◌}
 use Rattle.std.specs.Str.{bytes_eq}
 use Rattle.call_parts.specs.BodyNames.{no_id, text_of}
-use Rattle.call_parts.specs.Edits.{Drop, accepted, gone_from, put_in}
+use Rattle.call_parts.specs.Edits.{Drop, accepted}
+use Rattle.api_types.specs.WithRows.{gone_from, put_in}
 use Rattle.api_policy.specs.Permits.{admin_only, network_owner, owner_only}
 use Rattle.plan_policies.specs.PolicyCalls.{changed_policy, creation_refusal, deletion_refusal, equal_policy, new_policy, policy_added, policy_created, policy_deleted, policy_exists, policy_made, policy_replaced, policy_updated, update_refusal}
 use Rattle.api_policy.specs.PolicyNeeds.{policy_user}
@@ -16,7 +17,7 @@ use Rattle.api_policy.specs.Shown.{shown_as}
 use Rattle.api_machine.specs.Footing.{Held, blank, footing, is_held_by}
 use Rattle.api_types.specs.Given.{are_unlike, is_for_other, owner_of, value_of, value_or}
 use Rattle.api_machine.specs.Reads.{row_told}
-use Rattle.api_types.specs.Refusing.{at_name, first_refusal, needing, not_found, told, unless, when}
+use Rattle.api_types.specs.Refusing.{at_name, first_refusal, needing, not_found, answer_alone, unless, when}
 use Rattle.call_parts.specs.State.{State, drawing_at}
 use Rattle.api_types.specs.Consistent.{IsConsistent}
 use Rattle.api_types.specs.Consistent.Permitted.{same_policy}
@@ -95,9 +96,9 @@ module _ (settings : SettingsParts) (caller : Caller) (tenant : caller.admin ≡
   policies_on_alike i held = ap (λ (h : Held). h.policies) (held_alike settings caller tenant s t c d same i held)
 
   pub policy_shown_apart : (name : IdText) (fields : List (List ℕ))
-      → told (row_told PolicyKind policy_id policy_members caller name fields (own_rows (λ r. r.project) caller s.rows.policies))
-      ≡ told (row_told PolicyKind policy_id policy_members caller name fields (own_rows (λ r. r.project) caller t.rows.policies))
-  policy_shown_apart name fields = ap (λ rows. told (row_told PolicyKind policy_id policy_members caller name fields rows)) (policies_alike settings caller tenant s t same)
+      → answer_alone (row_told PolicyKind policy_id policy_members caller name fields (own_rows (λ r. r.project) caller s.rows.policies))
+      ≡ answer_alone (row_told PolicyKind policy_id policy_members caller name fields (own_rows (λ r. r.project) caller t.rows.policies))
+  policy_shown_apart name fields = ap (λ rows. answer_alone (row_told PolicyKind policy_id policy_members caller name fields rows)) (policies_alike settings caller tenant s t same)
 
   -- making a policy
 
@@ -130,7 +131,7 @@ module _ (settings : SettingsParts) (caller : Caller) (tenant : caller.admin ≡
       held_here : network_owner s.rows caller true n.id ≡ None → is_held_by s.rows caller.project n.id ≡ true
       held_here passes = or_left _ _ (sym (ap (λ b. b || owns_network s.rows caller.project n.id) tenant) ∙ when_true (caller.admin || owns_network s.rows caller.project n.id) (Forbidden NetworkOwner) passes)
 
-  pub policy_created_apart : (form : PolicyForm) → told (policy_created settings s caller form) ≡ told (policy_created settings t caller form)
+  pub policy_created_apart : (form : PolicyForm) → answer_alone (policy_created settings s caller form) ≡ answer_alone (policy_created settings t caller form)
   policy_created_apart form = unless_same unlike unlike (policy_made settings s caller form owner) (policy_made settings t caller form owner) refl
       (λ likely _. named_alike settings caller s t same (not_found NetworkKind (text_of (value_of form.object_id))) (value_of form.object_id) (on s) (on t)
       (λ n m found_n found_m alike. unless_same (creation_refusal settings s.rows caller form owner n) (creation_refusal settings t.rows caller form owner m)
@@ -194,7 +195,7 @@ module _ (settings : SettingsParts) (caller : Caller) (tenant : caller.admin ≡
 
   -- changing a policy
 
-  pub policy_updated_apart : (name : IdText) (form : PolicyForm) → told (policy_updated s caller name form) ≡ told (policy_updated t caller name form)
+  pub policy_updated_apart : (name : IdText) (form : PolicyForm) → answer_alone (policy_updated s caller name form) ≡ answer_alone (policy_updated t caller name form)
   policy_updated_apart name form = needing_same (not_found PolicyKind name.text) (policy_seen s.rows caller name.id) (policy_seen t.rows caller name.id)
       (λ l. unless (update_refusal s caller form l (changed_policy form l)) (policy_replaced caller s.rows (changed_policy form l)))
       (λ l. unless (update_refusal t caller form l (changed_policy form l)) (policy_replaced caller t.rows (changed_policy form l)))
@@ -208,7 +209,7 @@ module _ (settings : SettingsParts) (caller : Caller) (tenant : caller.admin ≡
 
   -- taking a policy out
 
-  pub policy_deleted_apart : (name : IdText) → told (policy_deleted s caller name) ≡ told (policy_deleted t caller name)
+  pub policy_deleted_apart : (name : IdText) → answer_alone (policy_deleted s caller name) ≡ answer_alone (policy_deleted t caller name)
   policy_deleted_apart name = needing_same (not_found PolicyKind name.text) (policy_seen s.rows caller name.id) (policy_seen t.rows caller name.id)
       (λ l. unless (deletion_refusal s caller l) (accepted s.rows (Drop PolicyKind l.id ∷ []) (λ rows. NoRow)))
       (λ l. unless (deletion_refusal t caller l) (accepted t.rows (Drop PolicyKind l.id ∷ []) (λ rows. NoRow)))

@@ -37,7 +37,8 @@ use Rattle.api_machine.proofs.EditedRows.{none_refused, put_at}
 use Rattle.api_machine.proofs.GatewayStays.{unmapped}
 use Rattle.api_machine.proofs.PolicyPermits.{still_permitted}
 use Rattle.call_parts.specs.BodyNames.{no_id, text_of}
-use Rattle.call_parts.specs.Edits.{Add, Drop, Put, accepted, gone_from, put_in, with_put, without_row}
+use Rattle.call_parts.specs.Edits.{Add, Drop, Put, accepted}
+use Rattle.api_types.specs.WithRows.{gone_from, put_in, with_put, without_row}
 use Rattle.call_parts.specs.InForm.{IsFormed, are_owners, is_there}
 use Rattle.api_policy.specs.Permits.{admin_only, network_owner, owner_only}
 use Rattle.plan_policies.specs.PolicyCalls.{changed_policy, creation_refusal, deletion_refusal, equal_policy, new_policy, policy_added, policy_created, policy_deleted, policy_exists, policy_made, policy_replaced, policy_updated, update_refusal}

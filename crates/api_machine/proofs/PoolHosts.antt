@@ -5,9 +5,9 @@ use Rattle.std.proofs.lemmas.Bool.Decides.{nat_tests}
 use Rattle.std.specs.List.{list_all}
 use Rattle.net_addr.proofs.AddrLemmas.{addr_same}
 use Rattle.net_addr.proofs.PrefixLemmas.{IsBelowTop, eui_contained, host_decides, number_decides, number_kept, shared_numbers, version_kept, version_on, version_turned}
-use Rattle.net_addr.specs.Addresses.{addr_eq, is_v4, number, renumbered, same_version}
+use Rattle.net_addr.specs.Addresses.{addr_eq, is_v4, number, with_number, same_version}
 use Rattle.net_addr.specs.Macs.{is_unicast}
-use Rattle.net_addr.specs.Prefixes.{Contains, IsPrefix, Prefix, Span, bits_behind, contains, eui, eui_number, is_host_of, last_number, overlaps, turned}
+use Rattle.net_addr.specs.Prefixes.{Contains, IsPrefix, Prefix, Span, bits_behind, contains, eui, eui_number, is_host_of, last_number, overlaps, with_flipped_bit}
 use Rattle.net_addr.specs.declared.address.Addr.{Addr}
 use Rattle.net_addr.specs.declared.address.Addr.TheVariants.{V4, V6}
 use Rattle.api_types.specs.Consistent.{IsConsistent}
@@ -41,14 +41,14 @@ from_bounds test (suc many) first x h = by (test first) h (from_bounds test many
 
 -- an address of a span, by its number
 pub within_bounds : (free : Addr → Bool) (s : Span) (x : Addr) → least_within free s ≡ Some x → (same_version s.first x ≡ true) × (number s.first ≤ number x) × (number x ≤ number s.last)
-within_bounds free s x h = by (least_from (λ n. free (renumbered s.first n)) (number s.first) (number s.last + 1 - number s.first)) refl h
+within_bounds free s x h = by (least_from (λ n. free (with_number s.first n)) (number s.first) (number s.last + 1 - number s.first)) refl h
   where
-    by : (o : Option ℕ) → least_from (λ n. free (renumbered s.first n)) (number s.first) (number s.last + 1 - number s.first) ≡ o → option_map (renumbered s.first) o ≡ Some x
+    by : (o : Option ℕ) → least_from (λ n. free (with_number s.first n)) (number s.first) (number s.last + 1 - number s.first) ≡ o → option_map (with_number s.first) o ≡ Some x
         → (same_version s.first x ≡ true) × (number s.first ≤ number x) × (number x ≤ number s.last)
     by None is h = none_some x _ h
     by (Some n) is h =
-        let e = some_equal (renumbered s.first n) x h in
-        let r = from_bounds (λ m. free (renumbered s.first m)) (number s.last + 1 - number s.first) (number s.first) n is in
+        let e = some_equal (with_number s.first n) x h in
+        let r = from_bounds (λ m. free (with_number s.first m)) (number s.last + 1 - number s.first) (number s.first) n is in
         let has : number x ≡ n = ap number (sym e) ∙ number_kept s.first n in
         (ap (same_version s.first) (sym e) ∙ version_kept s.first n, omega (arith, has, r.0), omega (arith, has, r.0, r.1))
 
@@ -159,10 +159,10 @@ pub eui_host : (p : Prefix) (mac : ℕ) → IsPrefix p → is_v4 p.base ≡ fals
 unfolding is_host_of eui
 eui_host p mac is six long small =
     let bounds = eui_bounds mac small in
-    let inside = is_contained p (renumbered p.base (number p.base + eui_number mac)) (eui_contained p (eui_number mac) is six long bounds.1) in
-    let above : number (renumbered p.base (number p.base + eui_number mac)) == number p.base ≡ false =
+    let inside = is_contained p (with_number p.base (number p.base + eui_number mac)) (eui_contained p (eui_number mac) is six long bounds.1) in
+    let above : number (with_number p.base (number p.base + eui_number mac)) == number p.base ≡ false =
     ap (λ n. n == number p.base) (number_kept p.base (number p.base + eui_number mac)) ∙ unequal (number p.base) (eui_number mac) bounds.0 in
-    both_and _ _ (both_and _ _ inside (ap not above)) (ap (λ b. not (b && (number (renumbered p.base (number p.base + eui_number mac)) == last_number p))) six)
+    both_and _ _ (both_and _ _ inside (ap not above)) (ap (λ b. not (b && (number (with_number p.base (number p.base + eui_number mac)) == last_number p))) six)
   where
     unequal : (a b : ℕ) → 0 < b → (a + b == a) ≡ false
     unequal a b h = grind (arith, nat_tests, h)

@@ -22,7 +22,7 @@ use Rattle.api_policy.specs.Shown.{shown_as}
 use Rattle.api_ml2.specs.Binding.{bound}
 use Rattle.api_machine.specs.Footing.{Near, blank, footing, is_near, near_of}
 use Rattle.api_types.specs.Given.{are_unlike, is_for_other, is_given, owner_of, value_of, value_or}
-use Rattle.api_types.specs.Refusing.{at_name, first_refusal, needing, not_found, told, unless, when}
+use Rattle.api_types.specs.Refusing.{at_name, first_refusal, needing, not_found, answer_alone, unless, when}
 use Rattle.call_parts.specs.State.{State, drawing_at, is_last}
 use Rattle.api_types.specs.Consistent.{IsConsistent}
 use Rattle.api_types.specs.Ident.{Ident}
@@ -172,7 +172,7 @@ module _ (settings : SettingsParts) (caller : Caller) (tenant : caller.admin ≡
 
   added_alike : not (is_empty caller.project) ≡ true → (form : PortForm) → value_or [] form.binding_host_id ≡ [] → (n m : NetworkRow) → is_near s.rows caller n.id ≡ true → blank n ≡ blank m → (fixed : List Fixed) (mac : ℕ) (x y : Drawing)
       → drawing_at s caller.project 1 ≡ Some x → drawing_at t caller.project 1 ≡ Some y → counts_of x ≡ counts_of y
-      → told (port_added caller x.rows (new_port settings x.rows caller form n caller.project (drawn_id x 0) mac fixed)) ≡ told (port_added caller y.rows (new_port settings y.rows caller form m caller.project (drawn_id y 0) mac fixed))
+      → answer_alone (port_added caller x.rows (new_port settings x.rows caller form n caller.project (drawn_id x 0) mac fixed)) ≡ answer_alone (port_added caller y.rows (new_port settings y.rows caller form m caller.project (drawn_id y 0) mac fixed))
   added_alike named form nowhere n m near alike fixed mac x y at_x at_y counts =
       ap (λ members. Told (NewRow (shown_as PortKind caller.admin [] members))) (port_members_alike (with_port x.rows p) (with_port y.rows q) p q
       (λ j. port_by form (alike j) caller.project (ident (counts j).0 ((counts j).1 + 0)) mac fixed (groups j) (vifs j) (by_admin j)) up)
@@ -210,7 +210,7 @@ module _ (settings : SettingsParts) (caller : Caller) (tenant : caller.admin ≡
           ∙ (ap (λ (z : Near). z.up) (near_same settings caller s t same n.id near) ∙ (ap (λ z. up_at z.id t.rows.networks) alike
           ∙ sym (ap (λ rows. up_at m.id rows) dy.0.networks)))
 
-  made_alike : not (is_empty caller.project) ≡ true → (form : PortForm) → value_or [] form.binding_host_id ≡ [] → (n m : NetworkRow) → is_near s.rows caller n.id ≡ true → blank n ≡ blank m → told (made_for s form n caller.project) ≡ told (made_for t form m caller.project)
+  made_alike : not (is_empty caller.project) ≡ true → (form : PortForm) → value_or [] form.binding_host_id ≡ [] → (n m : NetworkRow) → is_near s.rows caller n.id ≡ true → blank n ≡ blank m → answer_alone (made_for s form n caller.project) ≡ answer_alone (made_for t form m caller.project)
   made_alike named form nowhere n m near alike = let told_near = near_alike settings caller s t same n m near alike in let macs = mac_alike form n m near alike in
       chosen_alike settings caller tenant s t same (PoolsSpent n.id) (addresses_at_first s.rows form n.id) (addresses_at_first t.rows form m.id)
       (λ j. first_addresses (λ x. not ((told_near j).addresses x)) (told_near j).subnets (expected_mac (macs j)) form.fixed_ips)
@@ -218,19 +218,19 @@ module _ (settings : SettingsParts) (caller : Caller) (tenant : caller.admin ≡
       (λ fixed mac drawing. port_added caller drawing.rows (new_port settings drawing.rows caller form n caller.project (drawn_id drawing 0) mac fixed))
       (λ fixed mac drawing. port_added caller drawing.rows (new_port settings drawing.rows caller form m caller.project (drawn_id drawing 0) mac fixed))
       (added_alike named form nowhere n m near alike)
-      ∙ (λ j. told (needing (PoolsSpent (alike j).id) (addresses_at_first t.rows form m.id) (λ fixed.
+      ∙ (λ j. answer_alone (needing (PoolsSpent (alike j).id) (addresses_at_first t.rows form m.id) (λ fixed.
       needing CountersSpent (mac_for t.rows.ports m.id form.mac_address) (λ mac.
       needing CountersSpent (drawing_at t caller.project 1) (λ drawing.
       port_added caller drawing.rows (new_port settings drawing.rows caller form m caller.project (drawn_id drawing 0) mac fixed))))))
 
-  pub port_created_apart : not (is_empty caller.project) ≡ true → (form : PortForm) → told (port_created settings s caller form) ≡ told (port_created settings t caller form)
+  pub port_created_apart : not (is_empty caller.project) ≡ true → (form : PortForm) → answer_alone (port_created settings s caller form) ≡ answer_alone (port_created settings t caller form)
   port_created_apart named form = unless_same (body_refusal s.rows caller form) (body_refusal t.rows caller form) (on s) (on t) (body_same form)
       (λ _ _. named_alike settings caller s t same (not_found NetworkKind (text_of name)) name (λ n. port_made settings s caller form n owner) (λ n. port_made settings t caller form n owner)
       (λ n m found_n found_m alike.
       let at_n = seen_here s.rows caller name n found_n in let at_m = seen_here t.rows caller name m found_m in let near = named_near s.rows caller name n found_n in
       unless_same (creation_refusal settings s.rows caller form n owner) (creation_refusal settings t.rows caller form m owner) (made_for s form n owner) (made_for t form m owner)
       (creation_same form owner at_n.0 at_m.0 n m at_n.1 at_m.1 near alike mine)
-      (λ passes _. subst (λ name. told (made_for s form n name) ≡ told (made_for t form m name)) (sym (mine (none_at (refusals s n) passes 1 (admin_only caller (port_for_admin caller form)) refl))) (made_alike named form (nowhere (none_at (refusals s n) passes 1 (admin_only caller (port_for_admin caller form)) refl)) n m near alike))))
+      (λ passes _. subst (λ name. answer_alone (made_for s form n name) ≡ answer_alone (made_for t form m name)) (sym (mine (none_at (refusals s n) passes 1 (admin_only caller (port_for_admin caller form)) refl))) (made_alike named form (nowhere (none_at (refusals s n) passes 1 (admin_only caller (port_for_admin caller form)) refl)) n m near alike))))
     where
       name : Option Ident
       name = value_of form.network_id
@@ -294,7 +294,7 @@ module _ (settings : SettingsParts) (caller : Caller) (tenant : caller.admin ≡
   vif_same n m asked none old = ap (λ g. vif_after settings n g old) none ∙ sym (ap (λ g. vif_after settings m g old) none)
 
   replaced_alike : (form : PortForm) (n m : NetworkRow) (p : PortRow) → is_near s.rows caller p.network ≡ true → form.binding_host_id ≡ Absent → (fixed : List Fixed)
-      → told (port_replaced caller s.rows (changed_port settings form n p fixed)) ≡ told (port_replaced caller t.rows (changed_port settings form m p fixed))
+      → answer_alone (port_replaced caller s.rows (changed_port settings form n p fixed)) ≡ answer_alone (port_replaced caller t.rows (changed_port settings form m p fixed))
   replaced_alike form n m p near nowhere fixed =
       ap (λ members. Told (OneRow (shown_as PortKind caller.admin [] members))) (port_members_alike (after s q) (after t r) q r
       (λ j. record (changed_port settings form n p fixed) { vif = vif_same n m form.binding_host_id nowhere p.vif j })
@@ -313,7 +313,7 @@ module _ (settings : SettingsParts) (caller : Caller) (tenant : caller.admin ≡
       left : State → PortRow → List FloatingRow
       left state x = filter (λ (f : FloatingRow). is_some_so (loses_target x.id x.fixed) f.target) state.rows.floatings
 
-  pub port_updated_apart : (name : IdText) (form : PortForm) → told (port_updated settings s caller name form) ≡ told (port_updated settings t caller name form)
+  pub port_updated_apart : (name : IdText) (form : PortForm) → answer_alone (port_updated settings s caller name form) ≡ answer_alone (port_updated settings t caller name form)
   port_updated_apart name form = needing_same refusal (port_seen s.rows caller name.id) (port_seen t.rows caller name.id) (on s) (on t) (port_found name.id)
       (λ p found_s found_t.
       let here = port_here s name.id p found_s in let there = port_here t name.id p found_t in
@@ -359,7 +359,7 @@ module _ (settings : SettingsParts) (caller : Caller) (tenant : caller.admin ≡
 
   -- taking a port out
 
-  pub port_deleted_apart : (name : IdText) → told (port_deleted s caller name) ≡ told (port_deleted t caller name)
+  pub port_deleted_apart : (name : IdText) → answer_alone (port_deleted s caller name) ≡ answer_alone (port_deleted t caller name)
   port_deleted_apart name = needing_same (not_found PortKind name.text) (port_seen s.rows caller name.id) (port_seen t.rows caller name.id)
       (λ p. unless (deletion_refusal s caller p) (accepted s.rows (port_gone s.rows.floatings p.id) (λ rows. NoRow))) (λ p. unless (deletion_refusal t caller p) (accepted t.rows (port_gone t.rows.floatings p.id) (λ rows. NoRow)))
       (port_found name.id)

@@ -57,7 +57,8 @@ use Rattle.api_machine.proofs.OldAddresses.{old_fits, renewed_differ, renewed_fi
 use Rattle.api_machine.proofs.PortBodies.{PortBodyParts, bare_so, counted_once, groups_named, is_placed_so, mac_unheld, map_empty, map_few, owner_plain, pairs_unicast, port_parts}
 use Rattle.api_machine.proofs.PortCreated.{fits_hosts, fits_named}
 use Rattle.call_parts.specs.BodyNames.{unless_all}
-use Rattle.call_parts.specs.Edits.{Put, made, with_put}
+use Rattle.call_parts.specs.Edits.{Put, made}
+use Rattle.api_types.specs.WithRows.{with_put}
 use Rattle.api_ipam.specs.FixedChoice.{addresses_of, all_renewed, are_placed, named_subnets, next_addresses, next_known, old_renewed, renewed}
 use Rattle.api_types.specs.HeldAddresses.{address_taken, is_address_held, is_held_by_other, is_mac_held, is_mac_of_other, subnets_on}
 use Rattle.call_parts.specs.InForm.{IsFormed, if_value, is_few, is_pair, is_port_body}

@@ -23,7 +23,7 @@ use Rattle.api_machine.specs.Footing.{Near, footing, is_near}
 use Rattle.api_types.specs.Given.{is_given, value_or}
 use Rattle.plan_ports.specs.PortCalls.{port_shown}
 use Rattle.api_machine.specs.Reads.{row_told}
-use Rattle.api_types.specs.Refusing.{at_name, not_found, told}
+use Rattle.api_types.specs.Refusing.{at_name, not_found, answer_alone}
 use Rattle.call_parts.specs.State.{State}
 use Rattle.api_types.proofs.ListLemmas.{and_both, false_true}
 use Rattle.api_machine.proofs.DrawnAlike.{groups_of}
@@ -49,8 +49,8 @@ module _ (settings : SettingsParts) (caller : Caller) (tenant : caller.admin ≡
   up_same i near = ap (λ (x : Near). x.up) (near_same settings caller s t same i near)
 
   pub port_shown_apart : (name : IdText) (fields : List (List ℕ))
-      → told (row_told PortKind port_id (port_members s.rows) caller name fields (seen_ports s.rows caller))
-      ≡ told (row_told PortKind port_id (port_members t.rows) caller name fields (seen_ports t.rows caller))
+      → answer_alone (row_told PortKind port_id (port_members s.rows) caller name fields (seen_ports s.rows caller))
+      ≡ answer_alone (row_told PortKind port_id (port_members t.rows) caller name fields (seen_ports t.rows caller))
   port_shown_apart name fields = needing_by (not_found PortKind name.text) (at_name port_id name.id (seen_ports s.rows caller)) (at_name port_id name.id (seen_ports t.rows caller))
       (λ p. Told (OneRow (port_shown s.rows caller p fields))) (λ p. Told (OneRow (port_shown t.rows caller p fields))) (λ p. p)
       (ap (λ f. option_map (λ (p : PortRow). p) (at_name port_id name.id f.ports)) same)

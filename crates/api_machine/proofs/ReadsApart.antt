@@ -14,7 +14,7 @@ use Rattle.api_policy.specs.Shown.{shown_as}
 use Rattle.api_policy.specs.Subnets.{subnet_members}
 use Rattle.api_machine.specs.Footing.{footing}
 use Rattle.api_machine.specs.Reads.{marker_text, row_told, rows_listed}
-use Rattle.api_types.specs.Refusing.{at_name, not_found, told, unless, when}
+use Rattle.api_types.specs.Refusing.{at_name, not_found, answer_alone, unless, when}
 use Rattle.call_parts.specs.State.{State}
 use Rattle.api_types.specs.Consistent.{IsConsistent}
 use Rattle.api_types.specs.Ident.{Ident}
@@ -83,7 +83,7 @@ module _ {R : Type 0} (id_of : R → Ident) (kind : Kind) (admin : Bool) (q : Qu
 
   -- where the seen rows are the same, and the same is printed of each, the same is told
   list_alike : (seen seen' : R → Bool) (members members' : R → List NamedTree) (xs ys : List R) → ((i : Ident) → times id_of i xs ≤ 1) → ((i : Ident) → times id_of i ys ≤ 1)
-      → filter seen xs ≡ filter seen' ys → Each (λ r. members r ≡ members' r) (filter seen xs) → told (list_told seen members xs) ≡ told (list_told seen' members' ys)
+      → filter seen xs ≡ filter seen' ys → Each (λ r. members r ≡ members' r) (filter seen xs) → answer_alone (list_told seen members xs) ≡ answer_alone (list_told seen' members' ys)
   list_alike seen seen' members members' xs ys once once' alike same =
       unless_same (when (not (marks (sees_in seen xs) q.marker)) (not_found kind (marker_text q.marker))) (when (not (marks (sees_in seen' ys) q.marker)) (not_found kind (marker_text q.marker)))
       (Told (ManyRows kind (listed_in id_of seen members kind admin q xs))) (Told (ManyRows kind (listed_in id_of seen' members' kind admin q ys)))
@@ -103,7 +103,7 @@ module _ (settings : SettingsParts) (caller : Caller) (tenant : caller.admin ≡
   router_found : (name : Option Ident) → router_seen s.rows caller name ≡ router_seen t.rows caller name
   router_found name = ap (at_name router_id name) (routers_alike settings caller tenant s t same)
 
-  router_shown_apart : (name : IdText) (fields : List (List ℕ)) → told (row_shown s caller Router name fields) ≡ told (row_shown t caller Router name fields)
+  router_shown_apart : (name : IdText) (fields : List (List ℕ)) → answer_alone (row_shown s caller Router name fields) ≡ answer_alone (row_shown t caller Router name fields)
   router_shown_apart name fields = needing_same (not_found Router name.text) (router_seen s.rows caller name.id) (router_seen t.rows caller name.id)
       (λ r. Told (OneRow (shown_as Router caller.admin fields (router_members s.rows r)))) (λ r. Told (OneRow (shown_as Router caller.admin fields (router_members t.rows r))))
       (router_found name.id)
@@ -111,15 +111,15 @@ module _ (settings : SettingsParts) (caller : Caller) (tenant : caller.admin ≡
       let there = own_here caller tenant router_id (λ (r : RouterRow). r.project) name.id t.rows.routers r found_t in
       ap (λ members. Told (OneRow (shown_as Router caller.admin fields members))) (router_members_alike settings caller s t c d same here.0 there.0 r here.1 there.1 here.2))
 
-  pub shown_apart : (kind : Kind) (name : IdText) (fields : List (List ℕ)) → told (row_shown s caller kind name fields) ≡ told (row_shown t caller kind name fields)
+  pub shown_apart : (kind : Kind) (name : IdText) (fields : List (List ℕ)) → answer_alone (row_shown s caller kind name fields) ≡ answer_alone (row_shown t caller kind name fields)
   shown_apart Network name fields = network_shown_apart settings caller tenant s t same name fields
   shown_apart Port name fields = port_shown_apart settings caller tenant s t same name fields
   shown_apart Project name fields = refl
-  shown_apart Subnet name fields = ap (λ f. told (row_told Subnet subnet_id subnet_members caller name fields f.subnets)) same
+  shown_apart Subnet name fields = ap (λ f. answer_alone (row_told Subnet subnet_id subnet_members caller name fields f.subnets)) same
   shown_apart Group name fields = group_shown_apart settings caller tenant s t same c d name fields
   shown_apart Rule name fields = rule_shown_apart settings caller tenant s t same name fields
   shown_apart Router name fields = router_shown_apart name fields
-  shown_apart Floating name fields = ap (λ rows. told (row_told Floating floating_id floating_members caller name fields rows)) (floatings_alike settings caller tenant s t same)
+  shown_apart Floating name fields = ap (λ rows. answer_alone (row_told Floating floating_id floating_members caller name fields rows)) (floatings_alike settings caller tenant s t same)
   shown_apart Policy name fields = policy_shown_apart settings caller tenant s t c d same name fields
 
   -- lists
@@ -147,16 +147,16 @@ module _ (settings : SettingsParts) (caller : Caller) (tenant : caller.admin ≡
   kind_is : (state : State) (kind : Kind) (q : Query) → rows_listed state.rows caller kind q ≡ kind_told state kind q
   kind_is state kind q = λ j. unless (when (not (marker_is state.rows caller kind q.marker j)) (not_found kind (marker_text q.marker))) (Told (ManyRows kind (listed state.rows caller kind q)))
 
-  by_kind : (kind : Kind) (q : Query) → told (kind_told s kind q) ≡ told (kind_told t kind q) → told (rows_listed s.rows caller kind q) ≡ told (rows_listed t.rows caller kind q)
-  by_kind kind q alike = ap told (kind_is s kind q) ∙ (alike ∙ sym (ap told (kind_is t kind q)))
+  by_kind : (kind : Kind) (q : Query) → answer_alone (kind_told s kind q) ≡ answer_alone (kind_told t kind q) → answer_alone (rows_listed s.rows caller kind q) ≡ answer_alone (rows_listed t.rows caller kind q)
+  by_kind kind q alike = ap answer_alone (kind_is s kind q) ∙ (alike ∙ sym (ap answer_alone (kind_is t kind q)))
 
-  pub listed_apart : (kind : Kind) (q : Query) → told (rows_listed s.rows caller kind q) ≡ told (rows_listed t.rows caller kind q)
+  pub listed_apart : (kind : Kind) (q : Query) → answer_alone (rows_listed s.rows caller kind q) ≡ answer_alone (rows_listed t.rows caller kind q)
   listed_apart Network q = networks_listed_apart settings caller tenant s t c d same q
   listed_apart Port q = ports_listed_apart settings caller tenant s t c d same q
   listed_apart Project q = by_kind Project q (projects q.marker)
     where
-      projects : (marker : Option IdText) → told (unless (when (not (marks (λ i. false) marker)) (not_found Project (marker_text marker))) (Told (ManyRows Project [])))
-          ≡ told (unless (when (not (marks (λ i. false) marker)) (not_found Project (marker_text marker))) (Told (ManyRows Project [])))
+      projects : (marker : Option IdText) → answer_alone (unless (when (not (marks (λ i. false) marker)) (not_found Project (marker_text marker))) (Told (ManyRows Project [])))
+          ≡ answer_alone (unless (when (not (marks (λ i. false) marker)) (not_found Project (marker_text marker))) (Told (ManyRows Project [])))
       projects marker = refl
   listed_apart Subnet q = by_kind Subnet q (list_alike subnet_id Subnet caller.admin q (sees_subnet s.rows caller) (sees_subnet t.rows caller) subnet_members subnet_members s.rows.subnets t.rows.subnets
       (λ i. omega (arith, c.numbered.ids i)) (λ i. omega (arith, d.numbered.ids i)) (ap (λ f. f.subnets) same) (λ k r at. refl))

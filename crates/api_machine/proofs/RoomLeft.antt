@@ -39,7 +39,8 @@ use Rattle.api_policy.specs.Seen.{network_seen, policy_seen}
 use Rattle.api_policy.specs.Subnets.{subnet_members}
 use Rattle.api_policy.specs.Uses.{network_in_use, policy_in_use}
 use Rattle.call_parts.specs.BodyNames.{text_of}
-use Rattle.call_parts.specs.Edits.{Drop, accepted, gone_from, put_in}
+use Rattle.call_parts.specs.Edits.{Drop, accepted}
+use Rattle.api_types.specs.WithRows.{gone_from, put_in}
 use Rattle.call_parts.specs.State.{State, drawing_at, is_last}
 use Rattle.plan_networks.specs.NetworkCalls as networks
 use Rattle.plan_policies.specs.PolicyCalls as policies

@@ -23,7 +23,7 @@ use Rattle.api_policy.specs.Shown.{shown_as}
 use Rattle.api_policy.specs.Trees.{null_or}
 use Rattle.api_machine.specs.Footing.{Near, blank, footing, is_near}
 use Rattle.api_types.specs.Given.{are_unlike, is_for_other, owner_of, value_or}
-use Rattle.api_types.specs.Refusing.{at_name, first_refusal, needing, not_found, told, unless, when}
+use Rattle.api_types.specs.Refusing.{at_name, first_refusal, needing, not_found, answer_alone, unless, when}
 use Rattle.call_parts.specs.State.{State, drawing_at, is_last}
 use Rattle.api_types.specs.Consistent.{IsConsistent}
 use Rattle.api_types.specs.Ident.{Ident}
@@ -153,8 +153,8 @@ module _ (settings : SettingsParts) (caller : Caller) (tenant : caller.admin ≡
 
   -- a router without a gateway
   plain_alike : (form : RouterForm) (x y : Drawing) → counts_of x ≡ counts_of y
-      → told (router_added caller x.rows (new_router settings form caller.project (drawn_id x 0)) (new_router settings form caller.project (drawn_id x 0)) [])
-      ≡ told (router_added caller y.rows (new_router settings form caller.project (drawn_id y 0)) (new_router settings form caller.project (drawn_id y 0)) [])
+      → answer_alone (router_added caller x.rows (new_router settings form caller.project (drawn_id x 0)) (new_router settings form caller.project (drawn_id x 0)) [])
+      ≡ answer_alone (router_added caller y.rows (new_router settings form caller.project (drawn_id y 0)) (new_router settings form caller.project (drawn_id y 0)) [])
   plain_alike form x y counts = λ j. Told (NewRow (shown_as RouterKind caller.admin [] (router_printed (new_router settings form caller.project (ident (counts j).0 ((counts j).1 + 0))) null)))
 
   -- the port of a new gateway is the one with its id
@@ -181,7 +181,7 @@ module _ (settings : SettingsParts) (caller : Caller) (tenant : caller.admin ≡
       (gateway_port settings (new_router settings form caller.project (drawn_id z 0)) n (drawn_id z 1) mac fixed) (unwrap_or (snat_asked form) true)
 
   added_printed : (state : State) → IsConsistent state.rows → (form : RouterForm) (n : NetworkRow) (fixed : List Fixed) (mac : ℕ) (z : Drawing) → drawing_at state caller.project 2 ≡ Some z
-      → told (added form n fixed mac z) ≡ outer_printed (new_router settings form caller.project (drawn_id z 0)) n.id (drawn_id z 1) (unwrap_or (snat_asked form) true) fixed
+      → answer_alone (added form n fixed mac z) ≡ outer_printed (new_router settings form caller.project (drawn_id z 0)) n.id (drawn_id z 1) (unwrap_or (snat_asked form) true) fixed
   added_printed state e form n fixed mac z at =
       ap (λ o. Told (NewRow (shown_as RouterKind caller.admin [] (router_printed (with_gateway r n.id (drawn_id z 1) snat) (gateway_printed (record { network = n.id; port = drawn_id z 1; snat = snat }) o)))))
       (ap (λ ps. row_of port_id (drawn_id z 1) (ps ++ p ∷ [])) (sym (keep_all z.rows.ports)) ∙ gateway_found state e 2 (omega arith) z at 1 (omega arith) (λ q. true) p refl)
@@ -195,9 +195,9 @@ module _ (settings : SettingsParts) (caller : Caller) (tenant : caller.admin ≡
       p : PortRow
       p = gateway_port settings r n (drawn_id z 1) mac fixed
 
-  made_alike : (form : RouterForm) → told (router_with settings s caller form caller.project (gateway_network s.rows caller form)) ≡ told (router_with settings t caller form caller.project (gateway_network t.rows caller form))
+  made_alike : (form : RouterForm) → answer_alone (router_with settings s caller form caller.project (gateway_network s.rows caller form)) ≡ answer_alone (router_with settings t caller form caller.project (gateway_network t.rows caller form))
   made_alike form = by_both blank (gateway_network s.rows caller form) (gateway_network t.rows caller form) (networks_alike form)
-      (λ o p. told (router_with settings s caller form caller.project o) ≡ told (router_with settings t caller form caller.project p))
+      (λ o p. answer_alone (router_with settings s caller form caller.project o) ≡ answer_alone (router_with settings t caller form caller.project p))
       (drawn_alike settings caller tenant s t same caller.project refl 1
       (λ drawing. router_added caller drawing.rows (new_router settings form caller.project (drawn_id drawing 0)) (new_router settings form caller.project (drawn_id drawing 0)) [])
       (λ drawing. router_added caller drawing.rows (new_router settings form caller.project (drawn_id drawing 0)) (new_router settings form caller.project (drawn_id drawing 0)) [])
@@ -208,13 +208,13 @@ module _ (settings : SettingsParts) (caller : Caller) (tenant : caller.admin ≡
       (λ fixed mac x y at_x at_y counts. added_printed s c form n fixed mac x at_x
       ∙ ((λ j. outer_printed (new_router settings form caller.project (ident (counts j).0 ((counts j).1 + 0))) (alike j).id (ident (counts j).0 ((counts j).1 + 1)) (unwrap_or (snat_asked form) true) fixed)
       ∙ sym (added_printed t d form m fixed mac y at_y)))
-      ∙ (λ j. told (needing (PoolsSpent (alike j).id) (outer_addresses t.rows m) (λ fixed.
+      ∙ (λ j. answer_alone (needing (PoolsSpent (alike j).id) (outer_addresses t.rows m) (λ fixed.
       needing CountersSpent (free_mac t.rows.ports m.id) (λ mac. needing CountersSpent (drawing_at t caller.project 2) (added form m fixed mac))))))
 
-  pub router_created_apart : (form : RouterForm) → told (router_created settings s caller form) ≡ told (router_created settings t caller form)
+  pub router_created_apart : (form : RouterForm) → answer_alone (router_created settings s caller form) ≡ answer_alone (router_created settings t caller form)
   router_created_apart form = unless_same (creation_refusal settings s.rows caller form owner) (creation_refusal settings t.rows caller form owner)
       (router_with settings s caller form owner (gateway_network s.rows caller form)) (router_with settings t caller form owner (gateway_network t.rows caller form)) refused
-      (λ passes _. subst (λ name. told (router_with settings s caller form name (gateway_network s.rows caller form)) ≡ told (router_with settings t caller form name (gateway_network t.rows caller form)))
+      (λ passes _. subst (λ name. answer_alone (router_with settings s caller form name (gateway_network s.rows caller form)) ≡ answer_alone (router_with settings t caller form name (gateway_network t.rows caller form)))
       (sym (own (none_at (refusals s) passes 3 admin refl))) (made_alike form))
     where
       owner : List ℕ
@@ -329,7 +329,7 @@ module _ (settings : SettingsParts) (caller : Caller) (tenant : caller.admin ≡
         λ j. first_refusal (asked j ∷ routes j ∷ found j ∷ admin_only caller (is_some (snat_asked form)) ∷ owner_only caller r.project ∷ used j ∷ taken j ∷ [])
 
     -- without a new gateway: the one that stays has the port that it had
-    stays_alike : (form : RouterForm) → told (router_replaced caller s.rows r (changed_router form r) (changed_router form r) []) ≡ told (router_replaced caller t.rows r (changed_router form r) (changed_router form r) [])
+    stays_alike : (form : RouterForm) → answer_alone (router_replaced caller s.rows r (changed_router form r) (changed_router form r) []) ≡ answer_alone (router_replaced caller t.rows r (changed_router form r) (changed_router form r) [])
     stays_alike form = ap (λ gateway. Told (OneRow (shown_as RouterKind caller.admin [] (router_printed new gateway)))) (by new.gateway (λ g h. kept_is r.gateway form.external_gateway_info g h))
       where
         new : RouterRow
@@ -352,7 +352,7 @@ module _ (settings : SettingsParts) (caller : Caller) (tenant : caller.admin ≡
     changed_printed form network port fixed = Told (OneRow (shown_as RouterKind caller.admin [] (outer_members (changed_router form r) network port (unwrap_or (snat_asked form) (old_snat r.gateway)) fixed)))
 
     outer_printed_is : (state : State) → IsConsistent state.rows → (form : RouterForm) (n : NetworkRow) (fixed : List Fixed) (mac : ℕ) (z : Drawing) → drawing_at state caller.project 1 ≡ Some z
-        → told (changed_outer form n fixed mac z) ≡ changed_printed form n.id (drawn_id z 0) fixed
+        → answer_alone (changed_outer form n fixed mac z) ≡ changed_printed form n.id (drawn_id z 0) fixed
     outer_printed_is state e form n fixed mac z at =
         ap (λ o. Told (OneRow (shown_as RouterKind caller.admin [] (router_printed (with_gateway new n.id (drawn_id z 0) snat) (gateway_printed (record { network = n.id; port = drawn_id z 0; snat = snat }) o)))))
         (by (lost_gateway r.gateway new.gateway))
@@ -370,10 +370,10 @@ module _ (settings : SettingsParts) (caller : Caller) (tenant : caller.admin ≡
         by None = ap (λ ps. row_of port_id (drawn_id z 0) (ps ++ p ∷ [])) (sym (keep_all z.rows.ports)) ∙ gateway_found state e 1 (omega arith) z at 0 (omega arith) (λ q. true) p refl
         by (Some g) = gateway_found state e 1 (omega arith) z at 0 (omega arith) (λ q. not (ident_eq g.port q.id)) p refl
 
-    moved_alike : (form : RouterForm) (kept : Option Gateway) → told (router_moved settings s caller form r (changed_router form r) (new_gateway (gateway_network s.rows caller form) kept))
-        ≡ told (router_moved settings t caller form r (changed_router form r) (new_gateway (gateway_network t.rows caller form) kept))
+    moved_alike : (form : RouterForm) (kept : Option Gateway) → answer_alone (router_moved settings s caller form r (changed_router form r) (new_gateway (gateway_network s.rows caller form) kept))
+        ≡ answer_alone (router_moved settings t caller form r (changed_router form r) (new_gateway (gateway_network t.rows caller form) kept))
     moved_alike form kept = by_both blank (new_gateway (gateway_network s.rows caller form) kept) (new_gateway (gateway_network t.rows caller form) kept) (new_alike form kept)
-        (λ o p. told (router_moved settings s caller form r (changed_router form r) o) ≡ told (router_moved settings t caller form r (changed_router form r) p))
+        (λ o p. answer_alone (router_moved settings s caller form r (changed_router form r) o) ≡ answer_alone (router_moved settings t caller form r (changed_router form r) p))
         (unless_same (when (is_last s) CountersSpent) (when (is_last t) CountersSpent) (router_replaced caller s.rows r (changed_router form r) (changed_router form r) []) (router_replaced caller t.rows r (changed_router form r) (changed_router form r) [])
         (λ j. when (same j).is_last CountersSpent) (λ _ _. stays_alike form))
         (λ n m found_n found_m alike. let near = new_near form kept n found_n in
@@ -381,10 +381,10 @@ module _ (settings : SettingsParts) (caller : Caller) (tenant : caller.admin ≡
         (free_mac s.rows.ports n.id) (free_mac t.rows.ports m.id) (mac_alike n m near alike) r.project is_mine 1 (changed_outer form n) (changed_outer form m)
         (λ fixed mac x y at_x at_y counts. outer_printed_is s c form n fixed mac x at_x
         ∙ ((λ j. changed_printed form (alike j).id (ident (counts j).0 ((counts j).1 + 0)) fixed) ∙ sym (outer_printed_is t d form m fixed mac y at_y)))
-        ∙ (λ j. told (needing (PoolsSpent (alike j).id) (outer_addresses t.rows m) (λ fixed.
+        ∙ (λ j. answer_alone (needing (PoolsSpent (alike j).id) (outer_addresses t.rows m) (λ fixed.
         needing CountersSpent (free_mac t.rows.ports m.id) (λ mac. needing CountersSpent (drawing_at t r.project 1) (changed_outer form m fixed mac))))))
 
-    changed_alike : (form : RouterForm) → told (router_changed settings s caller form r (changed_router form r)) ≡ told (router_changed settings t caller form r (changed_router form r))
+    changed_alike : (form : RouterForm) → answer_alone (router_changed settings s caller form r (changed_router form r)) ≡ answer_alone (router_changed settings t caller form r (changed_router form r))
     changed_alike form = unless_same (update_refusal s.rows caller form r (changed_router form r)) (update_refusal t.rows caller form r (changed_router form r))
         (router_moved settings s caller form r (changed_router form r) (new_gateway (gateway_network s.rows caller form) (changed_router form r).gateway))
         (router_moved settings t caller form r (changed_router form r) (new_gateway (gateway_network t.rows caller form) (changed_router form r).gateway))
@@ -409,12 +409,12 @@ module _ (settings : SettingsParts) (caller : Caller) (tenant : caller.admin ≡
         served state e i at = sym (find-filter (is_served_for state.rows caller.project) (is_interface_of r) state.rows.ports
             (λ m p at_p of. port_served state.rows caller e i r at own p (and_both (is_interface p.owner) (is_port_of r p) of).1))
 
-  pub router_updated_apart : (name : IdText) (form : RouterForm) → told (router_updated settings s caller name form) ≡ told (router_updated settings t caller name form)
+  pub router_updated_apart : (name : IdText) (form : RouterForm) → answer_alone (router_updated settings s caller name form) ≡ answer_alone (router_updated settings t caller name form)
   router_updated_apart name form = needing_same (not_found RouterKind name.text) (router_seen s.rows caller name.id) (router_seen t.rows caller name.id)
       (λ r. router_changed settings s caller form r (changed_router form r)) (λ r. router_changed settings t caller form r (changed_router form r)) (router_found name.id)
       (λ r found_s found_t. let here = router_here s name.id r found_s in let there = router_here t name.id r found_t in changed_alike here.0 there.0 r here.1 there.1 here.2 form)
 
-  pub router_deleted_apart : (name : IdText) → told (router_deleted s caller name) ≡ told (router_deleted t caller name)
+  pub router_deleted_apart : (name : IdText) → answer_alone (router_deleted s caller name) ≡ answer_alone (router_deleted t caller name)
   router_deleted_apart name = needing_same (not_found RouterKind name.text) (router_seen s.rows caller name.id) (router_seen t.rows caller name.id)
       (λ r. unless (deletion_refusal s caller r) (accepted s.rows (gateway_gone r.gateway ++ Drop RouterKind r.id ∷ []) (λ rows. NoRow)))
       (λ r. unless (deletion_refusal t caller r) (accepted t.rows (gateway_gone r.gateway ++ Drop RouterKind r.id ∷ []) (λ rows. NoRow))) (router_found name.id)

@@ -35,7 +35,8 @@ use Rattle.api_types.proofs.ListLemmas.{any-at, any-none, at_filter, both_and, f
 use Rattle.api_types.proofs.NameLemmas.{by_test, first_fails, ident_itself, ident_same}
 use Rattle.row_laws.proofs.RouterOff.{gateway_itself, set_there, set_twice}
 use Rattle.row_laws.proofs.RouterReplaced.{router_replaced}
-use Rattle.call_parts.specs.Edits.{Edit, Put, made, put_in}
+use Rattle.call_parts.specs.Edits.{Edit, Put, made}
+use Rattle.api_types.specs.WithRows.{put_in}
 use Rattle.api_types.specs.HeldAddresses.{is_address_held, is_mac_held, subnets_on}
 use Rattle.api_ml2.specs.Placement.{host_or_none}
 use Rattle.plan_routers.specs.RouterCalls.{gateway_gone, gateway_port, kept_gateway, lost_gateway}

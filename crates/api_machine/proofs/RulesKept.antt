@@ -22,7 +22,8 @@ use Rattle.api_types.proofs.ListLemmas.{and_both, both_and, any-last, at-any, ea
 use Rattle.row_laws.proofs.RulePushed.{rule_pushed}
 use Rattle.row_laws.proofs.RulesGone.{rules_gone}
 use Rattle.call_parts.specs.BodyNames.{no_id, text_of, unless_all}
-use Rattle.call_parts.specs.Edits.{Drop, accepted, made, with_put, without_row}
+use Rattle.call_parts.specs.Edits.{Drop, accepted, made}
+use Rattle.api_types.specs.WithRows.{with_put, without_row}
 use Rattle.call_parts.specs.InForm.{IsFormed, are_owners}
 use Rattle.api_policy.specs.Permits.{owner_only}
 use Rattle.api_policy.specs.Quotas.{over_quota}
@@ -66,7 +67,7 @@ use Rattle.api_types.specs.declared.refusal.Refusal.TheVariants.{CountersSpent}
 use Rattle.api_types.specs.declared.refusal.UseRule.TheVariants.{SecurityGroupInUse}
 use Rattle.net_addr.proofs.AddrLemmas.{addr_itself, addr_same}
 use Rattle.net_addr.specs.Addresses.{addr_eq}
-use Rattle.net_addr.specs.Prefixes.{Prefix, turned}
+use Rattle.net_addr.specs.Prefixes.{Prefix, with_flipped_bit}
 use Rattle.net_settings.specs.Settings.{SettingsParts}
 use Rattle.std.proofs.lemmas.Bool.Decides.{nat_tests}
 use Rattle.std.specs.Option.{option_eq}

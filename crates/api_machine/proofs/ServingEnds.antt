@@ -25,7 +25,8 @@ use Rattle.row_laws.proofs.SubnetUnleased.{subnet_unleased}
 use Rattle.api_machine.proofs.Disassociated.{AreDisassociated, disassociations_keep}
 use Rattle.api_machine.proofs.EditedRows.{put_at}
 use Rattle.plan_subnets.specs.DhcpUpkeep.{dhcp_port_on, end_serving, giving_back, port_left, unserving}
-use Rattle.call_parts.specs.Edits.{Edit, Put, edited, made, with_put}
+use Rattle.call_parts.specs.Edits.{Edit, Put, edited, made}
+use Rattle.api_types.specs.WithRows.{with_put}
 use Rattle.call_parts.specs.Leaving.{disassociated, disassociations, loses_target}
 use Rattle.api_machine.proofs.OutcomeLemmas.{found_at, unfound}
 use Rattle.call_parts.proofs.EditLemmas.{made-append}

@@ -10,7 +10,7 @@ use Rattle.row_laws.proofs.SubnetPushed.{unheld as unheld_in_new, subnet_pushed}
 use Rattle.std.specs.Str.{bytes_eq}
 use Rattle.net_addr.proofs.AddrLemmas.{addr_itself}
 use Rattle.net_addr.proofs.PrefixLemmas.{number_decides, version_on}
-use Rattle.net_addr.specs.Addresses.{addr_eq, is_v4, number, renumbered, same_version}
+use Rattle.net_addr.specs.Addresses.{addr_eq, is_v4, number, with_number, same_version}
 use Rattle.net_addr.specs.Prefixes.{IsPrefix, Prefix, Span, eui, host_addresses, is_host_of, overlaps}
 use Rattle.net_addr.specs.Spans.{is_within}
 use Rattle.net_addr.specs.declared.address.Addr.{Addr}
@@ -120,7 +120,7 @@ few_without x s = by (is_within s x)
   where
     by : (b : Bool) → nat_le (length ((if b then span s.first (number s.first) (number x - 1) ++ span s.first (number x + 1) (number s.last) else s ∷ []) ++ [])) 20 ≡ true
     by true = few_spans (nat_le (number s.first) (number x - 1)) (nat_le (number x + 1) (number s.last))
-        (record { first = renumbered s.first (number s.first); last = renumbered s.first (number x - 1) }) (record { first = renumbered s.first (number x + 1); last = renumbered s.first (number s.last) })
+        (record { first = with_number s.first (number s.first); last = with_number s.first (number x - 1) }) (record { first = with_number s.first (number x + 1); last = with_number s.first (number s.last) })
     by false = refl
 
 -- the default pools are few

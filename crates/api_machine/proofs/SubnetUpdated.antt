@@ -46,7 +46,8 @@ use Rattle.api_machine.proofs.ServingBegins.{HasPortIds, IsServable, serving_beg
 use Rattle.api_machine.proofs.ServingEnds.{serving_ended}
 use Rattle.api_machine.proofs.SubnetForms.{form_of, parts_of}
 use Rattle.plan_subnets.specs.DhcpUpkeep.{begin_serving, dhcp_address, dhcp_port_on, end_serving, makes_dhcp_port, served_address}
-use Rattle.call_parts.specs.Edits.{Put, accepted, made, put_in}
+use Rattle.call_parts.specs.Edits.{Put, accepted, made}
+use Rattle.api_types.specs.WithRows.{put_in}
 use Rattle.api_types.specs.HeldAddresses.{fixed_at, is_address_held}
 use Rattle.call_parts.specs.InForm.{is_subnet_body, IsFormed}
 use Rattle.api_ipam.specs.MacChoice.{free_mac, mac_if}

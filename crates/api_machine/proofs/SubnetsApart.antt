@@ -22,7 +22,7 @@ use Rattle.api_policy.specs.Shown.{shown_as}
 use Rattle.api_policy.specs.Subnets.{subnet_members}
 use Rattle.api_machine.specs.Footing.{Near, blank, footing, is_near}
 use Rattle.api_types.specs.Given.{value_of}
-use Rattle.api_types.specs.Refusing.{at_name, first_refusal, needing, not_found, told, unless, when}
+use Rattle.api_types.specs.Refusing.{at_name, first_refusal, needing, not_found, answer_alone, unless, when}
 use Rattle.call_parts.specs.State.{State, drawing_at, is_last}
 use Rattle.api_types.specs.Consistent.{IsConsistent}
 use Rattle.api_types.specs.Ident.{Ident}
@@ -91,7 +91,7 @@ module _ (settings : SettingsParts) (caller : Caller) (tenant : caller.admin ≡
       subnet_added settings caller drawing n (new_subnet form n (drawn_id drawing 0)) x mac)))
 
   added_alike : (form : SubnetForm) (n m : NetworkRow) → blank n ≡ blank m → owns_network s.rows caller.project n.id ≡ true → n.project ≡ caller.project
-      → told (added s form n (makes_dhcp_port s.rows.ports n.id (dhcp_asked form))) ≡ told (added t form m (makes_dhcp_port t.rows.ports m.id (dhcp_asked form)))
+      → answer_alone (added s form n (makes_dhcp_port s.rows.ports n.id (dhcp_asked form))) ≡ answer_alone (added t form m (makes_dhcp_port t.rows.ports m.id (dhcp_asked form)))
   added_alike form n m alike owns own =
       let macs = owned_macs n.id owns in let addresses = owned_addresses n.id owns in let dhcp = owned_dhcp n.id owns in
       let makes = makes_same s.rows.ports t.rows.ports n.id macs addresses dhcp (dhcp_asked form) ∙ ap (λ z. makes_dhcp_port t.rows.ports z.id (dhcp_asked form)) alike in
@@ -104,12 +104,12 @@ module _ (settings : SettingsParts) (caller : Caller) (tenant : caller.admin ≡
       (λ x mac drawing. subnet_added settings caller drawing n (new_subnet form n (drawn_id drawing 0)) x mac)
       (λ x mac drawing. subnet_added settings caller drawing m (new_subnet form m (drawn_id drawing 0)) x mac)
       (λ a mac x y at_x at_y counts. λ j. Told (NewRow (shown_as SubnetKind caller.admin [] (subnet_members (new_subnet form (alike j) (ident (counts j).0 ((counts j).1 + 0)))))))
-      ∙ (λ j. told (needing (PoolsSpent (alike j).id) (dhcp_address t.rows.ports m.id (dhcp_asked form) (new_subnet form m no_id)) (λ x.
+      ∙ (λ j. answer_alone (needing (PoolsSpent (alike j).id) (dhcp_address t.rows.ports m.id (dhcp_asked form) (new_subnet form m no_id)) (λ x.
       needing CountersSpent (mac_if (makes_dhcp_port t.rows.ports m.id (dhcp_asked form)) t.rows.ports m.id) (λ mac.
       needing CountersSpent (drawing_at t (alike j).project (if makes j then 2 else 1)) (λ drawing.
       subnet_added settings caller drawing m (new_subnet form m (drawn_id drawing 0)) x mac)))))
 
-  pub subnet_created_apart : (form : SubnetForm) → told (subnet_created settings s caller form) ≡ told (subnet_created settings t caller form)
+  pub subnet_created_apart : (form : SubnetForm) → answer_alone (subnet_created settings s caller form) ≡ answer_alone (subnet_created settings t caller form)
   subnet_created_apart form =
       unless_same (bad_parts form) (bad_parts form) (unless (cidr s) (unless subnet (on s))) (unless (cidr t) (unless subnet (on t))) refl
       (λ _ _. unless_same (cidr s) (cidr t) (unless subnet (on s)) (unless subnet (on t)) cidr_same
@@ -206,7 +206,7 @@ module _ (settings : SettingsParts) (caller : Caller) (tenant : caller.admin ≡
       (λ rows. OneRow (subnet_shown rows caller new [])))))
 
   replaced_alike : (form : SubnetForm) (n m : NetworkRow) (old new : SubnetRow) → n.id ≡ m.id → n.project ≡ caller.project → m.project ≡ caller.project → owns_network s.rows caller.project n.id ≡ true
-      → told (replaced s form n old new (makes_dhcp_port s.rows.ports n.id (new.dhcp && not old.dhcp))) ≡ told (replaced t form m old new (makes_dhcp_port t.rows.ports m.id (new.dhcp && not old.dhcp)))
+      → answer_alone (replaced s form n old new (makes_dhcp_port s.rows.ports n.id (new.dhcp && not old.dhcp))) ≡ answer_alone (replaced t form m old new (makes_dhcp_port t.rows.ports m.id (new.dhcp && not old.dhcp)))
   replaced_alike form n m old new ids own own' owns =
       let macs = owned_macs n.id owns in let addresses = owned_addresses n.id owns in let dhcp = owned_dhcp n.id owns in
       let makes = makes_same s.rows.ports t.rows.ports n.id macs addresses dhcp begins ∙ ap (λ i. makes_dhcp_port t.rows.ports i begins) ids in
@@ -218,7 +218,7 @@ module _ (settings : SettingsParts) (caller : Caller) (tenant : caller.admin ≡
       (λ x mac drawing. accepted drawing.rows (subnet_edits settings drawing.rows n old new (drawn_id drawing 0) mac (fixed_at new.id x)) (λ rows. OneRow (subnet_shown rows caller new [])))
       (λ x mac drawing. accepted drawing.rows (subnet_edits settings drawing.rows m old new (drawn_id drawing 0) mac (fixed_at new.id x)) (λ rows. OneRow (subnet_shown rows caller new [])))
       (λ a mac x y at_x at_y counts. refl)
-      ∙ (λ j. told (needing (PoolsSpent (ids j)) (dhcp_address t.rows.ports m.id begins new) (λ x.
+      ∙ (λ j. answer_alone (needing (PoolsSpent (ids j)) (dhcp_address t.rows.ports m.id begins new) (λ x.
       needing CountersSpent (mac_if (makes_dhcp_port t.rows.ports m.id begins) t.rows.ports m.id) (λ mac.
       needing CountersSpent (drawing_at t ((own ∙ sym own') j) (if makes j then 1 else 0)) (λ drawing.
       accepted drawing.rows (subnet_edits settings drawing.rows m old new (drawn_id drawing 0) mac (fixed_at new.id x)) (λ rows. OneRow (subnet_shown rows caller new [])))))))
@@ -226,7 +226,7 @@ module _ (settings : SettingsParts) (caller : Caller) (tenant : caller.admin ≡
       begins : Bool
       begins = new.dhcp && not old.dhcp
 
-  pub subnet_updated_apart : (name : IdText) (form : SubnetForm) → told (subnet_updated settings s caller name form) ≡ told (subnet_updated settings t caller name form)
+  pub subnet_updated_apart : (name : IdText) (form : SubnetForm) → answer_alone (subnet_updated settings s caller name form) ≡ answer_alone (subnet_updated settings t caller name form)
   subnet_updated_apart name form = needing_same refusal (subnet_seen s.rows caller name.id) (subnet_seen t.rows caller name.id) (on s) (on t) (subnet_found name.id)
       (λ r found_s found_t.
       let here = subnet_here s name.id r found_s in let there = subnet_here t name.id r found_t in
@@ -260,7 +260,7 @@ module _ (settings : SettingsParts) (caller : Caller) (tenant : caller.admin ≡
 
   -- taking a subnet out
 
-  pub subnet_deleted_apart : (name : IdText) → told (subnet_deleted s caller name) ≡ told (subnet_deleted t caller name)
+  pub subnet_deleted_apart : (name : IdText) → answer_alone (subnet_deleted s caller name) ≡ answer_alone (subnet_deleted t caller name)
   subnet_deleted_apart name = needing_same (not_found SubnetKind name.text) (subnet_seen s.rows caller name.id) (subnet_seen t.rows caller name.id)
       (λ r. unless (deletion_refusal s caller r) (accepted s.rows (subnet_gone s.rows r) (λ rows. NoRow))) (λ r. unless (deletion_refusal t caller r) (accepted t.rows (subnet_gone t.rows r) (λ rows. NoRow)))
       (subnet_found name.id)

@@ -23,7 +23,8 @@ use Rattle.api_types.proofs.ListLemmas.{each-filter, each-push}
 use Rattle.api_machine.proofs.FixedFits.{each_append, each_cons, each_map, each_none, each_tail}
 use Rattle.api_machine.proofs.PoolHosts.{free_mac_is}
 use Rattle.plan_subnets.specs.DhcpUpkeep.{begin_serving, dhcp_port_on, end_serving, makes_dhcp_port, new_dhcp_port, port_left, serving, unserving}
-use Rattle.call_parts.specs.Edits.{Add, Drop, Edit, Put, edited, made, put_in, with_added, with_put, without_row}
+use Rattle.call_parts.specs.Edits.{Add, Drop, Edit, Put, edited, made}
+use Rattle.api_types.specs.WithRows.{put_in, with_added, with_put, without_row}
 use Rattle.call_parts.specs.Leaving.{disassociated, disassociations, loses_target}
 use Rattle.api_ipam.specs.MacChoice.{mac_if}
 use Rattle.api_machine.specs.Kept.{HostsCarry}

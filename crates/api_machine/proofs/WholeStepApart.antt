@@ -2,7 +2,7 @@
 use Rattle.std.proofs.Common.{◌≡◌, true, false, not, refl}
 use Rattle.api_machine.specs.WholeStep.{api_step, row_created, row_deleted, row_updated}
 use Rattle.api_machine.specs.Footing.{footing}
-use Rattle.api_types.specs.Refusing.{told}
+use Rattle.api_types.specs.Refusing.{answer_alone}
 use Rattle.call_parts.specs.State.{State}
 use Rattle.api_types.specs.Consistent.{IsConsistent}
 use Rattle.api_types.specs.Lists.{is_empty}
@@ -26,7 +26,7 @@ use Rattle.api_machine.proofs.RouterCallsApart.{router_created_apart, router_del
 use Rattle.api_machine.proofs.SubnetsApart.{subnet_created_apart, subnet_deleted_apart, subnet_updated_apart}
 
 module _ (settings : SettingsParts) (caller : Caller) (s t : State) (tenant : caller.admin ≡ false) (named : not (is_empty caller.project) ≡ true) (c : IsConsistent s.rows) (d : IsConsistent t.rows) (same : footing settings s caller ≡ footing settings t caller) where
-  created_apart : (form : Form) → told (row_created settings s caller form) ≡ told (row_created settings t caller form)
+  created_apart : (form : Form) → answer_alone (row_created settings s caller form) ≡ answer_alone (row_created settings t caller form)
   created_apart (NetworkOf form) = network_created_apart settings caller tenant named s t c d same form
   created_apart (SubnetOf form) = subnet_created_apart settings caller tenant s t c d same form
   created_apart (PortOf form) = port_created_apart settings caller tenant s t c d same named form
@@ -36,7 +36,7 @@ module _ (settings : SettingsParts) (caller : Caller) (s t : State) (tenant : ca
   created_apart (FloatingOf form) = floating_created_apart settings caller tenant s t c d same form
   created_apart (PolicyOf form) = policy_created_apart settings caller tenant s t c d same form
 
-  updated_apart : (name : IdText) (form : Form) → told (row_updated settings s caller name form) ≡ told (row_updated settings t caller name form)
+  updated_apart : (name : IdText) (form : Form) → answer_alone (row_updated settings s caller name form) ≡ answer_alone (row_updated settings t caller name form)
   updated_apart name (NetworkOf form) = network_updated_apart settings caller tenant named s t c d same name form
   updated_apart name (SubnetOf form) = subnet_updated_apart settings caller tenant s t c d same name form
   updated_apart name (PortOf form) = port_updated_apart settings caller tenant s t c d same name form
@@ -46,7 +46,7 @@ module _ (settings : SettingsParts) (caller : Caller) (s t : State) (tenant : ca
   updated_apart name (FloatingOf form) = floating_updated_apart settings caller tenant s t c d same name form
   updated_apart name (PolicyOf form) = policy_updated_apart settings caller tenant s t c d same name form
 
-  deleted_apart : (kind : Kind) (name : IdText) → told (row_deleted s caller kind name) ≡ told (row_deleted t caller kind name)
+  deleted_apart : (kind : Kind) (name : IdText) → answer_alone (row_deleted s caller kind name) ≡ answer_alone (row_deleted t caller kind name)
   deleted_apart Project name = refl
   deleted_apart Network name = network_deleted_apart settings caller tenant named s t c d same name
   deleted_apart Subnet name = subnet_deleted_apart settings caller tenant s t c d same name
@@ -57,7 +57,7 @@ module _ (settings : SettingsParts) (caller : Caller) (s t : State) (tenant : ca
   deleted_apart Floating name = floating_deleted_apart settings caller tenant s t c d same name
   deleted_apart Policy name = policy_deleted_apart settings caller tenant s t c d same name
 
-  pub step_apart : (call : Call) → told (api_step settings s caller call) ≡ told (api_step settings t caller call)
+  pub step_apart : (call : Call) → answer_alone (api_step settings s caller call) ≡ answer_alone (api_step settings t caller call)
   step_apart (ListCall kind query) = listed_apart settings caller tenant s t c d same kind query
   step_apart (Show kind name fields) = shown_apart settings caller tenant s t c d same kind name fields
   step_apart (Create form) = created_apart form

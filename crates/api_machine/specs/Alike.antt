@@ -3,7 +3,7 @@ use Rattle.std.specs.Prelude.{◌≡◌, false, not, true}
 use Rattle.api_types.specs.Consistent.{IsConsistent}
 use Rattle.api_types.specs.Lists.{is_empty}
 use Rattle.api_types.specs.Outcome.{Outcome}
-use Rattle.api_types.specs.Refusing.{told}
+use Rattle.api_types.specs.Refusing.{answer_alone}
 use Rattle.api_types.specs.declared.call.Call.{Call}
 use Rattle.api_types.specs.declared.call.Caller.{Caller}
 use Rattle.net_settings.specs.Settings.{SettingsParts}
@@ -21,4 +21,4 @@ KeepsApart footing_of step =
     (caller : Caller) (s t : State)
     → caller.admin ≡ false → not (is_empty caller.project) ≡ true → IsConsistent s.rows → IsConsistent t.rows
     → footing_of s caller ≡ footing_of t caller
-    → (call : Call) → told (step s caller call) ≡ told (step t caller call)
+    → (call : Call) → answer_alone (step s caller call) ≡ answer_alone (step t caller call)

@@ -3,7 +3,7 @@ ghost use Rattle.std.specs.Prelude.{◌≡◌, ◌+◌, ◌-◌, ◌^◌, ◌<�
 ghost use Rattle.api_types.specs.Consistent.{IsConsistent};
 ghost use Rattle.api_types.specs.Outcome.{Told};
 ghost use Rattle.api_types.specs.Printed.{reply_of};
-ghost use Rattle.api_types.specs.Refusing.{told};
+ghost use Rattle.api_types.specs.Refusing.{answer_alone};
 ghost use Rattle.api_types.specs.Rows.{Fits, after};
 ghost use Rattle.api_check.specs.FirstBroken.{first_broken_of};
 ghost use Rattle.net_settings.specs.Rules.{MeetsRules};
@@ -132,12 +132,12 @@ impl Machine {
         ensures answer_apart { (other : State)
             → AreAlike self.now.settings caller.now (state_of self.now) other
             → IfOk result
-            (λ p. told (api_step self.now.settings other caller.now call.now)
+            (λ p. answer_alone (api_step self.now.settings other caller.now call.now)
             ≡ Told (reply_of p.answer)) }
         ensures refusal_apart { (other : State)
             → AreAlike self.now.settings caller.now (state_of self.now) other
             → IfErr result
-            (IsRefusalOf (told (api_step self.now.settings other caller.now call.now))) }
+            (IsRefusalOf (answer_alone (api_step self.now.settings other caller.now call.now))) }
     {
         let rows = self.rows();
         plan_call(alloc, self.settings(), rows, self.version(), caller, call)

@@ -14,7 +14,6 @@ pub fn is_on(host: &Host, physical: &Text) -> bool
     ensures { result ≡ list_any (bytes_eq physical.now) host.now.physical }
 {
     host.physical
-        .as_slice()
         .iter()
         .any(|other| physical == other)
 }

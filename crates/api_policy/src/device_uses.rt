@@ -9,10 +9,7 @@ ghost use Rattle.api_policy.specs.Uses.{named_by_device as named_by, port_in_use
 
 use crate::empty::is_empty;
 use crate::told::told_user;
-use api_types::{
-    Caller, FloatingRow, Id, Kind, PortRow, Refusal, RouterRow, Rows, Shared, UseRule, device_is,
-    is_service,
-};
+use api_types::{Caller, FloatingRow, Id, Kind, PortRow, Refusal, RouterRow, Rows, Shared, UseRule};
 use net_addr::Text;
 
 fn router_named<'r>(
@@ -21,7 +18,7 @@ fn router_named<'r>(
 ) -> Option<&'r Shared<RouterRow>>
     ensures { option_copied result ≡ find (λ (r : TheRouter). names_id device.now r.id) routers.now }
 {
-    routers.iter().find(|router| device_is(device, router.id))
+    routers.iter().find(|router| router.id.is_printed(device))
 }
 
 fn floating_named<'r>(
@@ -33,7 +30,7 @@ fn floating_named<'r>(
 {
     floatings
         .iter()
-        .find(|floating| device_is(device, floating.id))
+        .find(|floating| floating.id.is_printed(device))
 }
 
 /// The router, or else the floating address, that a device names. Its cost grows with the routers
@@ -60,7 +57,7 @@ pub fn service_in_use(
 ) -> Result<(), Refusal>
     ensures { IsAnswerOf (service_in_use_of rows.now caller.now touched port.now) result }
 {
-    if !(touched && is_service(&port.owner)) {
+    if !(touched && port.is_service()) {
         return Ok(());
     }
     Err(Refusal::InUse {
@@ -78,7 +75,7 @@ fn service_told(rows: &Rows, caller: &Caller, port: &PortRow) -> Option<(Kind, I
         then told_user_of rows.now caller.now (named_by rows.now port.now.device)
         else None) }
 {
-    if is_service(&port.owner) {
+    if port.is_service() {
         told_user(rows, caller, named_by_device(rows, &port.device))
     } else {
         None
@@ -95,7 +92,7 @@ pub fn port_in_use(
 ) -> Result<(), Refusal>
     ensures { IsAnswerOf (port_in_use_of rows.now caller.now router.now port.now) result }
 {
-    if !(is_service(&port.owner) || !is_empty(&port.device)) {
+    if !(port.is_service() || !is_empty(&port.device)) {
         return Ok(());
     }
     Err(Refusal::InUse {

@@ -3,7 +3,7 @@
 ghost use Rattle.std.specs.Prelude.{◌≡◌};
 ghost use Rattle.api_policy.specs.Marked.{is_marked as marked, may_use as may_be_on};
 
-use api_types::{Caller, NetworkRow, Rows, is_shared_with};
+use api_types::{Caller, NetworkRow, Rows};
 use net_addr::Text;
 
 /// Whether a project may have ports on the network: it is its own, or is shared with it. Its cost
@@ -11,7 +11,7 @@ use net_addr::Text;
 pub fn may_use(rows: &Rows, project: &Text, network: &NetworkRow) -> bool
     ensures { result ≡ may_be_on rows.now project.now network.now }
 {
-    network.project == *project || is_shared_with(rows, network.id, project)
+    network.project == *project || rows.is_shared_with(network.id, project)
 }
 
 /// Whether a port of the project that the caller makes on the network is marked: the caller is an

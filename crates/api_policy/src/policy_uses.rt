@@ -16,8 +16,8 @@ use crate::empty::is_empty;
 use crate::standing::{Standing, is_granted, permits_all};
 use crate::told::{unless_used, used_by_port};
 use api_types::{
-    Action, Caller, FloatingRow, Id, Kind, NetworkRow, PolicyRow, PortRow, Refusal, RouterRow,
-    Rows, Shared, UseRule, is_port_of,
+    Action, Caller, FloatingRow, Id, Kind, NetworkRow, PolicyRow, PortRow, Refusal, RouterRow, Rows,
+    Shared, UseRule,
 };
 use net_addr::Text;
 
@@ -25,7 +25,7 @@ fn router_of<'r>(routers: &'r [Shared<RouterRow>], port: &PortRow) -> Option<&'r
     ensures { option_copied result
         ≡ find (λ (r : TheRouter). is_port_of_router r port.now) routers.now }
 {
-    routers.iter().find(|router| is_port_of(router, port))
+    routers.iter().find(|router| port.is_of(router))
 }
 
 fn floating_of<'r>(

@@ -12,7 +12,6 @@ ghost use Rattle.api_policy.specs.Uses.{default_in_use as default_in_use_of, gat
 use crate::told::unless_used;
 use api_types::{
     Caller, GroupRow, Id, Kind, PortRow, Refusal, RouterRow, Rows, Shared, SubnetRow, UseRule,
-    holds_in, is_dhcp, is_interface, is_port_of, names_group,
 };
 use net_addr::Addr;
 
@@ -21,7 +20,7 @@ fn network_user(ports: &[Shared<PortRow>], network: Id) -> Option<&Shared<PortRo
 {
     ports
         .iter()
-        .find(|port| network == port.network && !is_dhcp(&port.owner))
+        .find(|port| network == port.network && !port.is_dhcp())
 }
 
 /// Refuses a network that a port other than its DHCP port is on. Its cost grows with the ports.
@@ -44,7 +43,7 @@ fn subnet_user(ports: &[Shared<PortRow>], subnet: Id) -> Option<&Shared<PortRow>
 {
     ports
         .iter()
-        .find(|port| !is_dhcp(&port.owner) && holds_in(subnet, port))
+        .find(|port| !port.is_dhcp() && port.holds_in(subnet))
 }
 
 /// Refuses a subnet of which a port other than the DHCP port has an address. Its cost grows with
@@ -68,13 +67,13 @@ fn holds_address(port: &PortRow, subnet: Id, address: &Addr) -> bool
         ≡ list_any (λ (f : TheFixed). ident_eq subnet f.subnet && addr_eq f.address address.now)
         port.now.fixed }
 {
-    port.fixed.as_slice().iter().any(|fixed| subnet == fixed.subnet && fixed.address == *address)
+    port.fixed.iter().any(|fixed| subnet == fixed.subnet && fixed.address == *address)
 }
 
 fn holds_gateway(subnet: &SubnetRow, gateway: &Addr, port: &PortRow) -> bool
     ensures { result ≡ gateway_held subnet.now gateway.now port.now }
 {
-    is_interface(&port.owner) && holds_address(port, subnet.id, gateway)
+    port.is_interface() && holds_address(port, subnet.id, gateway)
 }
 
 fn gateway_holder<'r>(
@@ -156,7 +155,7 @@ pub fn default_in_use(group: &GroupRow) -> Result<(), Refusal>
 fn group_user(ports: &[Shared<PortRow>], group: Id) -> Option<&Shared<PortRow>>
     ensures { option_copied result ≡ find (uses_group group) ports.now }
 {
-    ports.iter().find(|port| names_group(port, group))
+    ports.iter().find(|port| port.names_group(group))
 }
 
 /// Refuses a group that a port names. Its cost grows with the ports and their groups.
@@ -177,7 +176,7 @@ pub fn group_in_use(rows: &Rows, caller: &Caller, group: Id) -> Result<(), Refus
 fn interface_on<'r>(ports: &'r [Shared<PortRow>], router: &RouterRow) -> Option<&'r Shared<PortRow>>
     ensures { option_copied result ≡ find (interface_of router.now) ports.now }
 {
-    ports.iter().find(|port| is_interface(&port.owner) && is_port_of(router, port))
+    ports.iter().find(|port| port.is_interface() && port.is_of(router))
 }
 
 /// Refuses a router that has an interface. Its cost grows with the ports.

@@ -11,7 +11,7 @@ ghost use Rattle.api_policy.specs.Uses.{floating_in_use as floating_in_use_of, g
 use crate::told::told_user;
 use api_types::{
     Caller, FloatingRow, Gateway, Hop, Id, Kind, PortRow, Refusal, RouterRow, Rows, Shared,
-    SubnetRow, UseRule, is_port_of, reaches,
+    SubnetRow, UseRule,
 };
 use net_addr::Addr;
 
@@ -28,7 +28,7 @@ fn is_reached(
         (other_ports but (router_ports ports.now router.now)) }
 {
     for port in ports {
-        if is_port_of(router, port) && but != port.id && reaches(subnets, address, port) {
+        if port.is_of(router) && but != port.id && port.reaches(subnets, address) {
             return true;
         }
     }
@@ -47,7 +47,7 @@ fn is_lost_hop(
         ≡ lost_hop subnets.now (other_ports port.now.id (router_ports ports.now router.now))
         port.now hop.now }
 {
-    reaches(subnets, &hop.next, port) && !is_reached(subnets, ports, router, port.id, &hop.next)
+    port.reaches(subnets, &hop.next) && !is_reached(subnets, ports, router, port.id, &hop.next)
 }
 
 /// Whether the port's going leaves the next hop of one of these routes unreached. Its cost grows
@@ -141,7 +141,7 @@ fn leads_through(
     match &floating.target {
         Some(target) => {
             let address = Addr::V4(target.fixed);
-            router == target.router && reaches(subnets, &address, port)
+            router == target.router && port.reaches(subnets, &address)
         }
         None => false,
     }

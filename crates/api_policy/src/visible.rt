@@ -5,8 +5,8 @@ ghost use Rattle.api_types.specs.declared.call.Caller.{Caller as TheCaller};
 ghost use Rattle.api_policy.specs.Visibility.{is_own as is_own_of, owns_network as owns_network_of, uses_network as uses_network_of, sees_network, sees_subnet, sees_port, sees_row};
 
 use api_types::{
-    Caller, FloatingRow, GroupRow, Id, Keyed, Kind, NetworkRow, PolicyRow, PortRow, RouterRow,
-    Rows, RuleRow, SubnetRow, Table, is_external_to, is_shared_with,
+    Caller, FloatingRow, GroupRow, Id, Keyed, Kind, NetworkRow, PolicyRow, PortRow, RouterRow, Rows,
+    RuleRow, SubnetRow, Table,
 };
 use net_addr::Text;
 
@@ -46,7 +46,7 @@ pub(crate) fn uses_network(rows: &Rows, project: &Text, network: Id) -> bool
     let _own_ids = networks.rows();
     match networks.get(network) {
         Some(network) => {
-            network.project == *project || is_shared_with(rows, network.id, project)
+            network.project == *project || rows.is_shared_with(network.id, project)
         }
         None => false,
     }
@@ -57,8 +57,8 @@ impl Visible for NetworkRow {
 
     fn is_seen(&self, rows: &Rows, caller: &Caller) -> bool {
         is_own(caller, &self.project)
-            || is_shared_with(rows, self.id, &caller.project)
-            || is_external_to(rows, self.id, &caller.project)
+            || rows.is_shared_with(self.id, &caller.project)
+            || rows.is_external_to(self.id, &caller.project)
     }
 }
 

@@ -1,7 +1,7 @@
 ghost use Rattle.std.specs.Prelude.{◌≡◌};
 ghost use Rattle.api_types.specs.Members.{gives_member as gives_member_to, in_pairs as in_pairs_of, is_member as is_member_of};
 
-use api_types::{Id, Pair, PortRow, Rows, holds, names_group};
+use api_types::{Id, Pair, PortRow, Rows};
 use net_addr::Addr;
 
 fn in_pairs(pairs: &[Pair], address: &Addr) -> bool
@@ -14,7 +14,7 @@ fn in_pairs(pairs: &[Pair], address: &Addr) -> bool
 fn gives_member(port: &PortRow, group: Id, address: &Addr) -> bool
     ensures { result ≡ gives_member_to group address.now port.now }
 {
-    names_group(port, group) && (holds(port, address) || in_pairs(port.pairs.as_slice(), address))
+    port.names_group(group) && (port.holds(address) || in_pairs(port.pairs.as_slice(), address))
 }
 
 /// Whether a port that names the group holds the address as a fixed one, or has an allowed pair

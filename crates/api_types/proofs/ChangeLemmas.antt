@@ -4,7 +4,7 @@ use Rattle.std.proofs.Math.Seq.{take-suc}
 use Rattle.api_types.specs.Ident.{Ident}
 use Rattle.api_types.specs.Table.{HaveOwnIds}
 use Rattle.api_types.specs.Parts.{project_of, network_of, subnet_of, port_of, group_of, rule_of, router_of, floating_of, policy_of}
-use Rattle.api_types.specs.Edits.{edited, unedited, FitsTable}
+use Rattle.api_types.specs.Edits.{list_after, list_before, FitsTable}
 use Rattle.api_types.specs.RowLists.{RowLists}
 use Rattle.api_types.specs.Rows.{project_id, after, before, after_item, before_item, after_of_kind, before_of_kind, Fits, FitsItem, FitsOfKind, AreTables, CameOfKind, CameByItem, CameBy}
 use Rattle.api_types.specs.declared.change.Item.{Item}
@@ -41,7 +41,7 @@ pub Fits-append : (rows : RowLists) (items more : List Item) → Fits rows items
 Fits-append rows [] more fits rest = rest
 Fits-append rows (x ∷ items) more fits rest = (fits.0, Fits-append (after_item rows x) items more fits.1 rest)
 
-table_undone : {R : Type 0} (part : Row → Option R) (id_of : R → Ident) (rows : List R) (item : Item) → FitsTable part id_of rows item → unedited part (edited part rows item) item ≡ rows
+table_undone : {R : Type 0} (part : Row → Option R) (id_of : R → Ident) (rows : List R) (item : Item) → FitsTable part id_of rows item → list_before part (list_after part rows item) item ≡ rows
 table_undone part id_of rows item fits = undone id_of rows item.place (option_and_then part item.before) (option_and_then part item.after) fits.2
 
 kind_undone : (k : Kind) (rows : RowLists) (item : Item) → FitsOfKind k rows item → before_of_kind k (after_of_kind k rows item) item ≡ rows
@@ -64,7 +64,7 @@ pub change_undone : (rows : RowLists) (items : List Item) → Fits rows items �
 change_undone rows [] fits = refl
 change_undone rows (x ∷ items) fits = ap (λ r. before_item r x) (change_undone (after_item rows x) items fits.1) ∙ item_undone rows x fits.0
 
-table_still : {R : Type 0} (part : Row → Option R) (id_of : R → Ident) (rows : List R) (item : Item) → HaveOwnIds id_of rows → FitsTable part id_of rows item → HaveOwnIds id_of (edited part rows item)
+table_still : {R : Type 0} (part : Row → Option R) (id_of : R → Ident) (rows : List R) (item : Item) → HaveOwnIds id_of rows → FitsTable part id_of rows item → HaveOwnIds id_of (list_after part rows item)
 table_still part id_of rows item own fits = own_still id_of rows item.place (option_and_then part item.before) (option_and_then part item.after) own fits.2
 
 tables_of_kind : (k : Kind) (rows : RowLists) (item : Item) → AreTables rows → FitsOfKind k rows item → AreTables (after_of_kind k rows item)

@@ -4,7 +4,7 @@ use Rattle.std.specs.Prelude.{option_and_then, is_some}
 use Rattle.std.specs.List.{IsDistinct, AllByRecursion}
 use Rattle.api_types.specs.Ident.{Ident}
 use Rattle.api_types.specs.Table.{row_of, ident_eq, HaveOwnIds}
-use Rattle.api_types.specs.Edits.{edited_at, unedited_at, FitsAt, CameFrom}
+use Rattle.api_types.specs.Edits.{list_after_at, list_before_at, FitsAt, CameFrom}
 use Rattle.api_types.specs.declared.kind.Row.{Row}
 use Rattle.api_types.specs.declared.change.Item.{Item}
 use Rattle.api_types.proofs.TableLemmas.{ident_eq-sym, differs}
@@ -31,7 +31,7 @@ module _ {R : Type 0} where
 
 module _ {R : Type 0} (id_of : R → Ident) where
   -- an item that is taken back leaves the rows as they were
-  pub undone : (rows : List R) (place : ℕ) (before after : Option R) → FitsAt id_of rows place before after → unedited_at (edited_at rows place before after) place before after ≡ rows
+  pub undone : (rows : List R) (place : ℕ) (before after : Option R) → FitsAt id_of rows place before after → list_before_at (list_after_at rows place before after) place before after ≡ rows
   undone rows place None None fits = absurd fits
   undone rows place None (Some row) fits = removed_last rows row place fits.0
   undone rows place (Some old) None fits = back_in rows place old fits
@@ -87,7 +87,7 @@ module _ {R : Type 0} (id_of : R → Ident) where
   ids-set (x ∷ rows) (suc place) old row at same = ap (λ l. id_of x ∷ l) (ids-set rows place old row at same)
 
   -- an item that fits leaves each row an id of its own
-  pub own_still : (rows : List R) (place : ℕ) (before after : Option R) → HaveOwnIds id_of rows → FitsAt id_of rows place before after → HaveOwnIds id_of (edited_at rows place before after)
+  pub own_still : (rows : List R) (place : ℕ) (before after : Option R) → HaveOwnIds id_of rows → FitsAt id_of rows place before after → HaveOwnIds id_of (list_after_at rows place before after)
   own_still rows place None None own fits = absurd fits
   own_still rows place None (Some row) own fits = own-push rows row own fits.1
   own_still rows place (Some old) None own fits = own-removed rows place own
@@ -102,7 +102,7 @@ new_again {R} part id_of now item row came old gone = by (option_and_then part i
     none_left None e = refl
     none_left (Some x) e = cc
 
-    by : (b a : Option R) → b ≡ Some row → a ≡ None → FitsAt id_of came.rows item.place b a → now ≡ edited_at came.rows item.place b a → row_of id_of (id_of row) now ≡ None
+    by : (b a : Option R) → b ≡ Some row → a ≡ None → FitsAt id_of came.rows item.place b a → now ≡ list_after_at came.rows item.place b a → row_of id_of (id_of row) now ≡ None
     by None a e f fits is = cc
     by (Some x) (Some y) e f fits is = cc
     by (Some x) None e f fits is = ap (row_of id_of (id_of row)) is ∙ absent_removed id_of came.rows item.place row came.own_ids (fits ∙ e)

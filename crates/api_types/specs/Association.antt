@@ -14,6 +14,7 @@ use Rattle.api_types.specs.declared.router.Gateway.{Gateway}
 use Rattle.api_types.specs.declared.router.RouterRow.{RouterRow}
 use Rattle.net_addr.specs.Addresses.{is_four, is_v4, number}
 use Rattle.std.specs.Prelude.{Bool, List, None, Option, Some, [], bytes_eq, filter, find, option_map, ℕ, ◌&&◌, ◌∷◌}
+use Rattle.net_addr.specs.Words.{Text}
 
 -- a port and one of its addresses of version 4
 pub record Aim : Type 0 where
@@ -34,18 +35,18 @@ abbrev pub aim_at : Option ℕ → PortRow → Option Aim
 aim_at address p = option_map (λ f. record { port = p; fixed = f }) (fixed_for address p.fixed)
 
 -- the first router of the project with an interface on the subnet and its gateway on the network
-abbrev pub joins_to : RowLists → List ℕ → Ident → Ident → RouterRow → Bool
+abbrev pub joins_to : RowLists → Text → Ident → Ident → RouterRow → Bool
 joins_to rows project network subnet r =
     bytes_eq r.project project && is_some_so (λ (g : Gateway). ident_eq network g.network) r.gateway && has_interface rows.ports r.id subnet
 
-abbrev pub router_for : RowLists → List ℕ → Ident → Ident → Option RouterRow
+abbrev pub router_for : RowLists → Text → Ident → Ident → Option RouterRow
 router_for rows project network subnet = find (joins_to rows project network subnet) rows.routers
 
 abbrev pub target_by : Aim → RouterRow → Target
 target_by aim r = record { port = aim.port.id; fixed = number aim.fixed.address; router = r.id }
 
 -- goes on with the target, where there is an aim, and is refused where no router joins its subnet to the network
-abbrev pub with_target : RowLists → List ℕ → Ident → Option Aim → (Option Target → Outcome) → Outcome
+abbrev pub with_target : RowLists → Text → Ident → Option Aim → (Option Target → Outcome) → Outcome
 with_target rows project network None rest = rest None
 with_target rows project network (Some aim) rest =
     needing (NoGateway network aim.fixed.subnet) (router_for rows project network aim.fixed.subnet) (λ r. rest (Some (target_by aim r)))

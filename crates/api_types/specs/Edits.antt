@@ -7,16 +7,16 @@ use Rattle.api_types.specs.declared.change.Item.{Item}
 
 module _ {R : Type 0} where
   -- the rows after the one at a place went from `before` to `after`: a new row is last, and where one is taken out the rest closes up
-  abbrev pub edited_at : List R → ℕ → Option R → Option R → List R
-  edited_at rows place before None = remove rows place
-  edited_at rows place None (Some row) = rows ++ row ∷ []
-  edited_at rows place (Some old) (Some row) = slice_set rows place row
+  abbrev pub list_after_at : List R → ℕ → Option R → Option R → List R
+  list_after_at rows place before None = remove rows place
+  list_after_at rows place None (Some row) = rows ++ row ∷ []
+  list_after_at rows place (Some old) (Some row) = slice_set rows place row
 
   -- the rows with that taken back: a row that was taken out stands at its old place again
-  abbrev pub unedited_at : List R → ℕ → Option R → Option R → List R
-  unedited_at rows place None after = remove rows place
-  unedited_at rows place (Some old) None = insert rows place old
-  unedited_at rows place (Some old) (Some row) = slice_set rows place old
+  abbrev pub list_before_at : List R → ℕ → Option R → Option R → List R
+  list_before_at rows place None after = remove rows place
+  list_before_at rows place (Some old) None = insert rows place old
+  list_before_at rows place (Some old) (Some row) = slice_set rows place old
 
   -- `before` is the row at the place, or is none and the place is the list's end; `after` keeps its id, or has a new one
   abbrev pub FitsAt : (R → Ident) → List R → ℕ → Option R → Option R → Type 0
@@ -29,11 +29,11 @@ module _ {R : Type 0} where
   abbrev pub IsOfKind : (Row → Option R) → Option Row → Type 0
   IsOfKind part o = MatchOption o ⊤ (λ row. IsSome (part row))
 
-  abbrev pub edited : (Row → Option R) → List R → Item → List R
-  edited part rows item = edited_at rows item.place (option_and_then part item.before) (option_and_then part item.after)
+  abbrev pub list_after : (Row → Option R) → List R → Item → List R
+  list_after part rows item = list_after_at rows item.place (option_and_then part item.before) (option_and_then part item.after)
 
-  abbrev pub unedited : (Row → Option R) → List R → Item → List R
-  unedited part rows item = unedited_at rows item.place (option_and_then part item.before) (option_and_then part item.after)
+  abbrev pub list_before : (Row → Option R) → List R → Item → List R
+  list_before part rows item = list_before_at rows item.place (option_and_then part item.before) (option_and_then part item.after)
 
   abbrev pub FitsTable : (Row → Option R) → (R → Ident) → List R → Item → Type 0
   FitsTable part id_of rows item =
@@ -45,4 +45,4 @@ pub record CameFrom {R : Type 0} (part : Row → Option R) (id_of : R → Ident)
   pub rows : List R
   pub own_ids : HaveOwnIds id_of rows
   pub fits : FitsTable part id_of rows item
-  pub now_is : now ≡ edited part rows item
+  pub now_is : now ≡ list_after part rows item

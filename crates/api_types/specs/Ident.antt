@@ -1,6 +1,7 @@
 -- What an id is, and how it is laid out as a UUID of version 8 and variant 10 (RFC 9562, section 5.8).
-use Rattle.std.specs.Prelude.{◌≡◌, ℕ, ◌+◌, ◌*◌, ◌^◌, ◌<◌, ◌≤◌, List, Some}
+use Rattle.std.specs.Prelude.{◌≡◌, ℕ, ◌+◌, ◌*◌, ◌^◌, ◌<◌, ◌≤◌, Some}
 use Rattle.std.specs.Int.{w128, to_be_bytes}
+use Rattle.net_addr.specs.Words.{Bytes, Text}
 use Rattle.uuid.specs.Text.{hyphenated_text, lower, parsed_hyphenated}
 
 -- the ordinal of the project that the id was drawn for, and as which of that project's ids
@@ -13,11 +14,11 @@ unfoldable pub uuid_number : Ident → ℕ
 uuid_number i = (i.ordinal * 2 ^ 32 + 8 * 2 ^ 12) * 2 ^ 64 + (2 * 2 ^ 62 + i.count)
 
 -- the sixteen bytes
-unfoldable pub uuid_bytes : Ident → List ℕ
+unfoldable pub uuid_bytes : Ident → Bytes
 uuid_bytes i = to_be_bytes w128 (uuid_number i)
 
 -- the printed form, in lower case with hyphens
-unfoldable pub ident_text : Ident → List ℕ
+unfoldable pub ident_text : Ident → Text
 ident_text i = hyphenated_text lower (uuid_bytes i)
 
 -- an id that a project can have drawn: ordinals have 32 bits, counts 62, and both begin at 1
@@ -28,6 +29,6 @@ pub record IsDrawable (i : Ident) : Type 0 where
   pub last_count : i.count < 2 ^ 62
 
 -- a text is the hyphenated form of an id, in either case
-pub record Spells (text : List ℕ) (i : Ident) : Type 0 where
+pub record Spells (text : Text) (i : Ident) : Type 0 where
   pub drawable : IsDrawable i
   pub form : parsed_hyphenated text ≡ Some (uuid_bytes i)

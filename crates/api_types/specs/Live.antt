@@ -1,7 +1,8 @@
 -- Which ports are live, and which of them hear each other (Neutron's ML2 guide: a port is wired where it is bound and both it and
 -- its network are administratively up; frames of a local network stay on their host).
-use Rattle.std.specs.Prelude.{ℕ, not, ◌&&◌, ◌||◌, Bool, true, false, List, Option, Some, None, if◌then◌else◌}
+use Rattle.std.specs.Prelude.{not, ◌&&◌, ◌||◌, Bool, true, false, Option, Some, None, if◌then◌else◌}
 use Rattle.std.specs.Str.{bytes_eq}
+use Rattle.net_addr.specs.Words.{Text}
 use Rattle.api_types.specs.Consistent.Carried.{is_bound}
 use Rattle.api_types.specs.Ident.{Ident}
 use Rattle.api_types.specs.RowLists.{RowLists}
@@ -36,21 +37,21 @@ is_local (Vlan p t) = false
 is_local (Vxlan n) = false
 
 -- two ports of a network are joined, unless it is local and their hosts differ
-abbrev pub joins : Segment → List ℕ → List ℕ → Bool
+abbrev pub joins : Segment → Text → Text → Bool
 joins segment a b = not (is_local segment) || bytes_eq a b
 
 -- a port is joined with a host by the same rule
-abbrev pub is_joined : RowLists → PortRow → List ℕ → Bool
+abbrev pub is_joined : RowLists → PortRow → Text → Bool
 is_joined rows q host = joins (segment rows q.network) q.host host
 
 -- of what was found, what is joined with the host
-abbrev pub joined_with : RowLists → List ℕ → Option PortRow → Option PortRow
+abbrev pub joined_with : RowLists → Text → Option PortRow → Option PortRow
 joined_with rows host None = None
 joined_with rows host (Some q) = if is_joined rows q host then Some q else None
 
 -- a port is bound to the host, and live there
-abbrev pub is_at : List ℕ → PortRow → Bool
+abbrev pub is_at : Text → PortRow → Bool
 is_at host p = bytes_eq p.host host
 
-abbrev pub is_here : RowLists → List ℕ → PortRow → Bool
+abbrev pub is_here : RowLists → Text → PortRow → Bool
 is_here rows host p = is_live rows p && is_at host p

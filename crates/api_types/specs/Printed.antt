@@ -1,5 +1,6 @@
 -- Printed values as plain data, and what callers are shown and answered.
 use Rattle.std.specs.Prelude.{ℕ, List, [], ◌∷◌, map, Bool}
+use Rattle.net_addr.specs.Words.{Text}
 use Rattle.api_types.specs.declared.kind.Kind.{Kind}
 use Rattle.api_types.specs.declared.answer.Printed.{Printed, fold-Printed}
 use Rattle.api_types.specs.declared.answer.Printed.TheOpen.{Printed-F}
@@ -13,7 +14,7 @@ mutual
     null : Tree
     truth : Bool → Tree
     number : ℕ → Tree
-    word : List ℕ → Tree
+    word : Text → Tree
     items : Trees → Tree
     object : Branches → Tree
 
@@ -23,7 +24,7 @@ mutual
 
   pub data Branches : Type 0 where
     no_branches : Branches
-    branch : List ℕ → Tree → Branches → Branches
+    branch : Text → Tree → Branches → Branches
 
 abbrev pub trees_of : List Tree → Trees
 trees_of [] = no_trees
@@ -31,7 +32,7 @@ trees_of (t ∷ ts) = tree t (trees_of ts)
 
 -- a name with its value
 abbrev pub NamedTree : Type 0
-NamedTree = List ℕ × Tree
+NamedTree = Text × Tree
 
 abbrev pub branches_of : List NamedTree → Branches
 branches_of [] = no_branches
@@ -49,7 +50,7 @@ tree_step (Printed-F.Object v) = object (branches_of v.items)
 abbrev pub tree_of : Printed → Tree
 tree_of = fold-Printed Tree tree_step
 
-abbrev pub member_of : (List ℕ × Printed) → NamedTree
+abbrev pub member_of : (Text × Printed) → NamedTree
 member_of m = (m.0, tree_of m.1)
 
 -- what a caller is shown of a row: its kind, and its members in byte order of their names

@@ -1,6 +1,7 @@
 -- How a call is answered: with the first refusal whose condition holds, and else as it says. The order of refusals is the order in
 -- which they are written.
-use Rattle.std.specs.Prelude.{ℕ, Bool, List, [], ◌∷◌, Option, None, Some, if◌then◌else◌}
+use Rattle.std.specs.Prelude.{Bool, List, [], ◌∷◌, Option, None, Some, if◌then◌else◌}
+use Rattle.net_addr.specs.Words.{Text}
 use Rattle.api_types.specs.Ident.{Ident}
 use Rattle.api_types.specs.Outcome.{Outcome, Refused, Told, Moved}
 use Rattle.api_types.specs.Table.{row_of}
@@ -31,11 +32,11 @@ abbrev pub at_name : {R : Type 0} → (R → Ident) → Option Ident → List R 
 at_name id_of None rows = None
 at_name id_of (Some i) rows = row_of id_of i rows
 
-abbrev pub not_found : Kind → List ℕ → Refusal
+abbrev pub not_found : Kind → Text → Refusal
 not_found kind text = NotFound (title_of kind) text
 
 -- what the caller is told of an outcome
-abbrev pub told : Outcome → Outcome
-told (Refused refusal) = Refused refusal
-told (Told reply) = Told reply
-told (Moved rows reply) = Told reply
+abbrev pub answer_alone : Outcome → Outcome
+answer_alone (Refused refusal) = Refused refusal
+answer_alone (Told reply) = Told reply
+answer_alone (Moved rows reply) = Told reply

@@ -2,7 +2,7 @@
 use Rattle.std.specs.Prelude.{ℕ, Bool, false, ◌&&◌, nat_lt, List, [], ◌∷◌, ◌++◌, map, Option, Some, None, find, option_map, option_and_then, flat_map, if◌then◌else◌}
 use Rattle.std.specs.List.{list_any, filter, filter_map}
 use Rattle.std.specs.Option.{option_or}
-use Rattle.net_addr.specs.Addresses.{renumbered}
+use Rattle.net_addr.specs.Addresses.{with_number}
 use Rattle.net_addr.specs.Ordered.{addr_before, four}
 use Rattle.net_addr.specs.declared.address.Addr.{Addr}
 use Rattle.net_addr.specs.Prefixes.{Prefix, contains}
@@ -66,7 +66,7 @@ extra_ways rows legs hops = filter_map (extra_way rows legs) hops
 -- gateway; by ascending addresses
 abbrev pub default_by : List PortRow → Option SubnetRow → List Way
 default_by legs None = []
-default_by legs (Some s) = filter_map (λ (g : Addr). way_by legs s.id (record { base = renumbered g 0; len = 0 }) Default (Some g)) (elim s.gateway [ None ↦ [] | Some g ↦ g ∷ [] ])
+default_by legs (Some s) = filter_map (λ (g : Addr). way_by legs s.id (record { base = with_number g 0; len = 0 }) Default (Some g)) (elim s.gateway [ None ↦ [] | Some g ↦ g ∷ [] ])
 
 abbrev pub default_of : RowLists → List PortRow → Option PortRow → List Way
 default_of rows legs None = []

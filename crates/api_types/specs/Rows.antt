@@ -4,7 +4,7 @@ use Rattle.api_types.specs.Ident.{Ident}
 use Rattle.api_types.specs.Table.{HaveOwnIds}
 use Rattle.api_types.specs.declared.project.ProjectRow.{ProjectRow}
 use Rattle.api_types.specs.Parts.{project_of, network_of, subnet_of, port_of, group_of, rule_of, router_of, floating_of, policy_of}
-use Rattle.api_types.specs.Edits.{edited, unedited, FitsTable, CameFrom}
+use Rattle.api_types.specs.Edits.{list_after, list_before, FitsTable, CameFrom}
 use Rattle.api_types.specs.RowLists.{RowLists}
 use Rattle.api_types.specs.declared.change.Item.{Item}
 use Rattle.api_types.specs.declared.kind.Kind.{Kind}
@@ -19,30 +19,30 @@ no_rows = record { projects = []; networks = []; subnets = []; ports = []; group
 
 -- the rows after an item of a kind
 abbrev pub after_of_kind : Kind → RowLists → Item → RowLists
-after_of_kind Project rows item = record rows { projects = edited project_of rows.projects item }
-after_of_kind Network rows item = record rows { networks = edited network_of rows.networks item }
-after_of_kind Subnet rows item = record rows { subnets = edited subnet_of rows.subnets item }
-after_of_kind Port rows item = record rows { ports = edited port_of rows.ports item }
-after_of_kind Group rows item = record rows { groups = edited group_of rows.groups item }
-after_of_kind Rule rows item = record rows { rules = edited rule_of rows.rules item }
-after_of_kind Router rows item = record rows { routers = edited router_of rows.routers item }
-after_of_kind Floating rows item = record rows { floatings = edited floating_of rows.floatings item }
-after_of_kind Policy rows item = record rows { policies = edited policy_of rows.policies item }
+after_of_kind Project rows item = record rows { projects = list_after project_of rows.projects item }
+after_of_kind Network rows item = record rows { networks = list_after network_of rows.networks item }
+after_of_kind Subnet rows item = record rows { subnets = list_after subnet_of rows.subnets item }
+after_of_kind Port rows item = record rows { ports = list_after port_of rows.ports item }
+after_of_kind Group rows item = record rows { groups = list_after group_of rows.groups item }
+after_of_kind Rule rows item = record rows { rules = list_after rule_of rows.rules item }
+after_of_kind Router rows item = record rows { routers = list_after router_of rows.routers item }
+after_of_kind Floating rows item = record rows { floatings = list_after floating_of rows.floatings item }
+after_of_kind Policy rows item = record rows { policies = list_after policy_of rows.policies item }
 
 abbrev pub after_item : RowLists → Item → RowLists
 after_item rows item = after_of_kind item.kind rows item
 
 -- the rows before it
 abbrev pub before_of_kind : Kind → RowLists → Item → RowLists
-before_of_kind Project rows item = record rows { projects = unedited project_of rows.projects item }
-before_of_kind Network rows item = record rows { networks = unedited network_of rows.networks item }
-before_of_kind Subnet rows item = record rows { subnets = unedited subnet_of rows.subnets item }
-before_of_kind Port rows item = record rows { ports = unedited port_of rows.ports item }
-before_of_kind Group rows item = record rows { groups = unedited group_of rows.groups item }
-before_of_kind Rule rows item = record rows { rules = unedited rule_of rows.rules item }
-before_of_kind Router rows item = record rows { routers = unedited router_of rows.routers item }
-before_of_kind Floating rows item = record rows { floatings = unedited floating_of rows.floatings item }
-before_of_kind Policy rows item = record rows { policies = unedited policy_of rows.policies item }
+before_of_kind Project rows item = record rows { projects = list_before project_of rows.projects item }
+before_of_kind Network rows item = record rows { networks = list_before network_of rows.networks item }
+before_of_kind Subnet rows item = record rows { subnets = list_before subnet_of rows.subnets item }
+before_of_kind Port rows item = record rows { ports = list_before port_of rows.ports item }
+before_of_kind Group rows item = record rows { groups = list_before group_of rows.groups item }
+before_of_kind Rule rows item = record rows { rules = list_before rule_of rows.rules item }
+before_of_kind Router rows item = record rows { routers = list_before router_of rows.routers item }
+before_of_kind Floating rows item = record rows { floatings = list_before floating_of rows.floatings item }
+before_of_kind Policy rows item = record rows { policies = list_before policy_of rows.policies item }
 
 abbrev pub before_item : RowLists → Item → RowLists
 before_item rows item = before_of_kind item.kind rows item

@@ -1,9 +1,6 @@
 ghost use Rattle.std.specs.Prelude.{◌≡◌};
-ghost use Rattle.api_types.specs.Consistent.Named.{is_own_port as own_port_in};
 
 use crate::id::Id;
-use crate::port::PortRow;
-use crate::shared::Shared;
 use crate::table::Keyed;
 use net_addr::{Addr4, Copies, OutOfMemory, Same, Text};
 use std::alloc::Global;
@@ -72,14 +69,4 @@ impl Keyed for FloatingRow {
     fn id(&self) -> Id {
         self.id
     }
-}
-
-/// Whether a floating address names the port as its own. Its cost grows with the floating
-/// addresses.
-pub fn is_own_port(floatings: &[Shared<FloatingRow>], port: &PortRow) -> bool
-    ensures { result ≡ own_port_in floatings.now port.now.id }
-{
-    floatings
-        .iter()
-        .any(|floating| port.id == floating.own_port)
 }

@@ -1,8 +1,6 @@
 ghost use Rattle.std.specs.Prelude.{◌≡◌};
-ghost use Rattle.api_types.specs.Consistent.InForm.{is_group_of as group_of_in};
 
 use crate::id::Id;
-use crate::shared::Shared;
 use crate::table::Keyed;
 use net_addr::{Copies, OutOfMemory, Prefix, Same, Text};
 use std::alloc::Global;
@@ -128,14 +126,4 @@ impl Keyed for RuleRow {
     fn id(&self) -> Id {
         self.id
     }
-}
-
-/// Whether a security group with this id is there and is the project's. Its cost grows with the
-/// groups.
-pub fn is_group_of(groups: &[Shared<GroupRow>], project: &Text, id: Id) -> bool
-    ensures { result ≡ group_of_in groups.now project.now id }
-{
-    groups
-        .iter()
-        .any(|group| id == group.id && group.project == *project)
 }

@@ -1,5 +1,7 @@
+//! The nine kinds of rows, and a row of any kind.
+
 ghost use Rattle.std.specs.Prelude.{◌≡◌};
-ghost use Rattle.api_types.specs.Titles.{title_of};
+ghost use Rattle.api_types.specs.Titles as titles;
 
 use crate::floating::FloatingRow;
 use crate::group::{GroupRow, RuleRow};
@@ -58,7 +60,7 @@ impl Drop for Row {
 impl Kind {
     /// The word by which messages name a row of this kind.
     pub fn title(self) -> &'static str
-        ensures { result.now ≡ title_of self }
+        ensures { result.now ≡ titles.title_of self }
     {
         match self {
             Kind::Project => "Project",
@@ -70,6 +72,40 @@ impl Kind {
             Kind::Router => "Router",
             Kind::Floating => "FloatingIP",
             Kind::Policy => "RbacPolicy",
+        }
+    }
+
+    /// The member of a body that holds one row of this kind.
+    pub fn resource(self) -> &'static str
+        ensures { result.now ≡ titles.resource_of self }
+    {
+        match self {
+            Kind::Project => "project",
+            Kind::Network => "network",
+            Kind::Subnet => "subnet",
+            Kind::Port => "port",
+            Kind::Group => "security_group",
+            Kind::Rule => "security_group_rule",
+            Kind::Router => "router",
+            Kind::Floating => "floatingip",
+            Kind::Policy => "rbac_policy",
+        }
+    }
+
+    /// The member of a body that holds rows of this kind.
+    pub fn collection(self) -> &'static str
+        ensures { result.now ≡ titles.collection_of self }
+    {
+        match self {
+            Kind::Project => "projects",
+            Kind::Network => "networks",
+            Kind::Subnet => "subnets",
+            Kind::Port => "ports",
+            Kind::Group => "security_groups",
+            Kind::Rule => "security_group_rules",
+            Kind::Router => "routers",
+            Kind::Floating => "floatingips",
+            Kind::Policy => "rbac_policies",
         }
     }
 }

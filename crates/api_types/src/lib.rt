@@ -27,6 +27,7 @@ mod project;
 mod refusal;
 mod route;
 mod router;
+mod row_kind;
 mod rows;
 mod shared;
 mod sharing;
@@ -37,33 +38,27 @@ mod wire;
 pub use answer::{Answer, Members, Printed, Shown, ShownList};
 pub use call::{Call, Caller, Filter, IdText, InterfaceBy, Query};
 pub use change::{Change, Item};
-pub use edit::OfKind;
-pub use floating::{FloatingRow, Target, is_own_port};
+pub use floating::{FloatingRow, Target};
 pub use form::{
     FixedAsked, FloatingForm, Form, GatewayAsked, Given, GroupForm, IpVersion, NetworkForm,
     NetworkType, ObjectType, PairAsked, PolicyForm, PortForm, RouterForm, RuleForm, SubnetForm,
     VnicType,
 };
-pub use group::{Direction, Ethertype, GroupRow, RuleRow, is_group_of};
-pub use holding::{holds, holds_in, names_group, reaches, touches};
+pub use group::{Direction, Ethertype, GroupRow, RuleRow};
 pub use id::Id;
 pub use kind::{Kind, Row};
 pub use lease::Lease;
-pub use network::{NetworkRow, Segment, is_network_of};
+pub use network::{NetworkRow, Segment};
 pub use order::{Ordered, ascending};
-pub use owners::{
-    device_is, is_dhcp, is_floating, is_gateway, is_interface, is_port_of, is_router_port,
-    is_service,
-};
 pub use policy::{Action, PolicyRow};
 pub use port::{Fixed, FixedList, Pair, PortRow, Vif};
 pub use project::ProjectRow;
 pub use refusal::{PolicyRule, Refusal, UseRule, Value};
 pub use route::RouteRank;
 pub use router::{Gateway, RouterRow};
+pub use row_kind::RowKind;
 pub use rows::Rows;
 pub use shared::Shared;
-pub use sharing::{is_external_to, is_shared_with};
 pub use subnet::{Hop, Ipv6Mode, Routes, SubnetRow};
 pub use table::{Keyed, Table};
 pub use wire::Wire;

@@ -1,8 +1,6 @@
 ghost use Rattle.std.specs.Prelude.{◌≡◌};
-ghost use Rattle.api_types.specs.Consistent.InForm.{is_network_of as network_of_in};
 
 use crate::id::Id;
-use crate::shared::Shared;
 use crate::table::Keyed;
 use net_addr::{Copies, OutOfMemory, Same, Text};
 use std::alloc::Global;
@@ -103,13 +101,4 @@ impl Keyed for NetworkRow {
     fn id(&self) -> Id {
         self.id
     }
-}
-
-/// Whether a network with this id is there and is the project's. Its cost grows with the networks.
-pub fn is_network_of(networks: &[Shared<NetworkRow>], project: &Text, id: Id) -> bool
-    ensures { result ≡ network_of_in networks.now project.now id }
-{
-    networks
-        .iter()
-        .any(|network| id == network.id && network.project == *project)
 }

@@ -54,7 +54,7 @@ impl<R: Keyed> Table<R> {
         self.by_id.as_slice().values().as_slice()
     }
 
-    fn found(&self, id: Id) -> Option<&Shared<R>>
+    fn find_shared(&self, id: Id) -> Option<&Shared<R>>
         ensures { option_copied result ≡ row_of R.id_of id self.now }
     {
         self.by_id.get(&id)
@@ -64,7 +64,7 @@ impl<R: Keyed> Table<R> {
     pub fn get(&self, id: Id) -> Option<&R>
         ensures { option_copied result ≡ row_of R.id_of id self.now }
     {
-        match self.found(id) {
+        match self.find_shared(id) {
             Some(row) => Some(row.get()),
             None => None,
         }
@@ -93,7 +93,7 @@ impl<R: Keyed> Table<R> {
     }
 
     /// Puts a row in the place of one with the same id.
-    pub(crate) fn set(&mut self, place: usize, row: Shared<R>)
+    pub(crate) fn replace(&mut self, place: usize, row: Shared<R>)
         requires within { place < length self.old }
         requires same_id { (r : R) → slice_get self.old place ≡ Some r → R.id_of row ≡ R.id_of r }
         ensures { self.new ≡ slice_set self.old place row }

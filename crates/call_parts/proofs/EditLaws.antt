@@ -7,7 +7,7 @@ use Rattle.std.proofs.lemmas.List.Quantifiers.{position-Some}
 use Rattle.std.proofs.lemmas.List.Sums.{fails_before_first}
 use Rattle.std.proofs.lemmas.Option.{slice_get-get_or, slice_get_within}
 use Rattle.std.proofs.lemmas.List.Sums.{sum_by-cons}
-use Rattle.api_types.specs.Edits.{FitsAt, edited_at}
+use Rattle.api_types.specs.Edits.{FitsAt, list_after_at}
 use Rattle.api_types.specs.Ident.{Ident}
 use Rattle.api_types.specs.Lists.{Each}
 use Rattle.api_types.specs.RowLists.{RowLists}
@@ -18,8 +18,9 @@ use Rattle.api_types.specs.declared.kind.Row.{Row}
 use Rattle.api_types.proofs.ListLemmas.{any-none, count-none, false_true, none-any, none-counted, none_some, remove-filter, some_equal, uncounted}
 use Rattle.api_types.proofs.NameLemmas.{by_test, ident_same}
 use Rattle.api_types.proofs.TableLemmas.{differs}
-use Rattle.call_parts.specs.Drafts.{IsEditable, IsFound, item_of}
-use Rattle.call_parts.specs.Edits.{put_in, with_put, without_row}
+use Rattle.call_parts.specs.Drafts.{IsFound}
+use Rattle.api_types.specs.RowKinds.{IsRowKind, item_of}
+use Rattle.api_types.specs.WithRows.{put_in, with_put, without_row}
 
 -- no two rows have one id
 pub once_own : {R : Type 0} (id_of : R → Ident) (xs : List R) → HaveOwnIds id_of xs → (i : Ident) → count_by (λ r. ident_eq i (id_of r)) xs ≤ 1
@@ -69,7 +70,7 @@ least : (k p n : ℕ) → k < n → nat_lt p n ≡ false → k < p
 least k p n within h = grind (arith, nat_tests)
 
 module _ {R : Type 0} (kind : Kind) (into : R → Row) (list_of : RowLists → List R) (with_list : RowLists → List R → RowLists) (part : Row → Option R) (id_of : R → Ident)
-    (e : IsEditable kind into list_of with_list part id_of) (rows : RowLists) where
+    (e : IsRowKind kind into list_of with_list part id_of) (rows : RowLists) where
   pub put_absent : (r : R) → list_any (λ q. ident_eq (id_of r) (id_of q)) (list_of rows) ≡ false → rows ≡ with_put rows (into r)
   put_absent r none = sym (e.put rows r ∙ (ap (with_list rows) (unchanged (λ q. ident_eq (id_of r) (id_of q)) r (list_of rows) (none-any (λ q. ident_eq (id_of r) (id_of q)) (list_of rows) none)) ∙ e.itself rows))
 
@@ -94,7 +95,7 @@ module _ {R : Type 0} (kind : Kind) (into : R → Row) (list_of : RowLists → L
 
     pub put_leads : (r : R) → i ≡ id_of r → after_item rows (item_of kind place (Some (into old)) (Some (into r))) ≡ with_put rows (into r)
     put_leads r same = e.leads rows place (Some (into old)) (Some (into r))
-        ∙ (ap (with_list rows) ((λ j. edited_at (list_of rows) place (e.part_is old j) (e.part_is r j)) ∙ sym (put_list r same)) ∙ sym (e.put rows r))
+        ∙ (ap (with_list rows) ((λ j. list_after_at (list_of rows) place (e.part_is old j) (e.part_is r j)) ∙ sym (put_list r same)) ∙ sym (e.put rows r))
 
     pub gone_fits : FitsItem rows (item_of kind place (Some (into old)) None)
     gone_fits = e.fits rows place (Some (into old)) None (
@@ -105,7 +106,7 @@ module _ {R : Type 0} (kind : Kind) (into : R → Row) (list_of : RowLists → L
 
     pub gone_leads : after_item rows (item_of kind place (Some (into old)) None) ≡ without_row rows kind i
     gone_leads = e.leads rows place (Some (into old)) None
-        ∙ (ap (with_list rows) ((λ j. edited_at (list_of rows) place (e.part_is old j) None)
+        ∙ (ap (with_list rows) ((λ j. list_after_at (list_of rows) place (e.part_is old j) None)
         ∙ remove-filter (λ q. ident_eq i (id_of q)) (list_of rows) place old found.at found.is (once_own id_of (list_of rows) found.own_ids i)) ∙ sym (e.gone rows i))
 
 -- a first place, and none

@@ -6,8 +6,7 @@ ghost use Rattle.api_types.specs.Table.{ident_eq, row_of};
 ghost use Rattle.call_parts.specs.Drafts.{DraftParts, IsFound, LeadsTo};
 ghost use Rattle.call_parts.specs.Edits.{Add, Drop as DropRow, Put, edited, made};
 
-use crate::editable::Editable;
-use api_types::{Change, Id, Item, Keyed, Rows, Shared};
+use api_types::{Change, Id, Item, Keyed, RowKind, Rows, Shared};
 use net_addr::{Copies, OutOfMemory, Seq};
 use std::alloc::Global;
 use std::marker::Model;
@@ -38,7 +37,7 @@ fn place_of<R: Keyed>(rows: &[Shared<R>], id: Id) -> Option<usize>
 }
 
 // The row with this id, with its place.
-fn found<R: Editable>(rows: &Rows, id: Id) -> Option<(usize, &R)>
+fn found<R: RowKind>(rows: &Rows, id: Id) -> Option<(usize, &R)>
     ensures none { IfNone result
         (list_any (λ r. ident_eq id (R.id_of r)) (R.list_of rows.now) ≡ false) }
     ensures some { IfSome result
@@ -105,7 +104,7 @@ impl Draft {
     }
 
     /// A new row, last of its kind, whose id no row of the kind has.
-    pub fn add<R: Editable>(self, alloc: Global, row: R) -> Result<Draft, OutOfMemory>
+    pub fn add<R: RowKind>(self, alloc: Global, row: R) -> Result<Draft, OutOfMemory>
         requires new { row_of R.id_of (R.id_of row) (R.list_of self.rows) ≡ None }
         ensures start { IfOk result (λ d. d.start ≡ self.start) }
         ensures rows { IfOk result (λ d. d.rows ≡ edited self.rows (Add (R.into_of row))) }
@@ -122,7 +121,7 @@ impl Draft {
 
     /// A row in the place of the one with its id. Where that is equal, or there is none, all stays.
     /// Its cost grows with the rows of the kind.
-    pub fn put<R: Editable>(self, alloc: Global, row: R) -> Result<Draft, OutOfMemory>
+    pub fn put<R: RowKind>(self, alloc: Global, row: R) -> Result<Draft, OutOfMemory>
         ensures start { IfOk result (λ d. d.start ≡ self.start) }
         ensures rows { IfOk result (λ d. d.rows ≡ edited self.rows (Put (R.into_of row))) }
     {
@@ -143,7 +142,7 @@ impl Draft {
 
     /// The row with this id goes, where it is there, and the rest closes up. Its cost grows with
     /// the rows of the kind.
-    pub fn drop_row<R: Editable>(self, alloc: Global, id: Id) -> Result<Draft, OutOfMemory>
+    pub fn drop_row<R: RowKind>(self, alloc: Global, id: Id) -> Result<Draft, OutOfMemory>
         ensures start { IfOk result (λ d. d.start ≡ self.start) }
         ensures rows { IfOk result (λ d. d.rows ≡ edited self.rows (DropRow R.kind_is id)) }
     {
@@ -161,7 +160,7 @@ impl Draft {
 
     /// The rows with these ids go, one after the other. Its cost grows with their number, times the
     /// rows of the kind.
-    pub fn drop_rows<R: Editable>(self, alloc: Global, ids: &[Id]) -> Result<Draft, OutOfMemory>
+    pub fn drop_rows<R: RowKind>(self, alloc: Global, ids: &[Id]) -> Result<Draft, OutOfMemory>
         ensures start { IfOk result (λ d. d.start ≡ self.start) }
         ensures rows { IfOk result
             (λ d. d.rows ≡ made self.rows (map (λ i. DropRow R.kind_is i) ids.now)) }

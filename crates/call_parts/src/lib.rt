@@ -8,7 +8,6 @@
 
 mod draft;
 mod drawing;
-mod editable;
 mod fixed;
 mod given;
 mod leaving;
@@ -16,7 +15,6 @@ mod refusals;
 
 pub use draft::Draft;
 pub use drawing::{Drawn, draw};
-pub use editable::Editable;
 pub use fixed::one_fixed;
 pub use given::{are_unlike, is_for_other, is_given, owner, text_or, value_of, value_or};
 pub use leaving::disassociate;

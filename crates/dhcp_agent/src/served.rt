@@ -10,7 +10,7 @@ ghost use Rattle.api_types.specs.Live.{is_live as live_by_rows};
 ghost use Rattle.api_types.specs.Owners.{is_dhcp as dhcp_of};
 ghost use Rattle.api_types.specs.Table.{ident_eq};
 
-use api_types::{Id, PortRow, Rows, Shared, is_dhcp};
+use api_types::{Id, PortRow, Rows, Shared};
 use net_addr::OutOfMemory;
 use plane_rows::is_live;
 use std::alloc::Global;
@@ -47,7 +47,7 @@ impl<'r> Model for Served<'r> {
 fn is_serving(rows: &Rows, port: &PortRow) -> bool
     ensures { result ≡ (dhcp_of port.now.owner && live_by_rows rows.now port.now) }
 {
-    is_dhcp(&port.owner) && is_live(rows, port)
+    port.is_dhcp() && is_live(rows, port)
 }
 
 // From the last to the first, so that the place of the first live DHCP port of a network stays.

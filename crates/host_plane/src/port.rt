@@ -8,5 +8,5 @@ use plane_types::{RouterPort, RouterTable};
 pub(crate) fn port_of(router: &RouterTable, port: Id) -> Option<&RouterPort>
     ensures { option_copied result ≡ leg_by_port router.now port }
 {
-    router.ports.as_slice().iter().find(|row| port == row.port)
+    router.ports.iter().find(|row| port == row.port)
 }

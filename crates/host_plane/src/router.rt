@@ -58,7 +58,6 @@ fn holds(port: &RouterPort, address: &Addr) -> bool
     ensures { result ≡ list_any (λ a. addr_eq a address.now) port.now.addresses }
 {
     port.addresses
-        .as_slice()
         .iter()
         .any(|held| *held == *address)
 }

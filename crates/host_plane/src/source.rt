@@ -126,7 +126,7 @@ fn sourced_gateway(
 fn has_live_gateway(router: &RouterTable) -> bool
     ensures { result ≡ list_any (λ (x : ThePort). not x.inside) router.now.ports }
 {
-    router.ports.as_slice().iter().any(|port| !port.inside)
+    router.ports.iter().any(|port| !port.inside)
 }
 
 // Whether the source is translated: where the packet leaves by the gateway port, or a floating

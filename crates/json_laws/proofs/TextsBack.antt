@@ -17,7 +17,7 @@ use Rattle.serde_json.specs.Find.{as_number, as_str, as_u64}
 use Rattle.net_addr.proofs.Print6Spelled as printed
 use Rattle.net_addr.specs.Macs.{is_unicast}
 use Rattle.net_addr.specs.Prefixes.{Written, Prefix, prefix_of, is_exact}
-use Rattle.net_addr.specs.Addresses.{IsAddr, renumbered, width}
+use Rattle.net_addr.specs.Addresses.{IsAddr, with_number, width}
 use Rattle.net_addr.specs.Addresses as net
 use Rattle.net_addr.specs.Spelling.{SpellsCidr, addr_text, address_text, mac_text, prefix_text}
 use Rattle.net_addr.specs.declared.address.Addr.{Addr}
@@ -153,7 +153,7 @@ pub written_back : (w : Written) → IsAddr w.addr → w.len ≤ width w.addr �
 unfolding SpellsCidr
 written_back w h l = sym (cidr_given (addr_text w.addr ++ codes "/" ++ decimal w.len) w (addr_text w.addr, printed.addr_spelled w.addr h, l, refl))
 
-renumbered_same : (a : Addr) (n : ℕ) → n ≡ net.number a → renumbered a n ≡ a
+renumbered_same : (a : Addr) (n : ℕ) → n ≡ net.number a → with_number a n ≡ a
 renumbered_same (V4 m) n e = ap V4 e
 renumbered_same (V6 m) n e = ap V6 e
 

@@ -2,10 +2,9 @@
 use Rattle.std.specs.Prelude.{ℕ, List, [], ◌∷◌, map, codes, Option, Some, None}
 use Rattle.api_types.specs.Printed.{Tree, number, word, NamedTree, ShownRow, OneRow, ManyRows, NewRow, NoRow, InterfaceRow, reply_of}
 use Rattle.api_types.specs.Printed as answered
-use Rattle.api_types.specs.declared.kind.Kind.{Kind}
-use Rattle.api_types.specs.declared.kind.Kind.TheVariants.{Project, Network, Subnet, Port, Group, Rule, Router, Floating, Policy}
 use Rattle.api_types.specs.declared.refusal.Refusal.{Refusal}
-use Rattle.neutron_http.specs.Faults.{resource_of, type_of, message_of}
+use Rattle.neutron_http.specs.Faults.{type_of, message_of}
+use Rattle.api_types.specs.Titles.{collection_of, resource_of}
 use Rattle.plane_types.specs.declared.ask.HostState.{HostState}
 use Rattle.plane_types.specs.declared.ask.LabAnswer.{LabAnswer}
 use Rattle.plane_types.specs.declared.ask.LabAnswer.TheVariants.{Seen, Told, Hosts, Tables}
@@ -14,18 +13,6 @@ use Rattle.plane_types.specs.declared.ask.Reply.TheVariants.{Done, LabDone, Refu
 use Rattle.json_replies.specs.Printed.{fields, list, or_null, body_text}
 use Rattle.json_replies.specs.Verdicts.{verdict_tree, heard_tree}
 use Rattle.json_replies.specs.Tables.{tables_tree}
-
--- the member that holds the rows of a kind
-abbrev pub plural_of : Kind → List ℕ
-plural_of Project = codes "projects"
-plural_of Network = codes "networks"
-plural_of Subnet = codes "subnets"
-plural_of Port = codes "ports"
-plural_of Group = codes "security_groups"
-plural_of Rule = codes "security_group_rules"
-plural_of Router = codes "routers"
-plural_of Floating = codes "floatingips"
-plural_of Policy = codes "rbac_policies"
 
 -- an object with one member
 abbrev pub only : List ℕ → Tree → Tree
@@ -37,7 +24,7 @@ row_tree row = fields row.members
 -- one row is an object with the one member named for its kind, and rows are one with the plural member; an interface is a plain object, and a deletion has no body
 abbrev pub answer_tree : answered.Reply → Option Tree
 answer_tree (OneRow row) = Some (only (resource_of row.kind) (row_tree row))
-answer_tree (ManyRows kind rows) = Some (only (plural_of kind) (list (map row_tree rows)))
+answer_tree (ManyRows kind rows) = Some (only (collection_of kind) (list (map row_tree rows)))
 answer_tree (NewRow row) = Some (only (resource_of row.kind) (row_tree row))
 answer_tree NoRow = None
 answer_tree (InterfaceRow row) = Some (row_tree row)

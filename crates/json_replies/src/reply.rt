@@ -2,52 +2,18 @@
 ghost use Rattle.std.specs.Prelude.{◌≡◌, IfOk};
 ghost use Rattle.serde_json.specs.Written.{compact_text};
 ghost use Rattle.api_types.specs.Printed.{shown_row, reply_of};
-ghost use Rattle.neutron_http.specs.Faults.{resource_of};
+ghost use Rattle.api_types.specs.Titles.{resource_of, collection_of};
 ghost use Rattle.json_replies.specs.Printed.{tree_data, body_text};
-ghost use Rattle.json_replies.specs.Bodies.{plural_of, only, row_tree, answer_tree, host_tree, lab_tree, words_tree, fault_tree, body_of};
+ghost use Rattle.json_replies.specs.Bodies.{only, row_tree, answer_tree, host_tree, lab_tree, words_tree, fault_tree, body_of};
 
 use crate::frame::put;
 use crate::printed::{Prints, members_of};
-use api_types::{Answer, Kind, Refusal, Shown};
+use api_types::{Answer, Refusal, Shown};
 use net_addr::{Bytes, OutOfMemory};
 use neutron_http::{Fault, fault_of};
 use plane_types::{HostState, LabAnswer, Reply};
 use serde_json::{Map, Value};
 use std::alloc::Global;
-
-// The member that holds one row of a kind.
-fn singular(kind: Kind) -> &'static str
-    ensures { result.now ≡ resource_of kind }
-{
-    match kind {
-        Kind::Project => "project",
-        Kind::Network => "network",
-        Kind::Subnet => "subnet",
-        Kind::Port => "port",
-        Kind::Group => "security_group",
-        Kind::Rule => "security_group_rule",
-        Kind::Router => "router",
-        Kind::Floating => "floatingip",
-        Kind::Policy => "rbac_policy",
-    }
-}
-
-// The member that holds the rows of a kind.
-fn plural(kind: Kind) -> &'static str
-    ensures { result.now ≡ plural_of kind }
-{
-    match kind {
-        Kind::Project => "projects",
-        Kind::Network => "networks",
-        Kind::Subnet => "subnets",
-        Kind::Port => "ports",
-        Kind::Group => "security_groups",
-        Kind::Rule => "security_group_rules",
-        Kind::Router => "routers",
-        Kind::Floating => "floatingips",
-        Kind::Policy => "rbac_policies",
-    }
-}
 
 impl Prints for Shown {
     ghost tree = { λ s. row_tree (shown_row s) };
@@ -104,9 +70,9 @@ fn answered(alloc: Global, answer: &Answer) -> Result<Bytes, OutOfMemory>
     ensures { IfOk result (λ b. b ≡ body_text (answer_tree (reply_of answer.now))) }
 {
     match answer {
-        Answer::One(row) => only(alloc, singular(row.kind), row),
-        Answer::Many { kind, rows } => only(alloc, plural(*kind), rows),
-        Answer::Created(row) => only(alloc, singular(row.kind), row),
+        Answer::One(row) => only(alloc, row.kind.resource(), row),
+        Answer::Many { kind, rows } => only(alloc, kind.collection(), rows),
+        Answer::Created(row) => only(alloc, row.kind.resource(), row),
         Answer::Gone => Ok(Bytes::from_vec(Vec::new(alloc))),
         Answer::Interface(row) => text(alloc, row),
     }

@@ -3,7 +3,7 @@ ghost use Rattle.std.specs.List.{filter_map};
 ghost use Rattle.api_types.specs.Live.{segment};
 ghost use Rattle.plane_types.specs.TableRows.{bridge_row as bridge_row_of, bridge_rows as bridge_rows_of, dhcp_row as dhcp_row_of, end_of as end_for, mac_row, to_here as to_tap_or_router, to_there as to_tunnel};
 
-use api_types::{PortRow, Rows, Segment, is_dhcp, is_router_port};
+use api_types::{PortRow, Rows, Segment};
 use net_addr::{Copies, OutOfMemory, Text};
 use plane_rows::{NamedRouters, is_at, is_live, segment_of};
 use plane_types::{Ascending, BridgeKey, BridgeRow, BridgeTo, TagMap, TagRow};
@@ -13,7 +13,7 @@ use std::alloc::Global;
 fn to_here(routers: &NamedRouters, port: &PortRow) -> Option<BridgeTo>
     ensures { result ≡ to_tap_or_router routers.now port.now }
 {
-    if !is_router_port(&port.owner) {
+    if !port.is_router_port() {
         return Some(BridgeTo::Tap(port.id));
     }
     let router = routers.router_of(port)?;
@@ -105,7 +105,7 @@ fn dhcp_row(
 ) -> Result<Option<BridgeRow>, OutOfMemory>
     ensures { IfOk result (λ o. o ≡ dhcp_row_of routers.now host.now tags.now port.now) }
 {
-    if !is_dhcp(&port.owner) {
+    if !port.is_dhcp() {
         return Ok(None);
     }
     bridge_row(alloc, routers, host, tags, BridgeKey::Dhcp, port)

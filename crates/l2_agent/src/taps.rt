@@ -3,7 +3,7 @@ ghost use Rattle.net_addr.specs.Ordered.{whole_prefix};
 ghost use Rattle.api_types.specs.declared.port.Fixed.{Fixed as TheFixed};
 ghost use Rattle.plane_types.specs.TableRows.{allowed_of as allowed_by_rows, is_tap as is_tap_by_rows, tap_row as tap_row_of, tap_rows as tap_rows_of};
 
-use api_types::{Fixed, Pair, PortRow, Rows, is_router_port};
+use api_types::{Fixed, Pair, PortRow, Rows};
 use net_addr::{Mac, OutOfMemory, Seq, Text};
 use plane_rows::is_here;
 use plane_types::{TagMap, TagRow, TapRow};
@@ -13,7 +13,7 @@ use std::alloc::Global;
 pub(crate) fn is_tap(rows: &Rows, host: &Text, port: &PortRow) -> bool
     ensures { result ≡ is_tap_by_rows rows.now host.now port.now }
 {
-    is_here(rows, host, port) && !is_router_port(&port.owner)
+    is_here(rows, host, port) && !port.is_router_port()
 }
 
 // Adds a pair of the MAC and each of these addresses.

@@ -4,7 +4,7 @@ ghost use Rattle.api_types.specs.declared.port.Fixed.{Fixed as TheFixed};
 ghost use Rattle.api_types.specs.RouterRows.{legs_of};
 ghost use Rattle.plane_types.specs.TableRows.{prefixes_for as prefixes_by_rows, router_port as router_port_of, tagged_by};
 
-use api_types::{PortRow, RouterRow, Rows, is_interface};
+use api_types::{PortRow, RouterRow, Rows};
 use net_addr::{Addr, OutOfMemory, Prefixes, Seq};
 use plane_rows::{Legs, named_subnet};
 use plane_types::{RouterPort, TagMap};
@@ -48,7 +48,7 @@ fn router_port(
         mac: port.mac,
         addresses: addresses_of(alloc, port)?,
         prefixes: prefixes_for(alloc, rows, port)?,
-        inside: is_interface(&port.owner),
+        inside: port.is_interface(),
     })
 }
 

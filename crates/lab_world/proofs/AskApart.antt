@@ -18,7 +18,7 @@ use Rattle.net_settings.specs.Settings.{SettingsParts}
 use Rattle.api_policy.specs.Visibility.{sees_port, sees_row}
 use Rattle.api_machine.specs.Footing.{Footing, footing}
 use Rattle.api_machine.specs.WholeStep.{api_step}
-use Rattle.api_types.specs.Refusing.{first_refusal, not_found, told, when}
+use Rattle.api_types.specs.Refusing.{first_refusal, not_found, answer_alone, when}
 use Rattle.api_machine.proofs.WholeStepApart.{step_apart}
 use Rattle.api_types.specs.Wires.{network_on}
 use Rattle.plane_types.specs.declared.ask.Ask.{Ask}
@@ -90,13 +90,13 @@ module _ (caller : Caller) (v w : World) (tenant : caller.admin ≡ false) (same
 
 -- a call, at states under one and the same settings
 call_apart : (caller : Caller) (v w : World) → caller.admin ≡ false → not (is_empty caller.project) ≡ true → IsConsistent v.history.rows → IsConsistent w.history.rows → v.settings ≡ w.settings
-    → footing v.settings (state_of v) caller ≡ footing w.settings (state_of w) caller → (call : Call) → told (api_step v.settings (state_of v) caller call) ≡ told (api_step w.settings (state_of w) caller call)
+    → footing v.settings (state_of v) caller ≡ footing w.settings (state_of w) caller → (call : Call) → answer_alone (api_step v.settings (state_of v) caller call) ≡ answer_alone (api_step w.settings (state_of w) caller call)
 call_apart caller v w tenant named c d one same call = subst At one here same
   where
     At : SettingsParts → Type 0
-    At settings = footing v.settings (state_of v) caller ≡ footing settings (state_of w) caller → told (api_step v.settings (state_of v) caller call) ≡ told (api_step settings (state_of w) caller call)
+    At settings = footing v.settings (state_of v) caller ≡ footing settings (state_of w) caller → answer_alone (api_step v.settings (state_of v) caller call) ≡ answer_alone (api_step settings (state_of w) caller call)
 
-    here : footing v.settings (state_of v) caller ≡ footing v.settings (state_of w) caller → told (api_step v.settings (state_of v) caller call) ≡ told (api_step v.settings (state_of w) caller call)
+    here : footing v.settings (state_of v) caller ≡ footing v.settings (state_of w) caller → answer_alone (api_step v.settings (state_of v) caller call) ≡ answer_alone (api_step v.settings (state_of w) caller call)
     here alike = step_apart v.settings caller (state_of v) (state_of w) tenant named c d alike call
 
 pub ask_apart : (caller : Caller) (v w : World) → caller.admin ≡ false → not (is_empty caller.project) ≡ true → IsConsistent v.history.rows → IsConsistent w.history.rows → v.settings ≡ w.settings

@@ -2,7 +2,7 @@
 use Rattle.std.specs.Prelude.{◌≡◌, ◌⊎◌, ℕ, Bool, true, false, List, Result, Ok, Err, ⊤}
 use Rattle.api_types.specs.Outcome.{Outcome, Refused as RefusedWith, Told, Moved}
 use Rattle.api_types.specs.Printed.{reply_of}
-use Rattle.api_types.specs.Refusing.{told}
+use Rattle.api_types.specs.Refusing.{answer_alone}
 use Rattle.api_types.specs.RowLists.{RowLists}
 use Rattle.api_types.specs.Rows.{Fits, after}
 use Rattle.api_types.specs.declared.call.Caller.{Caller}
@@ -63,7 +63,7 @@ pub data Said : Type 0 where
   OfLab : Result LabAnswer Refusal → Said
 
 abbrev pub told_of : AskOutcome → Said
-told_of (ByMachine outcome) = OfApi (told outcome)
+told_of (ByMachine outcome) = OfApi (answer_alone outcome)
 told_of (ByLab (Barred refusal)) = OfLab (Err refusal)
 told_of (ByLab (Answered answer w)) = OfLab (Ok answer)
 

@@ -6,7 +6,7 @@ use Rattle.std.proofs.Math.Pow.{shr_lt, split, high, ones_lt, shr-shr, pow-add}
 use Rattle.std.proofs.Math.Pow.{pow_mono}
 use Rattle.std.proofs.lemmas.Bool.{cases_lt}
 use Rattle.std.proofs.lemmas.Bool.Decides.{Decides-eqb, Decides-and, Decides-not, Decides-like, same_from_decides, nat_tests}
-use Rattle.net_addr.specs.Addresses.{addr_eq, number, width, renumbered, same_version, is_v4}
+use Rattle.net_addr.specs.Addresses.{addr_eq, number, width, with_number, same_version, is_v4}
 use Rattle.net_addr.specs.declared.address.Addr.{Addr}
 use Rattle.net_addr.specs.declared.address.Addr.TheVariants.{V4, V6}
 use Rattle.net_addr.specs.Prefixes.{Prefix, Span, IsPrefix, Contains, contains, bits_behind, last_number, last_address, kept_back, is_host_of}
@@ -96,11 +96,11 @@ pub cleared_away : (x k : ℕ) → x - x % 2 ^ k ≡ (x / 2 ^ k) * 2 ^ k
 cleared_away x k = omega (arith, split x k)
 
 -- the number of an address of the same version
-pub number_kept : (x : Addr) (n : ℕ) → number (renumbered x n) ≡ n
+pub number_kept : (x : Addr) (n : ℕ) → number (with_number x n) ≡ n
 number_kept (V4 m) n = refl
 number_kept (V6 m) n = refl
 
-pub version_kept : (x : Addr) (n : ℕ) → same_version x (renumbered x n) ≡ true
+pub version_kept : (x : Addr) (n : ℕ) → same_version x (with_number x n) ≡ true
 version_kept (V4 m) n = refl
 version_kept (V6 m) n = refl
 
@@ -134,7 +134,7 @@ Decides-true false = (λ e. e, λ e. e)
 
 -- a cleared base is one
 pub cleared_at : (x : Addr) (len : ℕ) → len ≤ width x
-    → IsPrefix (record { base = renumbered x (number x - number x % 2 ^ (width x - len)); len = len })
+    → IsPrefix (record { base = with_number x (number x - number x % 2 ^ (width x - len)); len = len })
 cleared_at (V4 n) len l = (l, subst (λ (m : ℕ). m % 2 ^ (32 - len) ≡ 0) (sym (cleared_away n (32 - len))) (cleared_whole n (32 - len)))
 cleared_at (V6 n) len l = (l, subst (λ (m : ℕ). m % 2 ^ (128 - len) ≡ 0) (sym (cleared_away n (128 - len))) (cleared_whole n (128 - len)))
 
@@ -228,7 +228,7 @@ eui_room_of p n h = eui_room_at p.base p.len n h.1
 
 -- and keeps the base's first bits
 eui_at : (x : Addr) (len n : ℕ) → number x % 2 ^ (width x - len) ≡ 0 → is_v4 x ≡ false → len ≡ 64 → n < 2 ^ 64
-    → Contains (record { base = x; len = len }) (renumbered x (number x + n))
+    → Contains (record { base = x; len = len }) (with_number x (number x + n))
 eui_at (V4 b) l n h e f k = cc
 eui_at (V6 b) l n h e f k =
     let w : b % 2 ^ 64 ≡ 0 = subst (λ (m : ℕ). b % 2 ^ (128 - m) ≡ 0) f h in
@@ -236,14 +236,14 @@ eui_at (V6 b) l n h e f k =
     (refl, subst (λ (m : ℕ). (b + n) / 2 ^ (128 - m) ≡ b / 2 ^ (128 - m)) (sym f) d)
 
 pub eui_contained : (p : Prefix) (n : ℕ) → IsPrefix p → is_v4 p.base ≡ false → p.len ≡ 64 → n < 2 ^ 64
-    → Contains p (renumbered p.base (number p.base + n))
+    → Contains p (with_number p.base (number p.base + n))
 eui_contained p n h = eui_at p.base p.len n h.1
 
 -- an address is so far above the base where their difference is that number
 eui_far : (x b n : ℕ) → nat_le b x && ((x - b) == n) ≡ (x == (b + n))
 eui_far x b n = grind (arith, nat_tests)
 
-pub eui_is : (b x : Addr) (n : ℕ) → (same_version b x && nat_le (number b) (number x) && ((number x - number b) == n)) ≡ addr_eq x (renumbered b (number b + n))
+pub eui_is : (b x : Addr) (n : ℕ) → (same_version b x && nat_le (number b) (number x) && ((number x - number b) == n)) ≡ addr_eq x (with_number b (number b + n))
 eui_is (V4 b) (V4 x) n = eui_far x b n
 eui_is (V4 b) (V6 x) n = refl
 eui_is (V6 b) (V4 x) n = refl
@@ -277,7 +277,7 @@ hosts_room_at (V6 b) l short =
 pub hosts_room : (p : Prefix) → p.len ≤ width p.base - (1 + kept_back p.base) → number p.base + 1 + kept_back p.base ≤ last_number p
 hosts_room p short = hosts_room_at p.base p.len short
 
-span_version : (x : Addr) (first last : ℕ) (y : Addr) → same_version (renumbered x first) y ≡ same_version x y
+span_version : (x : Addr) (first last : ℕ) (y : Addr) → same_version (with_number x first) y ≡ same_version x y
 span_version (V4 m) first last (V4 n) = refl
 span_version (V4 m) first last (V6 n) = refl
 span_version (V6 m) first last (V4 n) = refl
@@ -288,10 +288,10 @@ below_top (V4 m) n top l = (λ w. omega (arith, w, l), λ w. omega (arith, w, l)
 below_top (V6 m) n top l = (λ w. omega (arith, w), λ w. omega (arith, w))
 
 pub hosts_within : (p : Prefix) (x : Addr) → IsPrefix p → p.len ≤ width p.base - (1 + kept_back p.base)
-    → is_host_of p x ≡ is_within (record { first = renumbered p.base (number p.base + 1); last = renumbered p.base (last_number p - kept_back p.base) }) x
+    → is_host_of p x ≡ is_within (record { first = with_number p.base (number p.base + 1); last = with_number p.base (last_number p - kept_back p.base) }) x
 hosts_within p x h short =
     let room = hosts_room p short in
-    let s : Span = record { first = renumbered p.base (number p.base + 1); last = renumbered p.base (last_number p - kept_back p.base) } in
+    let s : Span = record { first = with_number p.base (number p.base + 1); last = with_number p.base (last_number p - kept_back p.base) } in
     let f = number_kept p.base (number p.base + 1) in
     let l = number_kept p.base (last_number p - kept_back p.base) in
     let v = span_version p.base (number p.base + 1) 0 x in

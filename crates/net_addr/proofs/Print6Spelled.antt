@@ -7,7 +7,7 @@ use Rattle.std.proofs.lemmas.List.{append-nil, drop-drop, length-drop, length-ta
 use Rattle.std.specs.Fmt.{digit_glyph, digits, digits_onto}
 use Rattle.net_addr.specs.Addresses.{IsAddr, width}
 use Rattle.net_addr.specs.Prefixes.{Prefix}
-use Rattle.net_addr.specs.Printing6.{Run, address6_text, groups, longest, more_text, row_text, shortened, zeros}
+use Rattle.net_addr.specs.Printing6.{Run, address6_text, groups, longest, more_text, row_text, short_text, zeros}
 use Rattle.net_addr.specs.Spelling.{Spells, SpellsAddr, SpellsAddress6, SpellsCidr, addr_text, prefix_text, row_parts, shortened_parts}
 use Rattle.net_addr.specs.declared.address.Addr.{Addr}
 use Rattle.net_addr.specs.declared.address.Addr.TheVariants.{V4, V6}
@@ -176,7 +176,7 @@ gap_spelled gs i z n l h some few e =
     )
 
 run_spelled : (gs : List ℕ) (n i : ℕ) (run : Run) → length gs ≡ 8 → AllSmall gs → n ≡ value_of 0 gs
-    → IsRunOf gs 0 run i → SpellsAddress6 (shortened gs run) n
+    → IsRunOf gs 0 run i → SpellsAddress6 (short_text gs run) n
 run_spelled gs n i run l h e w = by (nat_lt run.len 2) refl
   where
     by : (b : Bool) → nat_lt run.len 2 ≡ b

@@ -14,9 +14,9 @@ number (V4 n) = n
 number (V6 n) = n
 
 -- the address of the same version with another number
-abbrev pub renumbered : Addr → ℕ → Addr
-renumbered (V4 _) n = V4 n
-renumbered (V6 _) n = V6 n
+abbrev pub with_number : Addr → ℕ → Addr
+with_number (V4 _) n = V4 n
+with_number (V6 _) n = V6 n
 
 -- whether two addresses are of one version
 abbrev pub same_version : Addr → Addr → Bool

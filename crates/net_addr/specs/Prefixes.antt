@@ -1,6 +1,7 @@
 -- Prefixes of addresses (RFC 4632 of 32 bits; RFC 4291, 2.3 of 128).
 use Rattle.std.specs.Prelude.{◌≡◌, ℕ, ◌+◌, ◌-◌, ◌*◌, ◌/◌, ◌%◌, ◌^◌, ◌≤◌, ◌==◌, ◌&&◌, ◌||◌, not, Bool, true, nat_lt, if◌then◌else◌, Option, Some, None}
-use Rattle.net_addr.specs.Addresses.{width, number, renumbered, same_version, is_v4}
+use Rattle.net_addr.specs.Addresses.{width, number, with_number, same_version, is_v4}
+use Rattle.net_addr.specs.Words.{MacAddress}
 use Rattle.net_addr.specs.declared.address.Addr.{Addr}
 
 -- an address and a length, as written
@@ -51,7 +52,7 @@ unfoldable pub last_number : Prefix → ℕ
 last_number p = number p.base + (2 ^ bits_behind p - 1)
 
 unfoldable pub last_address : Prefix → Addr
-last_address p = renumbered p.base (last_number p)
+last_address p = with_number p.base (last_number p)
 
 -- whether x is a host address: the prefix contains it, and it isn't the least nor, of version 4, the greatest
 unfoldable pub is_host_of : Prefix → Addr → Bool
@@ -65,7 +66,7 @@ kept_back x = if is_v4 x then 1 else 0
 unfoldable pub host_addresses : Prefix → Option Span
 host_addresses p =
     if nat_lt (width p.base - (1 + kept_back p.base)) p.len then None
-    else Some (record { first = renumbered p.base (number p.base + 1); last = renumbered p.base (last_number p - kept_back p.base) })
+    else Some (record { first = with_number p.base (number p.base + 1); last = with_number p.base (last_number p - kept_back p.base) })
 
 -- whether one of the two has the other's base, which is where some address is in both
 unfoldable pub overlaps : Prefix → Prefix → Bool
@@ -73,20 +74,20 @@ overlaps p q = contains p q.base || contains q p.base
 
 -- the address with its bits behind the length cleared
 unfoldable pub prefix_of : Written → Prefix
-prefix_of w = record { base = renumbered w.addr ((number w.addr / 2 ^ (width w.addr - w.len)) * 2 ^ (width w.addr - w.len)); len = w.len }
+prefix_of w = record { base = with_number w.addr ((number w.addr / 2 ^ (width w.addr - w.len)) * 2 ^ (width w.addr - w.len)); len = w.len }
 
 -- whether the bits behind the length are zero
 unfoldable pub is_exact : Written → Bool
 is_exact w = (number w.addr % 2 ^ (width w.addr - w.len)) == 0
 
--- a byte with its bit of value 2 turned
-abbrev pub turned : ℕ → ℕ
-turned b = if (b / 2 % 2) == 0 then b + 2 else b - 2
+-- a byte with its bit of value 2 flipped
+abbrev pub with_flipped_bit : ℕ → ℕ
+with_flipped_bit b = if (b / 2 % 2) == 0 then b + 2 else b - 2
 
 -- the address that a port with this MAC takes in a prefix of 64 bits of version 6 (RFC 4291, appendix A): behind the base the eight bytes
--- of the MAC's first three, the bit of value 2 of the first of them turned, then 255 and 254, then the MAC's last three
-unfoldable pub eui_number : ℕ → ℕ
-eui_number mac = turned (mac / 2 ^ 40) * 2 ^ 56 + (mac / 2 ^ 24 % 2 ^ 16) * 2 ^ 40 + 255 * 2 ^ 32 + 254 * 2 ^ 24 + mac % 2 ^ 24
+-- of the MAC's first three, the bit of value 2 of the first of them flipped, then 255 and 254, then the MAC's last three
+unfoldable pub eui_number : MacAddress → ℕ
+eui_number mac = with_flipped_bit (mac / 2 ^ 40) * 2 ^ 56 + (mac / 2 ^ 24 % 2 ^ 16) * 2 ^ 40 + 255 * 2 ^ 32 + 254 * 2 ^ 24 + mac % 2 ^ 24
 
-unfoldable pub eui : Prefix → ℕ → Addr
-eui p mac = renumbered p.base (number p.base + eui_number mac)
+unfoldable pub eui : Prefix → MacAddress → Addr
+eui p mac = with_number p.base (number p.base + eui_number mac)

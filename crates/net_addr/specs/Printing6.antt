@@ -2,6 +2,7 @@
 -- of two or more zero groups as `::`, and never an IPv4 tail.
 use Rattle.std.specs.Prelude.{ℕ, zero, suc, ◌+◌, ◌/◌, ◌%◌, ◌^◌, List, [], ◌∷◌, ◌++◌, take, drop, nat_le, nat_lt, codes, false, if◌then◌else◌}
 use Rattle.std.specs.Fmt.{digits}
+use Rattle.net_addr.specs.Words.{Text}
 
 -- the eight groups of 16 bits
 unfoldable pub groups : ℕ → List ℕ
@@ -30,18 +31,18 @@ longest at [] = record { at = at; len = 0 }
 longest at (g ∷ gs) = longer (record { at = at; len = zeros (g ∷ gs) }) (longest (at + 1) gs)
 
 -- groups, each behind a colon
-abbrev pub more_text : List ℕ → List ℕ
+abbrev pub more_text : List ℕ → Text
 more_text [] = []
 more_text (g ∷ gs) = codes ":" ++ digits 16 false g ++ more_text gs
 
 -- groups with colons between
-abbrev pub row_text : List ℕ → List ℕ
+abbrev pub row_text : List ℕ → Text
 row_text [] = []
 row_text (g ∷ gs) = digits 16 false g ++ more_text gs
 
 -- with a run of two or more left out
-abbrev pub shortened : List ℕ → Run → List ℕ
-shortened gs run = if nat_lt run.len 2 then row_text gs else row_text (take run.at gs) ++ codes "::" ++ row_text (drop (run.at + run.len) gs)
+abbrev pub short_text : List ℕ → Run → Text
+short_text gs run = if nat_lt run.len 2 then row_text gs else row_text (take run.at gs) ++ codes "::" ++ row_text (drop (run.at + run.len) gs)
 
-unfoldable pub address6_text : ℕ → List ℕ
-address6_text n = shortened (groups n) (longest 0 (groups n))
+unfoldable pub address6_text : ℕ → Text
+address6_text n = short_text (groups n) (longest 0 (groups n))

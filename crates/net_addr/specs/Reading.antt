@@ -4,6 +4,7 @@ use Rattle.std.specs.Char.{digit_value}
 use Rattle.std.specs.Fmt.{decimal}
 use Rattle.std.specs.Str.Parse.{AllDigits, digits_value_after}
 use Rattle.net_addr.specs.Spelling.{Begins, IsLongestStart, Spells, end_parts, group_count, shortened_parts}
+use Rattle.net_addr.specs.Words.{Text}
 use Rattle.net_addr.specs.declared.spelling.BadAddress.{BadAddress}
 use Rattle.net_addr.specs.declared.spelling.Part.{Part}
 use Rattle.net_addr.specs.declared.spelling.Part.TheVariants.{Number, Digit, Mark, Group, Gap}
@@ -43,19 +44,19 @@ abbrev pub is_readable : List Part → Bool
 is_readable parts = is_clear parts && nat_le (value_count parts) (2 ^ 128)
 
 -- a number whose first digits are those of m is under way, and `parts` come behind it
-abbrev pub NumberGoesOn : List Part → ℕ → ℕ → ℕ → List ℕ → ℕ → Type 0
+abbrev pub NumberGoesOn : List Part → ℕ → ℕ → ℕ → Text → ℕ → Type 0
 NumberGoesOn parts value top m text n =
-    (whole : ℕ) × (more : List ℕ) × (rest : List ℕ) × (whole ≤ top) × (decimal whole ≡ decimal m ++ more) × (text ≡ more ++ rest)
+    (whole : ℕ) × (more : Text) × (rest : Text) × (whole ≤ top) × (decimal whole ≡ decimal m ++ more) × (text ≡ more ++ rest)
     × Spells parts (value * 256 + whole) rest n
 
 -- a group whose first digits, so many, write m is under way, and `parts` come behind it
-abbrev pub GroupGoesOn : List Part → ℕ → ℕ → ℕ → List ℕ → ℕ → Type 0
+abbrev pub GroupGoesOn : List Part → ℕ → ℕ → ℕ → Text → ℕ → Type 0
 GroupGoesOn parts value count m text n =
-    (more : List ℕ) × (rest : List ℕ) × (count + length more ≤ 4) × AllDigits 16 more × (text ≡ more ++ rest)
+    (more : Text) × (rest : Text) × (count + length more ≤ 4) × AllDigits 16 more × (text ≡ more ++ rest)
     × Spells parts (value * 2 ^ 16 + digits_value_after 16 m more) rest n
 
 -- what may still come is this text, with n as the number of the whole
-abbrev pub Remains : List Part → ℕ → State → List ℕ → ℕ → Type 0
+abbrev pub Remains : List Part → ℕ → State → Text → ℕ → Type 0
 Remains parts value Between text n = Spells parts value text n
 Remains parts value (InNumber d) text n = NumberGoesOn parts value d.top d.number text n
 Remains parts value (InGroup g) text n = GroupGoesOn parts value g.count g.number text n
@@ -73,41 +74,41 @@ IsReading parts value (InGroup g) =
     (is_clear parts ≡ true) × (no_digit_next 16 parts ≡ true) × (g.count ≤ 4) × (g.number < 2 ^ (4 * g.count)) × ((value + 1) * (2 ^ 16 * value_count parts) ≤ 2 ^ 128)
 
 -- the two say the same of each text and number
-abbrev pub Agree : (List ℕ → ℕ → Type 0) → (List ℕ → ℕ → Type 0) → Type 0
-Agree P Q = (text : List ℕ) (n : ℕ) → (P text n → Q text n) × (Q text n → P text n)
+abbrev pub Agree : (Text → ℕ → Type 0) → (Text → ℕ → Type 0) → Type 0
+Agree P Q = (text : Text) (n : ℕ) → (P text n → Q text n) × (Q text n → P text n)
 
 -- the byte c leads to this reading: what it leaves is what came behind c; or nothing that may come begins with c
-abbrev pub Takes : (List ℕ → ℕ → Type 0) → ℕ → Option Reading → Type 0
-Takes P c None = (text : List ℕ) (n : ℕ) → ¬ P (c ∷ text) n
+abbrev pub Takes : (Text → ℕ → Type 0) → ℕ → Option Reading → Type 0
+Takes P c None = (text : Text) (n : ℕ) → ¬ P (c ∷ text) n
 Takes P c (Some r) = IsReading r.parts.now r.value r.state × Agree (λ text n. P (c ∷ text) n) (Remains r.parts.now r.value r.state)
 
 -- the empty text may come with this number alone, or it may not come
-abbrev pub Ends : (List ℕ → ℕ → Type 0) → Option ℕ → Type 0
+abbrev pub Ends : (Text → ℕ → Type 0) → Option ℕ → Type 0
 Ends P None = (n : ℕ) → ¬ P [] n
 Ends P (Some v) = (n : ℕ) → (P [] n → n ≡ v) × (n ≡ v → P [] n)
 
 -- what remains of a reading is what comes behind the bytes that were seen
-pub record Follows (all : List Part) (seen : List ℕ) (parts : List Part) (value : ℕ) (state : State) : Type 0 where
+pub record Follows (all : List Part) (seen : Text) (parts : List Part) (value : ℕ) (state : State) : Type 0 where
   pub reading : IsReading parts value state
-  pub same : (text : List ℕ) (n : ℕ) → (Spells all 0 (seen ++ text) n → Remains parts value state text n) × (Remains parts value state text n → Spells all 0 (seen ++ text) n)
+  pub same : (text : Text) (n : ℕ) → (Spells all 0 (seen ++ text) n → Remains parts value state text n) × (Remains parts value state text n → Spells all 0 (seen ++ text) n)
 
 -- a text of the grammar spells the number; or it is none, and its longest start is `at` long
-abbrev pub IsRead : (List ℕ → ℕ → Type 0) → List ℕ → Result ℕ BadAddress → Type 0
+abbrev pub IsRead : (Text → ℕ → Type 0) → Text → Result ℕ BadAddress → Type 0
 IsRead P text (Ok v) = P text v
 IsRead P text (Err e) = ((n : ℕ) → ¬ P text n) × IsLongestStart (λ t. (n : ℕ) × P t n) text e.at
 
 -- the texts of version 6 with all groups, and those with `::` behind so many groups, or behind any number of them
-unfoldable pub SpellsWhole : Bool → List ℕ → ℕ → Type 0
+unfoldable pub SpellsWhole : Bool → Text → ℕ → Type 0
 SpellsWhole has_tail text n = Spells (end_parts has_tail (group_count has_tail)) 0 text n
 
-unfoldable pub SpellsBehind : Bool → ℕ → List ℕ → ℕ → Type 0
+unfoldable pub SpellsBehind : Bool → ℕ → Text → ℕ → Type 0
 SpellsBehind has_tail left text n = (right : ℕ) × (left + right < group_count has_tail) × Spells (shortened_parts has_tail left right) 0 text n
 
-unfoldable pub SpellsShortened : Bool → List ℕ → ℕ → Type 0
+unfoldable pub SpellsShortened : Bool → Text → ℕ → Type 0
 SpellsShortened has_tail text n = (left : ℕ) × (left < group_count has_tail) × SpellsBehind has_tail left text n
 
 -- none of the first `count` grammars has the text, and none of their texts has a longer start of it than G's `at`
-pub record NoneSoFar (P : ℕ → List ℕ → ℕ → Type 0) (G : List ℕ → Type 0) (count : ℕ) (text : List ℕ) (at : ℕ) : Type 0 where
+pub record NoneSoFar (P : ℕ → Text → ℕ → Type 0) (G : Text → Type 0) (count : ℕ) (text : Text) (at : ℕ) : Type 0 where
   pub within : at ≤ length text
   pub begins : Begins G (take at text)
   pub none : (i : ℕ) → i < count → (n : ℕ) → ¬ P i text n

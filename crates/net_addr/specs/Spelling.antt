@@ -7,6 +7,7 @@ use Rattle.std.specs.Str.Parse.{AllDigits, digits_value}
 use Rattle.net_addr.specs.Addresses.{width}
 use Rattle.net_addr.specs.Prefixes.{Written, Prefix}
 use Rattle.net_addr.specs.Printing6.{address6_text}
+use Rattle.net_addr.specs.Words.{Text}
 use Rattle.net_addr.specs.declared.address.Addr.{Addr}
 use Rattle.net_addr.specs.declared.address.Addr.TheVariants.{V4, V6}
 use Rattle.net_addr.specs.declared.spelling.Part.{Part}
@@ -15,18 +16,18 @@ use Rattle.net_addr.specs.declared.spelling.Part.TheVariants.{Number, Digit, Mar
 -- the text has these parts in order, and n is `start` with their numbers behind it: decimal ones in base 2^8, hexadecimal digits in base 2^4,
 -- groups of one to four of them in base 2^16, and for a gap so many groups of zeros
 -- (`decimal m` is m without leading zeros; `digit_value` reads digits in either case)
-unfoldable pub Spells : List Part → ℕ → List ℕ → ℕ → Type 0
+unfoldable pub Spells : List Part → ℕ → Text → ℕ → Type 0
 Spells [] start text n = (text ≡ []) × (n ≡ start)
-Spells (Number top ∷ parts) start text n = (m : ℕ) × (rest : List ℕ) × (m ≤ top) × (text ≡ decimal m ++ rest) × Spells parts (start * 256 + m) rest n
-Spells (Digit ∷ parts) start text n = (c : ℕ) × (rest : List ℕ) × (digit_value c < 16) × (text ≡ c ∷ rest) × Spells parts (start * 16 + digit_value c) rest n
-Spells (Mark c ∷ parts) start text n = (rest : List ℕ) × (text ≡ c ∷ rest) × Spells parts start rest n
+Spells (Number top ∷ parts) start text n = (m : ℕ) × (rest : Text) × (m ≤ top) × (text ≡ decimal m ++ rest) × Spells parts (start * 256 + m) rest n
+Spells (Digit ∷ parts) start text n = (c : ℕ) × (rest : Text) × (digit_value c < 16) × (text ≡ c ∷ rest) × Spells parts (start * 16 + digit_value c) rest n
+Spells (Mark c ∷ parts) start text n = (rest : Text) × (text ≡ c ∷ rest) × Spells parts start rest n
 Spells (Group ∷ parts) start text n =
-    (ds : List ℕ) × (rest : List ℕ) × (0 < length ds) × (length ds ≤ 4) × AllDigits 16 ds × (text ≡ ds ++ rest)
+    (ds : Text) × (rest : Text) × (0 < length ds) × (length ds ≤ 4) × AllDigits 16 ds × (text ≡ ds ++ rest)
     × Spells parts (start * 2 ^ 16 + digits_value 16 ds) rest n
-Spells (Gap k ∷ parts) start text n = (rest : List ℕ) × (text ≡ 58 ∷ rest) × Spells parts (start * 2 ^ (16 * k)) rest n
+Spells (Gap k ∷ parts) start text n = (rest : Text) × (text ≡ 58 ∷ rest) × Spells parts (start * 2 ^ (16 * k)) rest n
 
 -- the text has these parts
-abbrev pub IsTextOf : List Part → List ℕ → Type 0
+abbrev pub IsTextOf : List Part → Text → Type 0
 IsTextOf parts text = (n : ℕ) × Spells parts 0 text n
 
 -- four decimal numbers to 255 with dots between
@@ -71,71 +72,71 @@ IsForm parts =
     ⊎ ((left : ℕ) × (right : ℕ) × (left + right < group_count has_tail) × (parts ≡ shortened_parts has_tail left right)))
 
 -- the text spells the address n
-unfoldable pub SpellsAddress : List ℕ → ℕ → Type 0
+unfoldable pub SpellsAddress : Text → ℕ → Type 0
 SpellsAddress text n = Spells address_parts 0 text n
 
 -- the text spells the address n of version 6
-unfoldable pub SpellsAddress6 : List ℕ → ℕ → Type 0
+unfoldable pub SpellsAddress6 : Text → ℕ → Type 0
 SpellsAddress6 text n = (parts : List Part) × IsForm parts × Spells parts 0 text n
 
 -- the text spells the MAC n
-unfoldable pub SpellsMac : List ℕ → ℕ → Type 0
+unfoldable pub SpellsMac : Text → ℕ → Type 0
 SpellsMac text n = Spells mac_parts 0 text n
 
 -- the text spells the address, of its version
-abbrev pub SpellsAddr : List ℕ → Addr → Type 0
+abbrev pub SpellsAddr : Text → Addr → Type 0
 SpellsAddr text (V4 n) = SpellsAddress text n
 SpellsAddr text (V6 n) = SpellsAddress6 text n
 
 -- the text is an address, `/` and a number to 32 or 128
-unfoldable pub SpellsCidr : List ℕ → Written → Type 0
-SpellsCidr text w = (front : List ℕ) × SpellsAddr front w.addr × (w.len ≤ width w.addr) × (text ≡ front ++ codes "/" ++ decimal w.len)
+unfoldable pub SpellsCidr : Text → Written → Type 0
+SpellsCidr text w = (front : Text) × SpellsAddr front w.addr × (w.len ≤ width w.addr) × (text ≡ front ++ codes "/" ++ decimal w.len)
 
 -- a text that spells one
-abbrev pub IsAddressText : List ℕ → Type 0
+abbrev pub IsAddressText : Text → Type 0
 IsAddressText text = (n : ℕ) × SpellsAddress text n
 
-abbrev pub IsAddress6Text : List ℕ → Type 0
+abbrev pub IsAddress6Text : Text → Type 0
 IsAddress6Text text = (n : ℕ) × SpellsAddress6 text n
 
-abbrev pub IsAddrText : List ℕ → Type 0
+abbrev pub IsAddrText : Text → Type 0
 IsAddrText text = (a : Addr) × SpellsAddr text a
 
-abbrev pub IsMacText : List ℕ → Type 0
+abbrev pub IsMacText : Text → Type 0
 IsMacText text = (n : ℕ) × SpellsMac text n
 
-abbrev pub IsCidrText : List ℕ → Type 0
+abbrev pub IsCidrText : Text → Type 0
 IsCidrText text = (w : Written) × SpellsCidr text w
 
 -- some text of the grammar begins with this text
-abbrev pub Begins : (List ℕ → Type 0) → List ℕ → Type 0
-Begins IsText text = (rest : List ℕ) × IsText (text ++ rest)
+abbrev pub Begins : (Text → Type 0) → Text → Type 0
+Begins IsText text = (rest : Text) × IsText (text ++ rest)
 
 -- the longest prefix of the text that begins a text of the grammar has length `at`
-pub record IsLongestStart (IsText : List ℕ → Type 0) (text : List ℕ) (at : ℕ) : Type 0 where
+pub record IsLongestStart (IsText : Text → Type 0) (text : Text) (at : ℕ) : Type 0 where
   pub within : at ≤ length text
   pub begins : Begins IsText (take at text)
   pub longest : (k : ℕ) → at < k → k ≤ length text → ¬ Begins IsText (take k text)
 
 -- the one canonical text of an address
-unfoldable pub address_text : ℕ → List ℕ
+unfoldable pub address_text : ℕ → Text
 address_text n = decimal (n / 2 ^ 24) ++ codes "." ++ decimal (n / 2 ^ 16 % 256) ++ codes "." ++ decimal (n / 2 ^ 8 % 256) ++ codes "." ++ decimal (n % 256)
 
 -- a byte as two hexadecimal digits in lower case
-abbrev pub pair_text : ℕ → List ℕ
+abbrev pub pair_text : ℕ → Text
 pair_text b = digit_glyph false (b / 16) ∷ digit_glyph false (b % 16) ∷ []
 
 -- the one canonical text of a MAC
-unfoldable pub mac_text : ℕ → List ℕ
+unfoldable pub mac_text : ℕ → Text
 mac_text n =
     pair_text (n / 2 ^ 40) ++ codes ":" ++ pair_text (n / 2 ^ 32 % 256) ++ codes ":" ++ pair_text (n / 2 ^ 24 % 256) ++ codes ":"
     ++ pair_text (n / 2 ^ 16 % 256) ++ codes ":" ++ pair_text (n / 2 ^ 8 % 256) ++ codes ":" ++ pair_text (n % 256)
 
 -- the one printed text of an address of either version
-abbrev pub addr_text : Addr → List ℕ
+abbrev pub addr_text : Addr → Text
 addr_text (V4 n) = address_text n
 addr_text (V6 n) = address6_text n
 
 -- the one printed text of a prefix
-unfoldable pub prefix_text : Prefix → List ℕ
+unfoldable pub prefix_text : Prefix → Text
 prefix_text p = addr_text p.base ++ codes "/" ++ decimal p.len

@@ -1,5 +1,5 @@
 ghost use Rattle.std.specs.Prelude.{◌≡◌, ◌↔◌, ℕ, ◌+◌, ◌-◌, ◌*◌, ◌/◌, ◌%◌, ◌^◌, ◌<◌, ◌≤◌, IsTrue, MatchOption, false, true};
-ghost use Rattle.net_addr.specs.Addresses.{IsAddr, addr_eq, number, width, renumbered, same_version, is_v4};
+ghost use Rattle.net_addr.specs.Addresses.{IsAddr, addr_eq, number, width, with_number, same_version, is_v4};
 ghost use Rattle.net_addr.specs.declared.address.Addr.{Addr as Address};
 ghost use Rattle.net_addr.specs.Macs.{is_unicast};
 ghost use Rattle.net_addr.specs.Ordered.{whole_prefix};
@@ -65,9 +65,9 @@ impl Addr {
     }
 
     // The address of the same version with another number.
-    fn renumbered(&self, n: u128) -> Addr
+    fn with_number(&self, n: u128) -> Addr
         requires { n < 2 ^ width self.now }
-        ensures { result ≡ renumbered self.now n }
+        ensures { result ≡ with_number self.now n }
     {
         match *self {
             Addr::V4(_) => Addr::V4(Addr4(n as u32)),
@@ -80,11 +80,11 @@ impl Addr {
         requires order { first ≤ last }
         requires bound { last < 2 ^ width self.now }
         ensures { result
-            ≡ record { first = renumbered self.now first; last = renumbered self.now last } }
+            ≡ record { first = with_number self.now first; last = with_number self.now last } }
     {
         Span {
-            first: self.renumbered(first),
-            last: self.renumbered(last),
+            first: self.with_number(first),
+            last: self.with_number(last),
         }
     }
 
@@ -122,23 +122,23 @@ impl Addr {
     /// The next address of the version, or None at the greatest.
     pub fn next(&self) -> Option<Addr>
         ensures { MatchOption result (number self.now + 1 ≡ 2 ^ width self.now)
-            (λ x. x ≡ renumbered self.now (number self.now + 1)) }
+            (λ x. x ≡ with_number self.now (number self.now + 1)) }
     {
         if self.number() == ones(self.width()) {
             return None;
         }
-        Some(self.renumbered(self.number() + 1))
+        Some(self.with_number(self.number() + 1))
     }
 
     /// The address of the version before, or None at the least.
     pub fn previous(&self) -> Option<Addr>
         ensures { MatchOption result (number self.now ≡ 0)
-            (λ x. x ≡ renumbered self.now (number self.now - 1)) }
+            (λ x. x ≡ with_number self.now (number self.now - 1)) }
     {
         if self.number() == 0 {
             return None;
         }
-        Some(self.renumbered(self.number() - 1))
+        Some(self.with_number(self.number() - 1))
     }
 }
 
@@ -159,13 +159,13 @@ impl Mac {
         ensures bound { result < 2 ^ 64 }
     {
         let first = self.0 >> 40;
-        let turned = if first / 2 % 2 == 0 {
+        let flipped = if first / 2 % 2 == 0 {
             first + 2
         } else {
             first - 2
         };
         let company = (self.0 >> 24) % 0x1_0000;
-        (turned << 56) + (company << 40) + 0xff_fe00_0000 + self.0 % 0x100_0000
+        (flipped << 56) + (company << 40) + 0xff_fe00_0000 + self.0 % 0x100_0000
     }
 }
 
@@ -179,7 +179,7 @@ impl Cidr {
         let number = self.addr.number();
         let base = number - trailing_bits(number, behind);
         Prefix {
-            base: self.addr.renumbered(base),
+            base: self.addr.with_number(base),
             len: self.len,
         }
     }
@@ -240,7 +240,7 @@ impl Prefix {
         ensures greatest { (x : Address) → Contains self x → number x ≤ number result }
     {
         let last = self.last_number();
-        self.base.renumbered(last)
+        self.base.with_number(last)
     }
 
     /// Whether an address is a host address: the prefix contains it, and it is neither the least
@@ -301,7 +301,7 @@ impl Prefix {
         ensures inside { Contains self result }
     {
         let number = self.base.number() + u128::from(mac.eui_number());
-        self.base.renumbered(number)
+        self.base.with_number(number)
     }
 
     /// Whether an address is the one that a port with this MAC takes in the prefix.

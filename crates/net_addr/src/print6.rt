@@ -1,5 +1,5 @@
 ghost use Rattle.std.specs.Prelude.{◌≡◌, ◌+◌, ◌++◌, ◌≤◌, ◌∷◌, [], length, IfOk, string_bytes, codes};
-ghost use Rattle.net_addr.specs.Printing6.{address6_text, groups, longest, more_text, row_text, zeros, shortened};
+ghost use Rattle.net_addr.specs.Printing6.{address6_text, groups, longest, more_text, row_text, zeros, short_text};
 
 use crate::address::Addr6;
 use crate::memory::OutOfMemory;

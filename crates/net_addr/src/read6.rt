@@ -112,7 +112,7 @@ fn whole(has_tail: bool) -> Form
 }
 
 // `::` between groups, for all the others.
-fn shortened(left: u8, right: u8, has_tail: bool) -> Form
+fn form_with_gap(left: u8, right: u8, has_tail: bool) -> Form
     requires { left + right < group_count has_tail }
     ensures { result ≡ shortened_parts has_tail left right }
 {
@@ -139,7 +139,7 @@ fn read_behind(left: u8, has_tail: bool, text: &[u8]) -> Result<u128, BadAddress
 {
     let mut at = 0;
     for right in 0..group_count(has_tail) - left {
-        let form = shortened(left, right, has_tail);
+        let form = form_with_gap(left, right, has_tail);
         match read_parts(form.as_slice(), text) {
             Ok(value) => return Ok(value),
             Err(bad) => at = at.max(bad.at),

@@ -1,4 +1,6 @@
-ghost use Rattle.std.specs.Prelude.{◌≡◌, ◌↔◌, [], ◌∷◌, ◌++◌, length, IfOk, IsTrue, OnOk, OnErr};
+ghost use Rattle.std.specs.Prelude.{◌≡◌, ◌↔◌, ◌<◌, ◌^◌, [], ◌∷◌, ◌++◌, length, IfOk, IsTrue, OnOk, OnErr};
+ghost use Rattle.std.specs.Iterator.Adapters.{IterYieldsInOrder, IterYieldsInReverse};
+ghost use Rattle.std.specs.Slice.Iter.{iter_rest};
 
 use crate::address::{Prefix, Span};
 use crate::equal::{Copies, Same};
@@ -6,6 +8,7 @@ use crate::memory::OutOfMemory;
 use crate::text::Text;
 use std::alloc::Global;
 use std::marker::Model;
+use std::slice::Iter;
 
 /// A list over a `Vec`. Contracts see it as a list, so its spare room counts for nothing.
 #[derive(Debug, Drop)]
@@ -76,6 +79,17 @@ impl<T> Seq<T> {
         ensures { result.now ≡ self.now }
     {
         self.items.as_slice()
+    }
+
+    /// Goes over the items, from the first.
+    pub fn iter(&self) -> Iter<'_, T>
+        ensures rest { iter_rest result ≡ self.now }
+        ensures len { length (iter_rest result) ≡ length self.now }
+        ensures bound { length (iter_rest result) < 2 ^ 64 }
+        ensures runs { IterYieldsInOrder T }
+        ensures runs_back { IterYieldsInReverse T }
+    {
+        self.items.iter()
     }
 
     /// Adds an item at the end, or leaves all as it is.

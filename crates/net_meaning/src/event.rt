@@ -15,7 +15,7 @@ use crate::ask::{asked, lease_asked, leased, out_of};
 use crate::guard::passes_guard;
 use crate::passage::passage_at;
 use crate::turn::{Fate, Trace, got};
-use api_types::{Direction, Id, NetworkRow, PortRow, Rows, is_router_port};
+use api_types::{Direction, Id, NetworkRow, PortRow, Rows};
 use net_addr::{OutOfMemory, Seq, Text};
 use plane_rows::{dhcp_port, holder, is_live, joined_with, network_on, port_at};
 use plane_types::{
@@ -192,7 +192,7 @@ fn from_port(
     let _own_ids = ports.rows();
     match ports.get(port) {
         Some(sender) => {
-            if is_live(rows, sender) && !is_router_port(&sender.owner) {
+            if is_live(rows, sender) && !sender.is_router_port() {
                 from_live(alloc, rows, entries, sender, frame)
             } else {
                 Ok(dropped(alloc, DropCause::Dead))

@@ -3,7 +3,7 @@ ghost use Rattle.plane_types.specs.Filter.{far_fits as fits_far, rule_matches as
 ghost use Rattle.api_types.specs.Members.{is_member as is_member_of};
 
 use api_secgroup::is_member;
-use api_types::{Direction, PortRow, Rows, RuleRow, names_group};
+use api_types::{Direction, PortRow, Rows, RuleRow};
 use net_addr::Addr;
 use plane_types::{Key, far_of, in_range, is_protocol};
 
@@ -39,6 +39,6 @@ pub(crate) fn rules_allow(rows: &Rows, port: &PortRow, direction: Direction, key
     ensures { result ≡ allowed_by_rules rows.now port.now direction key.now }
 {
     rows.rules().rows().iter().any(|rule| {
-        names_group(port, rule.group) && rule_matches(rows, direction, key, rule)
+        port.names_group(rule.group) && rule_matches(rows, direction, key, rule)
     })
 }

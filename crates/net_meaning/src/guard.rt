@@ -1,7 +1,7 @@
 ghost use Rattle.std.specs.Prelude.{◌≡◌};
 ghost use Rattle.plane_types.specs.Guard.{guards as guarded, may_ask_lease as may_ask, may_send as may_send_from, passes_guard as passes};
 
-use api_types::{PortRow, holds};
+use api_types::PortRow;
 use net_addr::{Addr, Mac};
 use plane_types::{Frame, has_pair_mac, is_allowed};
 
@@ -9,7 +9,7 @@ use plane_types::{Frame, has_pair_mac, is_allowed};
 fn may_send(port: &PortRow, mac: Mac, from: &Addr) -> bool
     ensures { result ≡ may_send_from port.now mac from.now }
 {
-    (port.mac == mac && holds(port, from)) || is_allowed(port.pairs.as_slice(), mac, *from)
+    (port.mac == mac && port.holds(from)) || is_allowed(port.pairs.as_slice(), mac, *from)
 }
 
 // Without an address, with its own MAC or a pair's.

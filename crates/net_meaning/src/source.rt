@@ -9,7 +9,7 @@ ghost use Rattle.api_types.specs.RouterViews.{Float};
 ghost use Rattle.plane_types.specs.Parts.{changed_of, packet_of, sourced_of, use_of};
 
 use crate::uses::{new_port, translates, with_key};
-use api_types::{Id, PortRow, RouterRow, Rows, is_interface};
+use api_types::{Id, PortRow, RouterRow, Rows};
 use net_addr::Addr4;
 use plane_rows::{floating_for, gateway_address, has_live_gateway};
 use plane_types::{
@@ -71,7 +71,7 @@ fn is_translated(rows: &Rows, router: &RouterRow, out: &PortRow, by: Changed) ->
         && (router_view rows.now router.now).snat
         && is_gateway_live (router_view rows.now router.now)) }
 {
-    (!is_interface(&out.owner) || by_float(by))
+    (!out.is_interface() || by_float(by))
         && translates(router)
         && has_live_gateway(rows, router)
 }
@@ -122,8 +122,8 @@ pub(crate) fn find_source(
         ≡ sourced_by (router_view rows.now router.now) (map use_of uses.now) (leg_of port.now)
         (leg_of out.now) (changed_of destined.now.by) (packet_of destined.now.packet) }
 {
-    let leaves = !is_interface(&out.owner) || by_any(destined.by);
-    if destined.packet.ends.are_four() && is_interface(&port.owner) && leaves {
+    let leaves = !out.is_interface() || by_any(destined.by);
+    if destined.packet.ends.are_four() && port.is_interface() && leaves {
         sourced_float(rows, router, uses, out, destined)
     } else {
         kept_source(&destined.packet)

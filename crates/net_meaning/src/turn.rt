@@ -9,7 +9,7 @@ ghost use Rattle.net_meaning.specs.Turns.{fate_of, passed_list, trace_of, turn_b
 use crate::ask::out_of;
 use crate::passage::passage_at;
 use crate::router::{Routed, Sent, route};
-use api_types::{Direction, Id, PortRow, RouterRow, Rows, is_router_port};
+use api_types::{Direction, Id, PortRow, RouterRow, Rows};
 use net_addr::{Mac, OutOfMemory, Seq};
 use plane_rows::{holder, joined_with, leg, router_of};
 use plane_types::{DropCause, Entry, Outcome, Packet, Toward};
@@ -175,7 +175,7 @@ fn arrived<'r>(
         → turn_by on t turn
         ≡ arrived_at rows.now entries.now on port.now (packet_of packet.now) t) }
 {
-    if is_router_port(&port.owner) {
+    if port.is_router_port() {
         at_router(alloc, rows, entries, fresh, port, packet)
     } else {
         Ok(received(rows, entries, fresh, port, packet))

@@ -2,9 +2,9 @@
 use Rattle.std.specs.Prelude.{ℕ, List, [], ◌∷◌, ◌++◌, Option, Some, None, codes, decimal}
 use Rattle.net_addr.specs.Spelling.{addr_text, mac_text}
 use Rattle.api_types.specs.Ident.{Ident, ident_text}
-use Rattle.api_types.specs.Titles.{title_of}
+use Rattle.api_types.specs.Titles.{resource_of, title_of}
 use Rattle.api_types.specs.declared.kind.Kind.{Kind}
-use Rattle.api_types.specs.declared.kind.Kind.TheVariants.{Project, Network, Subnet, Port, Group, Rule, Router, Floating, Policy}
+use Rattle.api_types.specs.declared.kind.Kind.TheVariants.{Rule}
 use Rattle.api_types.specs.declared.network.Segment.{Segment}
 use Rattle.api_types.specs.declared.network.Segment.TheVariants.{Local, Flat, Vlan, Vxlan}
 use Rattle.api_types.specs.declared.refusal.PolicyRule.{PolicyRule}
@@ -102,18 +102,6 @@ type_of StoreFault = codes "StoreFault"
 type_of OutOfMemory = codes "OutOfMemory"
 type_of (NoHost name) = codes "HostNotFound"
 type_of (NoMessage asked first last) = codes "MessageGone"
-
--- the word by which messages name a resource
-abbrev pub resource_of : Kind → List ℕ
-resource_of Project = codes "project"
-resource_of Network = codes "network"
-resource_of Subnet = codes "subnet"
-resource_of Port = codes "port"
-resource_of Group = codes "security_group"
-resource_of Rule = codes "security_group_rule"
-resource_of Router = codes "router"
-resource_of Floating = codes "floatingip"
-resource_of Policy = codes "rbac_policy"
 
 -- the name of a rule of policy
 abbrev pub rule_name : PolicyRule → List ℕ

@@ -1,8 +1,8 @@
 //! The status, the type and the message of each refusal.
 ghost use Rattle.std.specs.Prelude.{◌≡◌, ◌++◌, IfOk, codes, decimal};
 ghost use Rattle.api_types.specs.Ident.{ident_text};
-ghost use Rattle.api_types.specs.Titles.{title_of};
-ghost use Rattle.neutron_http.specs.Faults.{code_of, type_of, use_type, taken_type, exists_type, segment_type, resource_of, rule_name, body_message, user_text, value_text, message_of};
+ghost use Rattle.api_types.specs.Titles.{title_of, resource_of};
+ghost use Rattle.neutron_http.specs.Faults.{code_of, type_of, use_type, taken_type, exists_type, segment_type, rule_name, body_message, user_text, value_text, message_of};
 ghost use Rattle.neutron_http.specs.Replies.{IsReplyCode};
 
 use api_types::{Id, Kind, PolicyRule, Refusal, Segment, UseRule, Value};
@@ -148,23 +148,6 @@ fn around_id(alloc: Global, front: &str, id: Id, back: &str) -> Result<Text, Out
     around(alloc, front, id.as_str(), back)
 }
 
-// The word by which messages name a resource.
-fn resource_word(kind: Kind) -> &'static str
-    ensures { result.now ≡ resource_of kind }
-{
-    match kind {
-        Kind::Project => "project",
-        Kind::Network => "network",
-        Kind::Subnet => "subnet",
-        Kind::Port => "port",
-        Kind::Group => "security_group",
-        Kind::Rule => "security_group_rule",
-        Kind::Router => "router",
-        Kind::Floating => "floatingip",
-        Kind::Policy => "rbac_policy",
-    }
-}
-
 // The name of a rule of policy.
 fn rule_word(rule: PolicyRule) -> &'static str
     ensures { result.now ≡ rule_name rule }
@@ -200,7 +183,7 @@ fn user(alloc: Global, by: Option<(Kind, Id)>) -> Result<Text, OutOfMemory>
     match by {
         None => Text::of(alloc, "."),
         Some((kind, id)) => {
-            let word = resource_word(kind);
+            let word = kind.resource();
             let id = id.print(alloc)?;
             let id = id.as_str();
             Ok(Text::from_string(format!(in alloc; " by {word} {id}.")?))
@@ -275,7 +258,7 @@ fn over_quota(alloc: Global, resource: Kind, limit: u64, used: u64) -> Result<Te
         ≡ codes "Quota exceeded for " ++ resource_of resource ++ codes ": limit "
         ++ decimal limit ++ codes ", used " ++ decimal used ++ codes ".") }
 {
-    let word = resource_word(resource);
+    let word = resource.resource();
     Ok(Text::from_string(format!(in alloc;
         "Quota exceeded for {word}: limit {limit}, used {used}."
     )?))

@@ -6,7 +6,7 @@ use Rattle.api_types.specs.declared.call.InterfaceBy.{InterfaceBy}
 use Rattle.api_types.specs.declared.call.Query.{Query}
 use Rattle.api_types.specs.declared.form.Form.{Form}
 use Rattle.api_types.specs.declared.kind.Kind.{Kind}
-use Rattle.neutron_http.specs.Faults.{resource_of}
+use Rattle.api_types.specs.Titles.{resource_of}
 use Rattle.neutron_http.specs.declared.route.Method.{Method}
 use Rattle.neutron_http.specs.declared.route.Method.TheVariants.{Delete, Get, Post, Put}
 use Rattle.neutron_http.specs.declared.route.Route.{Route}

@@ -3,7 +3,7 @@ ghost use Rattle.std.specs.Prelude.{◌≡◌, IfOk, List, [], Option, Some, opt
 ghost use Rattle.serde_json.specs.View.{view};
 ghost use Rattle.plane_types.specs.declared.ask.Ask.TheVariants.{Lab};
 ghost use Rattle.plane_types.specs.declared.ask.LabCall.TheVariants.{Settle};
-ghost use Rattle.neutron_http.specs.Faults.{resource_of};
+ghost use Rattle.api_types.specs.Titles.{resource_of};
 ghost use Rattle.neutron_json.specs.Tables.{attributes_of, host_attributes, deliver_attributes};
 ghost use Rattle.neutron_json.specs.Forms.{form_of};
 ghost use Rattle.neutron_json.specs.Events.{event_attributes, event_of, host_of, deliver_of};
@@ -25,23 +25,6 @@ use neutron_http::{BodyRefusal, Method, Route, RoutePath};
 use plane_types::{Ask, LabCall};
 use serde_json::Value;
 use std::alloc::Global;
-
-// The member that holds one row of a kind.
-fn member_name(kind: Kind) -> &'static str
-    ensures { result.now ≡ resource_of kind }
-{
-    match kind {
-        Kind::Project => "project",
-        Kind::Network => "network",
-        Kind::Subnet => "subnet",
-        Kind::Port => "port",
-        Kind::Group => "security_group",
-        Kind::Rule => "security_group_rule",
-        Kind::Router => "router",
-        Kind::Floating => "floatingip",
-        Kind::Policy => "rbac_policy",
-    }
-}
 
 // The creation of a row of a kind.
 #[derive(Clone, Copy)]
@@ -222,7 +205,7 @@ fn ask_rows(
             alloc,
             &Creation { kind },
             Edit::Create,
-            member_name(kind),
+            kind.resource(),
             body,
         ),
     }
@@ -253,7 +236,7 @@ fn ask_row(
             alloc,
             &Update { kind, route },
             Edit::Update,
-            member_name(kind),
+            kind.resource(),
             body,
         ),
     }

@@ -17,7 +17,7 @@ use Rattle.neutron_http.specs.declared.route.Method.{Method}
 use Rattle.neutron_http.specs.declared.route.Method.TheVariants.{Delete, Get, Post, Put}
 use Rattle.neutron_http.specs.declared.route.RoutePath.{RoutePath}
 use Rattle.neutron_http.specs.declared.route.RoutePath.TheVariants as path
-use Rattle.neutron_http.specs.Faults.{resource_of}
+use Rattle.api_types.specs.Titles.{resource_of}
 use Rattle.neutron_http.specs.Queries.{QueryRead, Asks}
 use Rattle.neutron_http.specs.Queries as queries
 use Rattle.neutron_http.specs.Routes.{Routed, Nowhere, Without, To, route_of}

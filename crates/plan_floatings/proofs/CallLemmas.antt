@@ -28,7 +28,8 @@ use Rattle.api_types.specs.declared.refusal.Refusal.{Refusal}
 use Rattle.api_types.specs.declared.router.RouterRow.{RouterRow}
 use Rattle.call_parts.specs.Answers.{IsOrMemory, IsRefusalIn, IsRefusalOf}
 use Rattle.call_parts.specs.BodyNames.{text_of}
-use Rattle.call_parts.specs.Edits.{Add, Drop, Put, accepted, made, with_put}
+use Rattle.call_parts.specs.Edits.{Add, Drop, Put, accepted, made}
+use Rattle.api_types.specs.WithRows.{with_put}
 use Rattle.call_parts.specs.State.{State, drawing_at, is_last}
 use Rattle.plan_floatings.specs.FloatingCalls.{aim_asked, body_refusal, changed_floating, creation_refusal, deletion_refusal, floating_added, floating_changed, floating_deleted, floating_made, floating_replaced, floating_shown, floating_updated, floating_with, new_floating, outer_address, own_port, update_refusal}
 use Rattle.plan_floatings.specs.Plans.{floating_led, floating_on, lacking_refusal, outer_refusal, target_of, unjoined}

@@ -3,7 +3,7 @@ use Rattle.std.proofs.Common.{◌≡◌, ◌∙◌, ℕ, suc, ◌+◌, ◌-◌, 
 use Rattle.std.specs.Prelude.{filter, if◌then◌else◌, option_map, not, ◌&&◌, ◌==◌}
 use Rattle.std.specs.List.{list_all}
 use Rattle.std.specs.Option.{option_or}
-use Rattle.net_addr.specs.Addresses.{is_v4, number, renumbered, same_version}
+use Rattle.net_addr.specs.Addresses.{is_v4, number, with_number, same_version}
 use Rattle.net_addr.specs.Prefixes.{Prefix, Span, contains, is_host_of, last_number}
 use Rattle.net_addr.specs.declared.address.Addr.{Addr}
 use Rattle.net_addr.specs.declared.address.Addr.TheVariants.{V4, V6}
@@ -40,13 +40,13 @@ host_four p x four host =
     by (V4 m) (V6 n) f s = s
     by (V6 m) b f s = false_true _ f
 
-renumbered_four : (x : Addr) (n : ℕ) → is_v4 x ≡ true → is_v4 (renumbered x n) ≡ true
+renumbered_four : (x : Addr) (n : ℕ) → is_v4 x ≡ true → is_v4 (with_number x n) ≡ true
 renumbered_four (V4 m) n h = refl
 renumbered_four (V6 m) n h = h
 
 within_four : (free : Addr → Bool) (s : Span) (x : Addr) → is_v4 s.first ≡ true → least_within free s ≡ Some x → is_v4 x ≡ true
 within_four free s x four h =
-    let found = mapped (renumbered s.first) (least_from (λ n. free (renumbered s.first n)) (number s.first) (number s.last + 1 - number s.first)) x h in
+    let found = mapped (with_number s.first) (least_from (λ n. free (with_number s.first n)) (number s.first) (number s.last + 1 - number s.first)) x h in
     ap is_v4 (sym found.1) ∙ renumbered_four s.first found.0 four
 
 -- the least of the pools' addresses is of their version

@@ -1,7 +1,8 @@
 -- What calls on floating addresses come to (Networking API v2.0, floating IPs).
 use Rattle.api_types.specs.Association.{Aim, aim_at, with_target}
 use Rattle.call_parts.specs.BodyNames.{text_of, unless_found}
-use Rattle.call_parts.specs.Edits.{Add, Drop, Put, accepted, gone_from}
+use Rattle.call_parts.specs.Edits.{Add, Drop, Put, accepted}
+use Rattle.api_types.specs.WithRows.{gone_from}
 use Rattle.api_ipam.specs.FixedChoice.{floating_address}
 use Rattle.api_types.specs.HeldAddresses.{fixed_at, is_address_held, subnets_on}
 use Rattle.api_ipam.specs.MacChoice.{free_mac}

@@ -11,10 +11,7 @@ ghost use Rattle.api_types.specs.Table.{ident_eq};
 ghost use Rattle.api_types.specs.declared.port.Fixed.{Fixed as TheFixed};
 ghost use Rattle.api_types.specs.declared.router.Gateway.{Gateway as TheGateway};
 
-use api_types::{
-    Fixed, Gateway, Id, PortRow, RouterRow, Rows, Shared, device_is, holds_in, is_interface,
-    is_service,
-};
+use api_types::{Fixed, Gateway, Id, PortRow, RouterRow, Rows, Shared};
 use net_addr::{Addr, Addr4, Text};
 
 /// The number of an address of version 4.
@@ -68,14 +65,14 @@ pub(crate) fn is_foreign(project: &Text, port: &PortRow) -> bool
     ensures { result
         ≡ (not (bytes_eq port.now.project project.now) || service_of port.now.owner) }
 {
-    port.project != *project || is_service(&port.owner)
+    port.project != *project || port.is_service()
 }
 
 fn has_interface(ports: &[Shared<PortRow>], router: Id, subnet: Id) -> bool
     ensures { result ≡ has_interface_of ports.now router subnet }
 {
     ports.iter().any(|port| {
-        is_interface(&port.owner) && (device_is(&port.device, router) && holds_in(subnet, port))
+        port.is_interface() && (port.has_device(router) && port.holds_in(subnet))
     })
 }
 

@@ -15,7 +15,7 @@ ghost use Rattle.plan_floatings.specs.Plans.{outer_refusal};
 
 use crate::rules::subnet_with;
 use api_ipam::{HeldAddresses, choose_mac, floating_address, subnets_on};
-use api_types::{Fixed, Id, PortRow, Refusal, Rows, Shared, Value, holds};
+use api_types::{Fixed, Id, PortRow, Refusal, Rows, Shared, Value};
 use net_addr::{Addr, Addr4, Mac, OutOfMemory};
 use std::alloc::Global;
 
@@ -32,7 +32,7 @@ fn is_address_held(ports: &[Shared<PortRow>], network: Id, address: &Addr) -> bo
 {
     ports
         .iter()
-        .any(|port| network == port.network && holds(port, address))
+        .any(|port| network == port.network && port.holds(address))
 }
 
 /// Refuses an address that is named and that a port of the network holds. Its cost grows with the

@@ -9,9 +9,7 @@ ghost use Rattle.plan_floatings.specs.FloatingRules.{bad_address, bad_aim, bad_o
 ghost use Rattle.plan_floatings.specs.Plans.{form_refusal, lacking_refusal};
 
 use crate::aim::{fixed_for, is_foreign};
-use api_types::{
-    Caller, FloatingForm, Id, NetworkRow, PortRow, Refusal, Rows, SubnetRow, is_external_to,
-};
+use api_types::{Caller, FloatingForm, Id, NetworkRow, PortRow, Refusal, Rows, SubnetRow};
 use call_parts::{are_unlike, invalid, is_for_other, is_given, value_of};
 use net_addr::{Addr, Addr4, Text};
 use std::alloc::Global;
@@ -51,7 +49,7 @@ fn is_external(
 ) -> Result<(), Refusal>
     ensures { Passes (bad_outside rows.now owner.now network.now) result }
 {
-    if is_external_to(rows, network.id, owner) {
+    if rows.is_external_to(network.id, owner) {
         return Ok(());
     }
     Err(invalid(alloc, "floating_network_id"))

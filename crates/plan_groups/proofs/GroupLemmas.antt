@@ -16,7 +16,8 @@ use Rattle.api_types.specs.declared.kind.Row.TheVariants.{Group}
 use Rattle.api_types.specs.declared.refusal.Refusal.{Refusal}
 use Rattle.api_types.specs.declared.refusal.Refusal.TheVariants.{CountersSpent, OutOfMemory}
 use Rattle.call_parts.specs.Answers.{IsRefusalIn, IsRefusalOf}
-use Rattle.call_parts.specs.Edits.{Add, made, with_put}
+use Rattle.call_parts.specs.Edits.{Add, made}
+use Rattle.api_types.specs.WithRows.{with_put}
 use Rattle.call_parts.specs.State.{State, drawing_at}
 use Rattle.net_settings.specs.Settings.{SettingsParts}
 use Rattle.plan_groups.specs.GroupCalls.{changed_group, group_added, group_creation_refusal, group_made, group_replaced, group_shown, group_update_refusal, group_updated, new_group}

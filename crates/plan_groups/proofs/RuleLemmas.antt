@@ -19,7 +19,8 @@ use Rattle.api_types.specs.declared.refusal.Refusal.{Refusal}
 use Rattle.api_types.specs.declared.refusal.Refusal.TheVariants.{CountersSpent, OutOfMemory}
 use Rattle.call_parts.specs.Answers.{IsOrMemory, IsRefusalIn, IsRefusalOf}
 use Rattle.call_parts.specs.BodyNames.{no_id, text_of, unless_all}
-use Rattle.call_parts.specs.Edits.{Drop, accepted, with_added, without_row}
+use Rattle.call_parts.specs.Edits.{Drop, accepted}
+use Rattle.api_types.specs.WithRows.{with_added, without_row}
 use Rattle.call_parts.specs.State.{State, drawing_at}
 use Rattle.net_settings.specs.Settings.{SettingsParts}
 use Rattle.plan_groups.specs.GroupCalls.{is_remote_seen, rule_added, rule_body_refusal, rule_created, rule_creation_refusal, rule_deleted, rule_deletion_refusal, rule_shown}

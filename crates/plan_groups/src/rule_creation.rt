@@ -12,7 +12,7 @@ ghost use Rattle.api_types.specs.declared.kind.Kind.TheVariants.{Group as GroupK
 ghost use Rattle.api_types.specs.declared.kind.Row.TheVariants.{Rule as RuleOf};
 ghost use Rattle.api_policy.specs.Checks.{IsAnswerOf};
 ghost use Rattle.call_parts.specs.BodyNames.{unless_all};
-ghost use Rattle.call_parts.specs.Edits.{with_added};
+ghost use Rattle.api_types.specs.WithRows.{with_added};
 ghost use Rattle.call_parts.specs.State.{State};
 ghost use Rattle.call_parts.specs.Answers.{IsRefusalIn, IsRefusalOf, Passes};
 ghost use Rattle.plan_groups.specs.GroupCalls.{is_remote_for as is_remote_for_of, is_remote_seen as is_remote_seen_of, rule_created, rule_creation_refusal, rule_shown};

@@ -16,7 +16,8 @@ use Rattle.api_types.specs.declared.policy.Action.{Action}
 use Rattle.api_types.specs.declared.policy.PolicyRow.{PolicyRow}
 use Rattle.api_types.specs.declared.port.PortRow.{PortRow}
 use Rattle.api_types.specs.declared.subnet.SubnetRow.{SubnetRow}
-use Rattle.call_parts.specs.Edits.{Add, Drop, dropped, edited, made, with_put}
+use Rattle.call_parts.specs.Edits.{Add, Drop, dropped, edited, made}
+use Rattle.api_types.specs.WithRows.{with_put}
 use Rattle.plan_networks.specs.NetworkCalls.{changed_network, closing, is_cleared, is_opened, network_edits, network_gone, new_open_policy, one_if, opening, openings, opens, reopening}
 use Rattle.call_parts.proofs.EditLemmas.{dropped_ids, made-append}
 use Rattle.call_parts.proofs.AbsentLemmas.{absent_filtered, absent_pushed, later_id}

@@ -1,6 +1,7 @@
 -- What calls on RBAC policies come to (Networking API v2.0, RBAC policies).
 use Rattle.call_parts.specs.BodyNames.{no_id, text_of}
-use Rattle.call_parts.specs.Edits.{Add, Drop, Put, accepted, gone_from, put_in}
+use Rattle.call_parts.specs.Edits.{Add, Drop, Put, accepted}
+use Rattle.api_types.specs.WithRows.{gone_from, put_in}
 use Rattle.api_policy.specs.Permits.{admin_only, network_owner, owner_only}
 use Rattle.api_policy.specs.Quotas.{over_quota}
 use Rattle.api_policy.specs.Seen.{network_seen, policy_seen}

@@ -12,7 +12,7 @@ ghost use Rattle.api_types.specs.declared.kind.Row.TheVariants.{Policy as Policy
 ghost use Rattle.api_types.specs.declared.policy.PolicyRow.{PolicyRow as ThePolicy};
 ghost use Rattle.api_policy.specs.Checks.{IsAnswerOf};
 ghost use Rattle.call_parts.specs.BodyNames.{no_id};
-ghost use Rattle.call_parts.specs.Edits.{with_added};
+ghost use Rattle.api_types.specs.WithRows.{with_added};
 ghost use Rattle.call_parts.specs.InForm.{are_owners};
 ghost use Rattle.call_parts.specs.State.{State};
 ghost use Rattle.plan_policies.specs.Open.{IsOpen};

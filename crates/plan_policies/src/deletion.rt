@@ -6,7 +6,7 @@ ghost use Rattle.api_types.specs.Printed.{NoRow};
 ghost use Rattle.api_types.specs.declared.policy.PolicyRow.{PolicyRow as ThePolicy};
 ghost use Rattle.api_policy.specs.Checks.{IsAnswerOf};
 ghost use Rattle.api_policy.specs.Uses.{policy_in_use as policy_in_use_of};
-ghost use Rattle.call_parts.specs.Edits.{gone_from};
+ghost use Rattle.api_types.specs.WithRows.{gone_from};
 ghost use Rattle.call_parts.specs.State.{State};
 ghost use Rattle.call_parts.specs.Answers.{IsRefusalOf};
 ghost use Rattle.plan_policies.specs.PolicyCalls.{deletion_refusal, policy_deleted};

@@ -5,7 +5,7 @@ ghost use Rattle.std.specs.Str.{bytes_eq};
 ghost use Rattle.api_types.specs.Sharing.{is_action};
 ghost use Rattle.api_types.specs.Table.{ident_eq};
 ghost use Rattle.api_policy.specs.Checks.{IsAnswerOf};
-ghost use Rattle.call_parts.specs.Edits.{gone_from};
+ghost use Rattle.api_types.specs.WithRows.{gone_from};
 ghost use Rattle.api_types.specs.declared.policy.PolicyRow.{PolicyRow as ThePolicy};
 ghost use Rattle.api_policy.specs.Standing.{aimed};
 ghost use Rattle.plan_policies.specs.PolicyCalls.{equal_policy, policy_exists as policy_exists_of};

@@ -7,7 +7,7 @@ ghost use Rattle.api_types.specs.Printed.{OneRow};
 ghost use Rattle.api_types.specs.declared.policy.PolicyRow.{PolicyRow as ThePolicy};
 ghost use Rattle.api_policy.specs.Checks.{IsAnswerOf};
 ghost use Rattle.api_policy.specs.Uses.{policy_in_use as policy_in_use_of};
-ghost use Rattle.call_parts.specs.Edits.{gone_from, put_in};
+ghost use Rattle.api_types.specs.WithRows.{gone_from, put_in};
 ghost use Rattle.call_parts.specs.State.{State};
 ghost use Rattle.call_parts.specs.Answers.{IsRefusalOf};
 ghost use Rattle.plan_policies.specs.PolicyCalls.{changed_policy as changed_policy_of, equal_policy, policy_exists as policy_exists_of, policy_shown, policy_updated, update_refusal};

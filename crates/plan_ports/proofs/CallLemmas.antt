@@ -32,7 +32,7 @@ use Rattle.api_types.specs.declared.subnet.SubnetRow.{SubnetRow}
 use Rattle.api_types.proofs.ListLemmas.{and_both}
 use Rattle.call_parts.specs.Answers.{IsOrMemory, IsRefusalIn, IsRefusalOf}
 use Rattle.call_parts.specs.BodyNames.{text_of, unless_all}
-use Rattle.call_parts.specs.Edits.{with_added}
+use Rattle.api_types.specs.WithRows.{with_added}
 use Rattle.call_parts.specs.InForm.{are_owners, is_port_body}
 use Rattle.call_parts.specs.State.{State, drawing_at, is_last}
 use Rattle.net_settings.specs.Settings.{SettingsParts}

@@ -12,7 +12,7 @@ ghost use Rattle.api_types.specs.declared.kind.Row.TheVariants.{Port as PortOf};
 ghost use Rattle.api_types.specs.declared.port.PortRow.{PortRow as ThePort};
 ghost use Rattle.api_types.specs.declared.refusal.Refusal.TheVariants.{OutOfMemory as MemoryRefusal, PoolsSpent as SpentPools};
 ghost use Rattle.call_parts.specs.Answers.{IsRefusalOf, drawing_of};
-ghost use Rattle.call_parts.specs.Edits.{with_added};
+ghost use Rattle.api_types.specs.WithRows.{with_added};
 ghost use Rattle.call_parts.specs.InForm.{is_port_body};
 ghost use Rattle.call_parts.specs.State.{State};
 ghost use Rattle.plan_ports.specs.Plans.{first_fixed, ids_drawn};

@@ -17,7 +17,8 @@ use Rattle.api_types.specs.declared.refusal.Refusal.TheVariants.{CountersSpent, 
 use Rattle.api_types.specs.declared.refusal.Refusal.{Refusal}
 use Rattle.api_types.specs.declared.router.RouterRow.{RouterRow}
 use Rattle.call_parts.specs.Answers.{IsRefusalIn, IsRefusalOf}
-use Rattle.call_parts.specs.Edits.{Add, made, with_added}
+use Rattle.call_parts.specs.Edits.{Add, made}
+use Rattle.api_types.specs.WithRows.{with_added}
 use Rattle.call_parts.specs.State.{State, drawing_at}
 use Rattle.net_settings.specs.Settings.{SettingsParts}
 use Rattle.plan_routers.specs.Plans.{outer_refusal}

@@ -17,7 +17,7 @@ use Rattle.api_types.specs.declared.refusal.Refusal.{Refusal}
 use Rattle.api_types.specs.declared.router.RouterRow.{RouterRow}
 use Rattle.api_types.specs.declared.subnet.SubnetRow.{SubnetRow}
 use Rattle.call_parts.specs.Answers.{IsRefusalIn, IsRefusalOf}
-use Rattle.call_parts.specs.Edits.{with_added}
+use Rattle.api_types.specs.WithRows.{with_added}
 use Rattle.call_parts.specs.State.{State, drawing_at}
 use Rattle.net_addr.specs.declared.address.Addr.{Addr}
 use Rattle.net_settings.specs.Settings.{SettingsParts}

@@ -16,7 +16,7 @@ ghost use Rattle.api_types.specs.declared.port.PortRow.{PortRow as ThePort};
 ghost use Rattle.api_types.specs.declared.refusal.Refusal.TheVariants.{Taken as TakenBy};
 ghost use Rattle.api_types.specs.declared.refusal.Value.TheVariants.{Address as AddressValue};
 ghost use Rattle.call_parts.specs.Answers.{IsRefusalOf, Passes};
-ghost use Rattle.call_parts.specs.Edits.{with_added, with_put};
+ghost use Rattle.api_types.specs.WithRows.{with_added, with_put};
 ghost use Rattle.call_parts.specs.State.{State};
 ghost use Rattle.plan_routers.specs.InterfaceCalls.{added_by_port, added_by_subnet, first_subnet as first_subnet_of, interface_added, interface_by, interface_port as interface_port_of, interface_shown as interface_shown_of, port_refusal, subnet_refusal, taken_over as taken_over_of};
 
@@ -30,7 +30,7 @@ use api_policy::{
 };
 use api_types::{
     Caller, Fixed, Id, IdText, InterfaceBy, Kind, NetworkRow, PortRow, Refusal, RouterRow, Rows,
-    Shared, Shown, SubnetRow, Value, holds,
+    Shared, Shown, SubnetRow, Value,
 };
 use call_parts::{Draft, Drawn, invalid, none_with_id, not_found};
 use net_addr::{Addr, Mac, OutOfMemory};
@@ -42,7 +42,7 @@ fn is_held(ports: &[Shared<PortRow>], network: Id, address: &Addr) -> bool
 {
     ports
         .iter()
-        .any(|port| network == port.network && holds(port, address))
+        .any(|port| network == port.network && port.holds(address))
 }
 
 fn unless_held(rows: &Rows, network: Id, address: &Addr) -> Result<(), Refusal>

@@ -17,7 +17,6 @@ use crate::ways::{
 use api_policy::{floating_by, floating_through, is_empty, loses_route, named_by_device};
 use api_types::{
     Gateway, Hop, Id, InterfaceBy, Kind, NetworkRow, PortRow, RouterRow, Routes, Rows, SubnetRow,
-    is_external_to, is_service,
 };
 
 /// Why a call on a router is forbidden by its rows. A use tells the row that uses what would go.
@@ -58,7 +57,7 @@ fn check_device(rows: &Rows, port: &PortRow) -> Result<(), RouterRefusal>
         (told_if (is_service_of port.now.owner || not (is_empty_list port.now.device))
         (UsedPort (device_user_of rows.now port.now))) result }
 {
-    if is_service(&port.owner) {
+    if port.is_service() {
         let by = named_by_device(rows, &port.device);
         return Err(RouterRefusal::PortInUse { by });
     }
@@ -194,7 +193,7 @@ pub fn check_remove(rows: &Rows, router: Id, by: &InterfaceBy) -> Result<Id, Rou
 fn is_bad_gateway(rows: &Rows, router: &RouterRow, network: &NetworkRow) -> bool
     ensures { result ≡ is_bad_gateway_of rows.now router.now network.now }
 {
-    !is_external_to(rows, network.id, &router.project) || overlaps_interface(rows, router, network)
+    !rows.is_external_to(network.id, &router.project) || overlaps_interface(rows, router, network)
 }
 
 fn check_on(rows: &Rows, router: &RouterRow, network: Id) -> Result<(), RouterRefusal>

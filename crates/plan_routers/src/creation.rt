@@ -11,7 +11,8 @@ ghost use Rattle.api_types.specs.declared.kind.Row.TheVariants.{Router as Router
 ghost use Rattle.api_types.specs.declared.port.PortRow.{PortRow as ThePort};
 ghost use Rattle.api_types.specs.declared.router.RouterRow.{RouterRow as TheRouter};
 ghost use Rattle.call_parts.specs.Answers.{IsRefusalOf, Passes};
-ghost use Rattle.call_parts.specs.Edits.{Add, made, with_added};
+ghost use Rattle.call_parts.specs.Edits.{Add, made};
+ghost use Rattle.api_types.specs.WithRows.{with_added};
 ghost use Rattle.call_parts.specs.InForm.{are_owners};
 ghost use Rattle.call_parts.specs.State.{State};
 ghost use Rattle.plan_routers.specs.Plans.{first_body_refusal, first_standing_refusal};

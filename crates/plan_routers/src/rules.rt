@@ -16,7 +16,7 @@ use crate::ways::{has_bad_hop, is_bad_leg, overlaps_interface, overlaps_leg};
 use api_policy::network_seen;
 use api_types::{
     Caller, Given, Id, Kind, NetworkRow, PortRow, Refusal, RouterForm, RouterRow, Routes, Rows,
-    SubnetRow, is_external_to,
+    SubnetRow,
 };
 use call_parts::{invalid, is_for_other, none_with_id};
 use net_addr::Text;
@@ -32,7 +32,7 @@ fn check_external(
 ) -> Result<(), Refusal>
     ensures { Passes (bad_gateway rows.now project.now [] network.now) result }
 {
-    if !is_external_to(rows, network.id, project) {
+    if !rows.is_external_to(network.id, project) {
         return Err(invalid(alloc, "external_gateway_info"));
     }
     Ok(())
@@ -84,7 +84,7 @@ fn check_next_gateway(
         (bad_gateway rows.now router.now.project (interfaces_of rows.now.ports router.now)
         network.now) result }
 {
-    let is_external = is_external_to(rows, network.id, &router.project);
+    let is_external = rows.is_external_to(network.id, &router.project);
     if !is_external || overlaps_interface(rows, router, network) {
         return Err(invalid(alloc, "external_gateway_info"));
     }

@@ -12,16 +12,13 @@ ghost use Rattle.api_types.specs.declared.subnet.SubnetRow.{SubnetRow as TheSubn
 ghost use Rattle.plan_routers.specs.RouterRules.{is_bad_leg as bad_leg, overlaps_interface as overlaps_interface_of, overlaps_leg as overlaps_leg_of};
 ghost use Rattle.plan_routers.specs.Ways.{meets_network as meets_network_of};
 
-use api_types::{
-    Fixed, Hop, Id, NetworkRow, PortRow, RouterRow, Rows, Shared, SubnetRow, holds, holds_in,
-    is_interface, is_port_of, reaches, touches,
-};
+use api_types::{Fixed, Hop, Id, NetworkRow, PortRow, RouterRow, Rows, Shared, SubnetRow};
 use net_addr::{Addr, Prefix};
 
 fn is_interface_of(router: &RouterRow, port: &PortRow) -> bool
     ensures { result ≡ (interface_owner port.now.owner && port_of router.now port.now) }
 {
-    is_interface(&port.owner) && is_port_of(router, port)
+    port.is_interface() && port.is_of(router)
 }
 
 /// The router's first interface that holds an address in the subnet. Its cost grows with the ports.
@@ -34,7 +31,7 @@ pub(crate) fn interface_in<'r>(
         ≡ find (holds_in_of subnet) (interfaces_of ports.now router.now) }
 {
     for port in ports {
-        if is_interface_of(router, port) && holds_in(subnet, port) {
+        if is_interface_of(router, port) && port.holds_in(subnet) {
             return Some(port);
         }
     }
@@ -62,7 +59,7 @@ fn meets_network(subnets: &[Shared<SubnetRow>], network: Id, port: &PortRow) -> 
     ensures { result ≡ meets_network_of subnets.now network port.now }
 {
     for subnet in subnets {
-        if network == subnet.network && touches(subnets, &subnet.prefix, port) {
+        if network == subnet.network && port.touches(subnets, &subnet.prefix) {
             return true;
         }
     }
@@ -111,7 +108,7 @@ fn touches_leg(
         ≡ list_any (touches_of subnets.now prefix.now) (router_ports ports.now router.now) }
 {
     for port in ports {
-        if is_port_of(router, port) && touches(subnets, prefix, port) {
+        if port.is_of(router) && port.touches(subnets, prefix) {
             return true;
         }
     }
@@ -144,7 +141,7 @@ fn is_overlapping(rows: &Rows, router: &RouterRow, port: &PortRow, subnet: &Subn
     ensures { result
         ≡ (holds_in_of subnet.now.id port.now && overlaps_leg_of rows.now router.now subnet.now) }
 {
-    holds_in(subnet.id, port) && overlaps_leg(rows, router, subnet)
+    port.holds_in(subnet.id) && overlaps_leg(rows, router, subnet)
 }
 
 fn has_overlapping(
@@ -176,7 +173,7 @@ fn is_held(ports: &[Shared<PortRow>], router: &RouterRow, address: &Addr) -> boo
         ≡ list_any (is_own_address address.now) (router_ports ports.now router.now) }
 {
     for port in ports {
-        if is_port_of(router, port) && holds(port, address) {
+        if port.is_of(router) && port.holds(address) {
             return true;
         }
     }
@@ -193,7 +190,7 @@ fn is_reached(
         ≡ list_any (reaches_of subnets.now address.now) (router_ports ports.now router.now) }
 {
     for port in ports {
-        if is_port_of(router, port) && reaches(subnets, address, port) {
+        if port.is_of(router) && port.reaches(subnets, address) {
             return true;
         }
     }

@@ -7,7 +7,8 @@ use Rattle.api_types.specs.declared.kind.Row.TheVariants.{Subnet}
 use Rattle.api_types.specs.declared.network.NetworkRow.{NetworkRow}
 use Rattle.api_types.specs.declared.port.Fixed.{Fixed}
 use Rattle.api_types.specs.declared.subnet.SubnetRow.{SubnetRow}
-use Rattle.call_parts.specs.Edits.{made, with_put}
+use Rattle.call_parts.specs.Edits.{made}
+use Rattle.api_types.specs.WithRows.{with_put}
 use Rattle.net_settings.specs.Settings.{SettingsParts}
 use Rattle.plan_subnets.specs.DhcpUpkeep.{begin_serving, end_serving}
 use Rattle.plan_subnets.specs.SubnetCalls.{subnet_edits}

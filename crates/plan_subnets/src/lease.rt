@@ -9,7 +9,7 @@ ghost use Rattle.plan_subnets.specs.Plans.{lease_refusal};
 ghost use Rattle.api_types.specs.Consistent.InForm.{is_eui as is_eui_of};
 
 use api_ipam::{HeldAddresses, choose_mac, eui_of, is_eui, least_free_address};
-use api_types::{Id, PortRow, Refusal, Rows, Shared, SubnetRow, is_dhcp};
+use api_types::{Id, PortRow, Refusal, Rows, Shared, SubnetRow};
 use net_addr::{Addr, Mac, OutOfMemory};
 use std::alloc::Global;
 
@@ -28,7 +28,7 @@ pub(crate) fn dhcp_port_on(ports: &[Shared<PortRow>], network: Id) -> Option<&Sh
 {
     ports
         .iter()
-        .find(|port| network == port.network && is_dhcp(&port.owner))
+        .find(|port| network == port.network && port.is_dhcp())
 }
 
 fn makes_dhcp_port(ports: &[Shared<PortRow>], network: Id, begins: bool) -> bool

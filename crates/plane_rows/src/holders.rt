@@ -2,7 +2,7 @@ ghost use Rattle.std.specs.Prelude.{◌≡◌, find, option_copied};
 ghost use Rattle.api_types.specs.Holders.{dhcp_port as dhcp_by_rows, floating_holder as holder_by_floating, floats_at, gateway_port as gateway_by_rows, has_mac as has_mac_by_rows, held_by_floating as held_by_any_floating, holder as holder_by_rows, holds_live as holds_live_by_rows, is_live_dhcp_of, live_on as live_port_on, port_at as port_by_mac, router_named, router_of as router_by_rows, target_router as target_by_rows};
 
 use crate::live::is_live;
-use api_types::{FloatingRow, Id, PortRow, RouterRow, Rows, Target, device_is, holds, is_dhcp};
+use api_types::{FloatingRow, Id, PortRow, RouterRow, Rows, Target};
 use net_addr::{Addr, Mac};
 
 fn has_mac(rows: &Rows, network: Id, mac: Mac, port: &PortRow) -> bool
@@ -26,7 +26,7 @@ pub fn port_at(rows: &Rows, network: Id, mac: Mac) -> Option<&PortRow>
 fn holds_live(rows: &Rows, network: Id, address: &Addr, port: &PortRow) -> bool
     ensures { result ≡ holds_live_by_rows rows.now network address.now port.now }
 {
-    network == port.network && holds(port, address) && is_live(rows, port)
+    network == port.network && port.holds(address) && is_live(rows, port)
 }
 
 fn fixed_holder<'r>(rows: &'r Rows, network: Id, address: &Addr) -> Option<&'r PortRow>
@@ -124,7 +124,7 @@ pub fn holder<'r>(rows: &'r Rows, network: Id, address: &Addr) -> Option<&'r Por
 fn is_live_dhcp(rows: &Rows, network: Id, port: &PortRow) -> bool
     ensures { result ≡ is_live_dhcp_of rows.now network port.now }
 {
-    network == port.network && is_dhcp(&port.owner) && is_live(rows, port)
+    network == port.network && port.is_dhcp() && is_live(rows, port)
 }
 
 /// The live DHCP port of a network. Its cost grows with the ports.
@@ -144,7 +144,7 @@ pub fn router_of<'r>(rows: &'r Rows, port: &PortRow) -> Option<&'r RouterRow>
     ensures { option_copied result ≡ router_by_rows rows.now port.now }
 {
     for router in rows.routers().rows() {
-        if device_is(&port.device, router.id) {
+        if port.has_device(router.id) {
             return Some(router);
         }
     }

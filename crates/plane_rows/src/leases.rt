@@ -5,7 +5,7 @@ ghost use Rattle.api_types.specs.declared.port.Fixed.{Fixed as TheFixed};
 ghost use Rattle.api_types.specs.Leases.{lease_for as lease_of_port, lease_in as lease_by, lease_of as lease_from};
 
 use crate::ways::named_subnet;
-use api_types::{Fixed, Lease, PortRow, Rows, SubnetRow, holds_in};
+use api_types::{Fixed, Lease, PortRow, Rows, SubnetRow};
 use net_addr::{Copies, OutOfMemory};
 use std::alloc::Global;
 
@@ -37,7 +37,7 @@ fn fixed_leased(dhcp: &PortRow, port: &PortRow) -> Option<Fixed>
         ≡ find (λ (f : TheFixed). is_v4 f.address && held_in f.subnet dhcp.now) port.now.fixed }
 {
     for fixed in port.fixed.as_slice() {
-        if fixed.address.is_v4() && holds_in(fixed.subnet, dhcp) {
+        if fixed.address.is_v4() && dhcp.holds_in(fixed.subnet) {
             return Some(*fixed);
         }
     }

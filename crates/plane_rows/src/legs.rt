@@ -9,7 +9,7 @@ ghost use Rattle.api_types.specs.Owners.{is_router_port as router_port_of};
 ghost use Rattle.plane_rows.specs.Named.{is_leg_at};
 
 use crate::live::is_live;
-use api_types::{PortRow, Rows, is_router_port};
+use api_types::{PortRow, Rows};
 use net_addr::OutOfMemory;
 use std::alloc::Global;
 use std::collections::HashMap;
@@ -43,7 +43,7 @@ impl<'r> Model for Legs<'r> {
 fn is_any_leg(rows: &Rows, port: &PortRow) -> bool
     ensures { result ≡ (router_port_of port.now.owner && live_by_rows rows.now port.now) }
 {
-    is_router_port(&port.owner) && is_live(rows, port)
+    port.is_router_port() && is_live(rows, port)
 }
 
 // Takes the ports with a device out.

@@ -12,14 +12,14 @@ ghost use Rattle.api_types.specs.RouterViews.{Float};
 
 use crate::holders::gateway_port;
 use crate::live::is_live;
-use api_types::{FloatingRow, Id, PortRow, RouterRow, Rows, holds, is_interface, is_port_of};
+use api_types::{FloatingRow, Id, PortRow, RouterRow, Rows};
 use net_addr::{Addr, Addr4};
 
 /// Whether a port is a live port of the router.
 pub fn is_leg(rows: &Rows, router: &RouterRow, port: &PortRow) -> bool
     ensures { result ≡ is_leg_of rows.now router.now port.now }
 {
-    is_port_of(router, port) && is_live(rows, port)
+    port.is_of(router) && is_live(rows, port)
 }
 
 /// The live port of the router with this id. Its cost grows with the ports.
@@ -44,7 +44,7 @@ pub fn is_own_address(rows: &Rows, router: &RouterRow, address: &Addr) -> bool
         ≡ list_any (λ (p : ThePort). holds_address p address.now) (legs_of rows.now router.now) }
 {
     for port in rows.ports().rows() {
-        if is_leg(rows, router, port) && holds(port, address) {
+        if is_leg(rows, router, port) && port.holds(address) {
             return true;
         }
     }
@@ -59,7 +59,7 @@ pub fn has_live_gateway(rows: &Rows, router: &RouterRow) -> bool
         ≡ list_any (λ (p : ThePort). not (interface_of p.owner)) (legs_of rows.now router.now) }
 {
     for port in rows.ports().rows() {
-        if is_leg(rows, router, port) && !is_interface(&port.owner) {
+        if is_leg(rows, router, port) && !port.is_interface() {
             return true;
         }
     }

@@ -1,6 +1,6 @@
 ghost use Rattle.std.specs.Prelude.{◌≡◌, ◌++◌, List, IfOk, OnOk, Some, find, flat_map, map, option_copied, option_map, option_to_list};
 ghost use Rattle.std.specs.List.{filter_map};
-ghost use Rattle.net_addr.specs.Addresses.{renumbered};
+ghost use Rattle.net_addr.specs.Addresses.{with_number};
 ghost use Rattle.api_types.specs.declared.port.Fixed.{Fixed as TheFixed};
 ghost use Rattle.api_types.specs.declared.port.PortRow.{PortRow as ThePort};
 ghost use Rattle.api_types.specs.declared.subnet.SubnetRow.{SubnetRow as TheSubnet};
@@ -187,7 +187,7 @@ fn add_extra(
 
 // 0.0.0.0/0, or ::/0 in version 6.
 fn everything(gateway: &Addr) -> Prefix
-    ensures { result ≡ record { base = renumbered gateway.now 0; len = 0 } }
+    ensures { result ≡ record { base = with_number gateway.now 0; len = 0 } }
 {
     match gateway {
         Addr::V4(_) => Prefix {

@@ -1,8 +1,9 @@
 -- Each project has its default group, groups are used within their project, and no rule stands twice in a group.
-use Rattle.std.specs.Prelude.{◌≡◌, ℕ, ◌==◌, ◌&&◌, ◌||◌, not, Bool, true, false, List, count_by}
+use Rattle.std.specs.Prelude.{◌≡◌, ◌==◌, ◌&&◌, ◌||◌, not, Bool, true, false, List, count_by}
 use Rattle.std.specs.List.{list_any, list_all}
 use Rattle.std.specs.Option.{option_eq}
 use Rattle.std.specs.Str.{bytes_eq}
+use Rattle.net_addr.specs.Words.{Text}
 use Rattle.net_addr.specs.Addresses.{addr_eq}
 use Rattle.net_addr.specs.Prefixes.{Prefix}
 use Rattle.api_types.specs.Table.{ident_eq}
@@ -17,7 +18,7 @@ use Rattle.api_types.specs.declared.group.Direction.TheVariants.{Ingress, Egress
 use Rattle.api_types.specs.declared.group.Ethertype.{Ethertype}
 use Rattle.api_types.specs.declared.group.Ethertype.TheVariants.{Ipv4, Ipv6}
 
-abbrev pub is_default_of : List ℕ → GroupRow → Bool
+abbrev pub is_default_of : Text → GroupRow → Bool
 is_default_of name g = g.is_default && bytes_eq g.project name
 
 abbrev pub is_direction : Direction → Direction → Bool

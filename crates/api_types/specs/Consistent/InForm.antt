@@ -2,6 +2,7 @@
 use Rattle.std.specs.Prelude.{ℕ, ◌&&◌, ◌||◌, ◌==◌, not, nat_le, Bool, true, false, List, [], ◌∷◌, is_none, length}
 use Rattle.std.specs.List.{list_all}
 use Rattle.std.specs.Str.{bytes_eq}
+use Rattle.net_addr.specs.Words.{Text}
 use Rattle.net_addr.specs.Addresses.{is_v4, same_version}
 use Rattle.net_addr.specs.declared.address.Addr.{Addr}
 use Rattle.net_addr.specs.declared.address.Addr.TheVariants.{V4, V6}
@@ -31,11 +32,11 @@ is_segment (Vlan _ tag) = nat_le 1 tag && nat_le tag 4094
 is_segment (Vxlan number) = nat_le 1 number && nat_le number 16777215
 
 -- whether the network is there and is this project's
-abbrev pub is_network_of : List NetworkRow → List ℕ → Ident → Bool
+abbrev pub is_network_of : List NetworkRow → Text → Ident → Bool
 is_network_of networks project i = stands_so (λ n. n.id) i (λ n. bytes_eq n.project project) networks
 
 -- whether the group is there and is this project's
-abbrev pub is_group_of : List GroupRow → List ℕ → Ident → Bool
+abbrev pub is_group_of : List GroupRow → Text → Ident → Bool
 is_group_of groups project i = stands_so (λ g. g.id) i (λ g. bytes_eq g.project project) groups
 
 -- a pool is a span of host addresses without the gateway

@@ -1,6 +1,7 @@
 -- Each row that another one names is there, and so is each row's project.
-use Rattle.std.specs.Prelude.{ℕ, ◌||◌, cond, Bool, List}
+use Rattle.std.specs.Prelude.{◌||◌, cond, Bool, List}
 use Rattle.std.specs.List.{list_any, list_all}
+use Rattle.net_addr.specs.Words.{Text}
 use Rattle.api_types.specs.Ident.{Ident}
 use Rattle.api_types.specs.Table.{ident_eq}
 use Rattle.api_types.specs.Lists.{Pass, stands, stands_so, if_some, is_empty}
@@ -32,7 +33,7 @@ is_group groups i = stands (λ g. g.id) i groups
 abbrev pub is_router : List RouterRow → Ident → Bool
 is_router routers i = stands (λ r. r.id) i routers
 
-abbrev pub is_registered : List ProjectRow → List ℕ → Bool
+abbrev pub is_registered : List ProjectRow → Text → Bool
 is_registered projects name = list_any (is_named name) projects
 
 -- a fixed address names a subnet of the port's network

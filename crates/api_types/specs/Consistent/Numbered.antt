@@ -1,6 +1,7 @@
 -- Projects are named and numbered in order, and each row has an id of its own that its project drew.
 use Rattle.std.specs.Prelude.{◌≡◌, ℕ, ◌+◌, ◌^◌, ◌<◌, ◌≤◌, ◌==◌, ◌&&◌, nat_le, not, Bool, List, Some, length, slice_get, count_by}
 use Rattle.std.specs.List.{list_any}
+use Rattle.net_addr.specs.Words.{Text}
 use Rattle.api_types.specs.Ident.{Ident}
 use Rattle.api_types.specs.Lists.{Pass, is_empty, times}
 use Rattle.api_types.specs.Registration.{is_named}
@@ -23,7 +24,7 @@ times_in rows i =
 
 pub record ProjectsDiffer (projects : List ProjectRow) : Type 0 where
   pub ordered : AreOrdered projects
-  pub names : (name : List ℕ) → count_by (is_named name) projects ≤ 1
+  pub names : (name : Text) → count_by (is_named name) projects ≤ 1
   pub named : Pass (λ p. not (is_empty p.name)) projects
   pub few : length projects < 2 ^ 32
 

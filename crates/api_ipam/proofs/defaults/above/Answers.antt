@@ -1,6 +1,6 @@
 use Rattle.std.proofs.Common.{◌≡◌, ◌∙◌, ◌+◌, ◌<◌, ◌^◌, ◌∷◌, [], ap, arith, subst, sym, true, false}
 use Rattle.std.specs.Prelude.{option_to_list}
-use Rattle.net_addr.specs.Addresses.{number, renumbered, width}
+use Rattle.net_addr.specs.Addresses.{number, with_number, width}
 use Rattle.net_addr.specs.Prefixes.{IsSpan, Span}
 use Rattle.net_addr.specs.Spans.{is_within}
 use Rattle.net_addr.specs.declared.address.Addr.{Addr}
@@ -22,7 +22,7 @@ returns-then-not-has c =
     let s = c.args.span.now in
     let x = c.args.address.now in
     let whole = subst IsSpan c.span.view_is c.span.invariant in
-    let out : is_within s (renumbered x (number x + 1)) ≡ false = ap (is_within s) (sym c.in_ok-first.ensures) ∙ (sym c.has.ensures ∙ c.if-not-has.true) in
+    let out : is_within s (with_number x (number x + 1)) ≡ false = ap (is_within s) (sym c.in_ok-first.ensures) ∙ (sym c.has.ensures ∙ c.if-not-has.true) in
     above_if s x c.requires.inside false whole.0 out
 
 pub invariant_of-result : goal.invariant_of-result
@@ -36,5 +36,5 @@ returns c =
     let s = c.args.span.now in
     let x = c.args.address.now in
     let whole = subst IsSpan c.span.view_is c.span.invariant in
-    let within : is_within s (renumbered x (number x + 1)) ≡ true = ap (is_within s) (sym c.in_ok-first.ensures) ∙ (sym c.has.ensures ∙ c.if-not-has.false) in
+    let within : is_within s (with_number x (number x + 1)) ≡ true = ap (is_within s) (sym c.in_ok-first.ensures) ∙ (sym c.has.ensures ∙ c.if-not-has.false) in
     (λ j. record { first = c.in_ok-first.ensures j; last = (c.span.view_is j).last } ∷ []) ∙ above_if s x c.requires.inside true whole.0 within

@@ -1,5 +1,5 @@
 use Rattle.std.proofs.Common.{◌≡◌, ◌∙◌, ◌<◌, Bool, true, false, not, ap, arith, subst, sym}
-use Rattle.net_addr.specs.Addresses.{number, renumbered}
+use Rattle.net_addr.specs.Addresses.{number, with_number}
 use Rattle.net_addr.specs.Prefixes.{IsSpan, Span}
 use Rattle.net_addr.specs.declared.address.Addr.{Addr}
 use Rattle.api_ipam.specs.FixedChoice.{is_in}
@@ -29,7 +29,7 @@ loop-span-preserved c =
     record {
       within = omega (arith, next.1);
       to = omega (arith, next.1);
-      is = next.0 ∙ ap (renumbered s.first) (sym next.1);
+      is = next.0 ∙ ap (with_number s.first) (sym next.1);
       sought = ap (sought test s) next.1 ∙ onward test s x i.to i.is i.sought less (ap not (sym c.has.ensures ∙ c.loop-span-test.true));
     }
 

@@ -1,5 +1,5 @@
 use Rattle.std.proofs.Common.{◌≡◌, ◌+◌, ◌-◌, ◌≤◌, not}
-use Rattle.net_addr.specs.Addresses.{number, renumbered}
+use Rattle.net_addr.specs.Addresses.{number, with_number}
 use Rattle.api_ipam.specs.FixedChoice.{is_in}
 use Rattle.api_types.specs.Least.{least_from}
 use Rattle.api_ipam.proofs.least.least_within.Given as goal
@@ -9,9 +9,9 @@ abbrev pub invariant-loop-span : goal.invariant-loop-span
 invariant-loop-span l = record {
   within : number l.span.first ≤ number l.address;
   to : number l.address ≤ number l.span.last;
-  is : l.address ≡ renumbered l.span.first (number l.address);
-  sought : least_from (λ n. not (is_in l.held (renumbered l.span.first n))) (number l.address) (number l.span.last + 1 - number l.address)
-      ≡ least_from (λ n. not (is_in l.held (renumbered l.span.first n))) (number l.span.first) (number l.span.last + 1 - number l.span.first);
+  is : l.address ≡ with_number l.span.first (number l.address);
+  sought : least_from (λ n. not (is_in l.held (with_number l.span.first n))) (number l.address) (number l.span.last + 1 - number l.address)
+      ≡ least_from (λ n. not (is_in l.held (with_number l.span.first n))) (number l.span.first) (number l.span.last + 1 - number l.span.first);
 }
 
 abbrev pub decreases-loop-span : goal.decreases-loop-span

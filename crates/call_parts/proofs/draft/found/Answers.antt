@@ -6,14 +6,14 @@ use Rattle.call_parts.proofs.draft.found.Goals as goal
 
 pub returns-in_default-clause-none : goal.returns-in_default-clause-none
 returns-in_default-clause-none g c =
-    no_place (λ r. ident_eq c.args.id (g.R.Keyed.id_of r)) (g.R.Editable.list_of c.args.rows.now)
+    no_place (λ r. ident_eq c.args.id (g.R.Keyed.id_of r)) (g.R.RowKind.list_of c.args.rows.now)
     (ap (position (λ r. ident_eq c.args.id (g.R.Keyed.id_of r))) (sym (c.rows-rows.ensures.rows ∙ c.table.ensures)) ∙ sym c.in_default.ensures)
 
 pub returns-clause-some : goal.returns-clause-some
 returns-clause-some g c =
     let all = c.rows-rows.ensures.rows ∙ c.table.ensures in
     let shared = c.index-rows-place.result in
-    let here = at_place (λ r. ident_eq c.args.id (g.R.Keyed.id_of r)) (g.R.Editable.list_of c.args.rows.now) c.in-Some.place shared
+    let here = at_place (λ r. ident_eq c.args.id (g.R.Keyed.id_of r)) (g.R.RowKind.list_of c.args.rows.now) c.in-Some.place shared
     (ap (position (λ r. ident_eq c.args.id (g.R.Keyed.id_of r))) (sym all) ∙ sym c.in-Some.ensures)
     (c.index-rows-place.is ∙ ap (λ xs. get_or xs c.in-Some.place shared) all) in
     record {

@@ -2,7 +2,7 @@ use Rattle.std.proofs.Common.{◌≡◌, ◌∙◌, ap, ◌+◌}
 use Rattle.api_types.specs.declared.kind.Row.TheVariants.{Project}
 use Rattle.api_types.specs.declared.project.ProjectRow.{ProjectRow}
 use Rattle.call_parts.specs.Drafts.{raised}
-use Rattle.call_parts.specs.Edits.{with_put}
+use Rattle.api_types.specs.WithRows.{with_put}
 use Rattle.call_parts.proofs.EditLaws.{ok_by}
 use Rattle.call_parts.proofs.drawing.raise.Goals as goal
 

@@ -21,7 +21,7 @@ read_parts-requires c =
     let left = c.args.left in
     let right = c.loop-right.right in
     let l : left + right < group_count t = omega arith in
-    let e : c.as_slice.result.now ≡ shortened_parts t left right = c.as_slice.ensures ∙ c.shortened-form.ensures in
+    let e : c.as_slice.result.now ≡ shortened_parts t left right = c.as_slice.ensures ∙ c.form_with_gap-form.ensures in
     subst (λ (p : List Part). is_readable p ≡ true) (sym e) (form_readable (shortened_parts t left right) (t, inr (left, right, l, refl)))
 
 pub returns-in-Ok : goal.returns-in-Ok
@@ -31,7 +31,7 @@ returns-in-Ok c =
     let left = c.args.left in
     let right = c.loop-right.right in
     let l : left + right < group_count t = omega arith in
-    let e : c.as_slice.result.now ≡ shortened_parts t left right = c.as_slice.ensures ∙ c.shortened-form.ensures in
+    let e : c.as_slice.result.now ≡ shortened_parts t left right = c.as_slice.ensures ∙ c.form_with_gap-form.ensures in
     (right, l, subst (λ (p : List Part). Spells p 0 c.args.text.now c.in-Ok.value) e ((c.in-Ok.ensures.ok c.in-Ok.value).1 refl))
 
 pub loop-right-preserved : goal.loop-right-preserved
@@ -42,7 +42,7 @@ loop-right-preserved c =
     let right = c.loop-right.right in
     let text = c.args.text.now in
     let l : left + right < group_count t = omega arith in
-    let e : c.as_slice.result.now ≡ shortened_parts t left right = c.as_slice.ensures ∙ c.shortened-form.ensures in
+    let e : c.as_slice.result.now ≡ shortened_parts t left right = c.as_slice.ensures ∙ c.form_with_gap-form.ensures in
     let r =
     subst (λ (p : List Part). IsRead (Spells p 0) text c.read_parts.result) e
     (read_by_parts c.as_slice.result.now text c.read_parts.result c.read_parts.ensures.ok c.read_parts.ensures.refused c.read_parts.ensures.at) in

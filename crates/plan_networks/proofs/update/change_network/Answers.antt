@@ -6,7 +6,7 @@ use Rattle.api_types.specs.declared.policy.PolicyRow.{PolicyRow}
 use Rattle.api_types.specs.declared.kind.Row.TheVariants.{Network}
 use Rattle.call_parts.specs.Answers.{drawing_of}
 use Rattle.call_parts.specs.Drafts.{DraftParts}
-use Rattle.call_parts.specs.Edits.{with_put}
+use Rattle.api_types.specs.WithRows.{with_put}
 use Rattle.plan_networks.proofs.EditLemmas.{changed_with_policies}
 use Rattle.plan_networks.proofs.update.change_network.Goals as goal
 

@@ -1,7 +1,7 @@
 use Rattle.std.proofs.Common.{◌≡◌, drop}
 use Rattle.api_types.specs.declared.policy.PolicyRow.{PolicyRow}
 use Rattle.api_policy.specs.Standing.{aimed}
-use Rattle.call_parts.specs.Edits.{gone_from}
+use Rattle.api_types.specs.WithRows.{gone_from}
 use Rattle.plan_policies.specs.PolicyCalls.{equal_policy}
 use Rattle.plan_policies.proofs.equal.equal_other.Given as goal
 

@@ -2,7 +2,8 @@ use Rattle.std.proofs.Common.{◌≡◌, ◌∙◌}
 use Rattle.api_types.specs.RowLists.{RowLists}
 use Rattle.api_types.specs.declared.kind.Row.TheVariants.{Port}
 use Rattle.api_types.specs.declared.port.PortRow.{PortRow}
-use Rattle.call_parts.specs.Edits.{made, with_put}
+use Rattle.call_parts.specs.Edits.{made}
+use Rattle.api_types.specs.WithRows.{with_put}
 use Rattle.call_parts.specs.Leaving.{disassociations}
 use Rattle.plan_ports.proofs.update.replaced.Goals as goal
 

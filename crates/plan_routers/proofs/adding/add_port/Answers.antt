@@ -5,7 +5,7 @@ use Rattle.api_types.specs.RowLists.{RowLists}
 use Rattle.api_types.specs.Table.{row_of}
 use Rattle.api_types.specs.declared.kind.Row.TheVariants.{Port}
 use Rattle.api_types.specs.declared.port.PortRow.{PortRow}
-use Rattle.call_parts.specs.Edits.{with_added}
+use Rattle.api_types.specs.WithRows.{with_added}
 use Rattle.plan_routers.specs.InterfaceCalls.{interface_port, interface_shown}
 use Rattle.plan_routers.proofs.adding.add_port.Goals as goal
 

@@ -5,7 +5,7 @@ use Rattle.api_types.specs.RowLists.{RowLists}
 use Rattle.api_types.specs.Table.{row_of}
 use Rattle.api_types.specs.declared.kind.Row.TheVariants.{Router}
 use Rattle.api_types.specs.declared.router.RouterRow.{RouterRow}
-use Rattle.call_parts.specs.Edits.{with_added}
+use Rattle.api_types.specs.WithRows.{with_added}
 use Rattle.plan_routers.proofs.creation.add_row.Goals as goal
 
 pub add-requires : goal.add-requires

@@ -7,7 +7,8 @@ use Rattle.api_types.specs.Table.{row_of}
 use Rattle.api_types.specs.declared.kind.Row.TheVariants.{Router}
 use Rattle.api_types.specs.declared.port.PortRow.{PortRow}
 use Rattle.api_types.specs.declared.router.RouterRow.{RouterRow}
-use Rattle.call_parts.specs.Edits.{made, with_added}
+use Rattle.call_parts.specs.Edits.{made}
+use Rattle.api_types.specs.WithRows.{with_added}
 use Rattle.plan_routers.specs.RouterCalls.{gateway_edits, gateway_port, new_router, with_gateway}
 use Rattle.api_policy.specs.Reserved.{snat_asked}
 use Rattle.plan_routers.proofs.creation.add_with_gateway.Goals as goal

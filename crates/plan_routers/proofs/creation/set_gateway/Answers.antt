@@ -3,7 +3,7 @@ use Rattle.api_types.specs.Ident.{Ident}
 use Rattle.api_types.specs.Table.{row_of}
 use Rattle.api_types.specs.declared.kind.Row.TheVariants.{Port, Router}
 use Rattle.api_types.specs.declared.port.PortRow.{PortRow}
-use Rattle.call_parts.specs.Edits.{with_added, with_put}
+use Rattle.api_types.specs.WithRows.{with_added, with_put}
 use Rattle.plan_routers.proofs.creation.set_gateway.Goals as goal
 
 pub add-requires : goal.add-requires

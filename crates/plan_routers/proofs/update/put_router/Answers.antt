@@ -3,7 +3,8 @@ use Rattle.std.specs.Prelude.{IfOk}
 use Rattle.api_types.specs.RowLists.{RowLists}
 use Rattle.api_types.specs.declared.kind.Row.TheVariants.{Router}
 use Rattle.api_types.specs.declared.router.RouterRow.{RouterRow}
-use Rattle.call_parts.specs.Edits.{made, with_put}
+use Rattle.call_parts.specs.Edits.{made}
+use Rattle.api_types.specs.WithRows.{with_put}
 use Rattle.plan_routers.specs.RouterCalls.{gateway_gone}
 use Rattle.plan_routers.proofs.update.put_router.Goals as goal
 

@@ -8,7 +8,8 @@ use Rattle.api_types.specs.declared.kind.Row.TheVariants.{Subnet}
 use Rattle.api_types.specs.declared.network.NetworkRow.{NetworkRow}
 use Rattle.api_types.specs.declared.port.Fixed.{Fixed}
 use Rattle.api_types.specs.declared.subnet.SubnetRow.{SubnetRow}
-use Rattle.call_parts.specs.Edits.{made, with_put}
+use Rattle.call_parts.specs.Edits.{made}
+use Rattle.api_types.specs.WithRows.{with_put}
 use Rattle.plan_subnets.specs.DhcpUpkeep.{begin_serving, end_serving}
 use Rattle.plan_subnets.proofs.EditLemmas.{changed_with_port}
 use Rattle.plan_subnets.proofs.update.put_subnet.Goals as goal

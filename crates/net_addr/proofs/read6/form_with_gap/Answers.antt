@@ -2,7 +2,7 @@ use Rattle.std.proofs.Common.{◌≡◌, ◌+◌, ◌++◌, List, length, ap, �
 use Rattle.net_addr.specs.Spelling.{row_parts}
 use Rattle.net_addr.specs.declared.spelling.Part.{Part}
 use Rattle.net_addr.proofs.Read6Lemmas.{room_of_row}
-use Rattle.net_addr.proofs.read6.shortened.Goals as goal
+use Rattle.net_addr.proofs.read6.form_with_gap.Goals as goal
 
 pub push_all-requires : goal.push_all-requires
 push_all-requires c =

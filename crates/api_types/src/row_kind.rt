@@ -1,21 +1,32 @@
-//! Rows of each kind, as changes edit them.
-ghost use Rattle.std.specs.Prelude.{◌≡◌};
+//! What each kind of row is: its kind, its part of a row of any kind, and its table.
 
-use api_types::{
-    FloatingRow, GroupRow, Kind, NetworkRow, OfKind, PolicyRow, PortRow, ProjectRow, RouterRow,
-    Row, Rows, RuleRow, SubnetRow, Table,
-};
+ghost use Rattle.std.specs.Prelude.{◌≡◌, option_copied};
+ghost use Rattle.api_types.specs.Parts.{project_of, network_of, subnet_of, port_of, group_of, rule_of, router_of, floating_of, policy_of};
+
+use crate::floating::FloatingRow;
+use crate::group::{GroupRow, RuleRow};
+use crate::kind::{Kind, Row};
+use crate::network::NetworkRow;
+use crate::policy::PolicyRow;
+use crate::port::PortRow;
+use crate::project::ProjectRow;
+use crate::router::RouterRow;
+use crate::rows::Rows;
+use crate::subnet::SubnetRow;
+use crate::table::{Keyed, Table};
 use net_addr::Same;
 
-/// A row of a kind, with the table in which it stands.
-pub trait Editable: OfKind + Same {
-    ghost use Rattle.std.specs.Prelude.{List};
+/// A kind of row, with the table in which its rows stand.
+pub trait RowKind: Keyed + Same {
+    ghost use Rattle.std.specs.Prelude.{List, Option};
     ghost use Rattle.api_types.specs.RowLists.{RowLists};
     ghost use Rattle.api_types.specs.declared.kind.Kind.{Kind as TheKind};
     ghost use Rattle.api_types.specs.declared.kind.Row.{Row as TheRow};
-    ghost use Rattle.call_parts.specs.Drafts.{IsEditable};
+    ghost use Rattle.api_types.specs.RowKinds.{IsRowKind};
 
     ghost kind_is: { TheKind };
+
+    ghost part_of: { TheRow → Option Self };
 
     ghost into_of: { Self → TheRow };
 
@@ -27,6 +38,10 @@ pub trait Editable: OfKind + Same {
     fn kind() -> Kind
         ensures { result ≡ kind_is };
 
+    /// The row, where a row of any kind is of this one.
+    fn part(row: &Row) -> Option<&Self>
+        ensures { option_copied result ≡ part_of row.now };
+
     /// The row, as one of any kind.
     fn into_row(self) -> Row
         ensures { result ≡ into_of self };
@@ -35,15 +50,17 @@ pub trait Editable: OfKind + Same {
     fn table(rows: &Rows) -> &Table<Self>
         ensures { result.now ≡ list_of rows.now };
 
-    ghost edits: { IsEditable kind_is into_of list_of with_list Self.part_of Self.id_of };
+    ghost edits: { IsRowKind kind_is into_of list_of with_list part_of Self.id_of };
 }
 
-impl Editable for ProjectRow {
+impl RowKind for ProjectRow {
     ghost use Rattle.std.specs.Prelude.{refl};
     ghost use Rattle.api_types.specs.declared.kind.Kind.TheVariants.{Project as KindOf};
     ghost use Rattle.api_types.specs.declared.kind.Row.TheVariants.{Project as RowOf};
 
     ghost kind_is = { KindOf };
+
+    ghost part_of = { project_of };
 
     ghost into_of = { RowOf };
 
@@ -53,6 +70,13 @@ impl Editable for ProjectRow {
 
     fn kind() -> Kind {
         Kind::Project
+    }
+
+    fn part(row: &Row) -> Option<&ProjectRow> {
+        match row {
+            Row::Project(row) => Some(row),
+            _ => None,
+        }
     }
 
     fn into_row(self) -> Row {
@@ -74,12 +98,14 @@ impl Editable for ProjectRow {
     } };
 }
 
-impl Editable for NetworkRow {
+impl RowKind for NetworkRow {
     ghost use Rattle.std.specs.Prelude.{refl};
     ghost use Rattle.api_types.specs.declared.kind.Kind.TheVariants.{Network as KindOf};
     ghost use Rattle.api_types.specs.declared.kind.Row.TheVariants.{Network as RowOf};
 
     ghost kind_is = { KindOf };
+
+    ghost part_of = { network_of };
 
     ghost into_of = { RowOf };
 
@@ -89,6 +115,13 @@ impl Editable for NetworkRow {
 
     fn kind() -> Kind {
         Kind::Network
+    }
+
+    fn part(row: &Row) -> Option<&NetworkRow> {
+        match row {
+            Row::Network(row) => Some(row),
+            _ => None,
+        }
     }
 
     fn into_row(self) -> Row {
@@ -110,12 +143,14 @@ impl Editable for NetworkRow {
     } };
 }
 
-impl Editable for SubnetRow {
+impl RowKind for SubnetRow {
     ghost use Rattle.std.specs.Prelude.{refl};
     ghost use Rattle.api_types.specs.declared.kind.Kind.TheVariants.{Subnet as KindOf};
     ghost use Rattle.api_types.specs.declared.kind.Row.TheVariants.{Subnet as RowOf};
 
     ghost kind_is = { KindOf };
+
+    ghost part_of = { subnet_of };
 
     ghost into_of = { RowOf };
 
@@ -125,6 +160,13 @@ impl Editable for SubnetRow {
 
     fn kind() -> Kind {
         Kind::Subnet
+    }
+
+    fn part(row: &Row) -> Option<&SubnetRow> {
+        match row {
+            Row::Subnet(row) => Some(row),
+            _ => None,
+        }
     }
 
     fn into_row(self) -> Row {
@@ -146,12 +188,14 @@ impl Editable for SubnetRow {
     } };
 }
 
-impl Editable for PortRow {
+impl RowKind for PortRow {
     ghost use Rattle.std.specs.Prelude.{refl};
     ghost use Rattle.api_types.specs.declared.kind.Kind.TheVariants.{Port as KindOf};
     ghost use Rattle.api_types.specs.declared.kind.Row.TheVariants.{Port as RowOf};
 
     ghost kind_is = { KindOf };
+
+    ghost part_of = { port_of };
 
     ghost into_of = { RowOf };
 
@@ -161,6 +205,13 @@ impl Editable for PortRow {
 
     fn kind() -> Kind {
         Kind::Port
+    }
+
+    fn part(row: &Row) -> Option<&PortRow> {
+        match row {
+            Row::Port(row) => Some(row),
+            _ => None,
+        }
     }
 
     fn into_row(self) -> Row {
@@ -182,12 +233,14 @@ impl Editable for PortRow {
     } };
 }
 
-impl Editable for GroupRow {
+impl RowKind for GroupRow {
     ghost use Rattle.std.specs.Prelude.{refl};
     ghost use Rattle.api_types.specs.declared.kind.Kind.TheVariants.{Group as KindOf};
     ghost use Rattle.api_types.specs.declared.kind.Row.TheVariants.{Group as RowOf};
 
     ghost kind_is = { KindOf };
+
+    ghost part_of = { group_of };
 
     ghost into_of = { RowOf };
 
@@ -197,6 +250,13 @@ impl Editable for GroupRow {
 
     fn kind() -> Kind {
         Kind::Group
+    }
+
+    fn part(row: &Row) -> Option<&GroupRow> {
+        match row {
+            Row::Group(row) => Some(row),
+            _ => None,
+        }
     }
 
     fn into_row(self) -> Row {
@@ -218,12 +278,14 @@ impl Editable for GroupRow {
     } };
 }
 
-impl Editable for RuleRow {
+impl RowKind for RuleRow {
     ghost use Rattle.std.specs.Prelude.{refl};
     ghost use Rattle.api_types.specs.declared.kind.Kind.TheVariants.{Rule as KindOf};
     ghost use Rattle.api_types.specs.declared.kind.Row.TheVariants.{Rule as RowOf};
 
     ghost kind_is = { KindOf };
+
+    ghost part_of = { rule_of };
 
     ghost into_of = { RowOf };
 
@@ -233,6 +295,13 @@ impl Editable for RuleRow {
 
     fn kind() -> Kind {
         Kind::Rule
+    }
+
+    fn part(row: &Row) -> Option<&RuleRow> {
+        match row {
+            Row::Rule(row) => Some(row),
+            _ => None,
+        }
     }
 
     fn into_row(self) -> Row {
@@ -254,12 +323,14 @@ impl Editable for RuleRow {
     } };
 }
 
-impl Editable for RouterRow {
+impl RowKind for RouterRow {
     ghost use Rattle.std.specs.Prelude.{refl};
     ghost use Rattle.api_types.specs.declared.kind.Kind.TheVariants.{Router as KindOf};
     ghost use Rattle.api_types.specs.declared.kind.Row.TheVariants.{Router as RowOf};
 
     ghost kind_is = { KindOf };
+
+    ghost part_of = { router_of };
 
     ghost into_of = { RowOf };
 
@@ -269,6 +340,13 @@ impl Editable for RouterRow {
 
     fn kind() -> Kind {
         Kind::Router
+    }
+
+    fn part(row: &Row) -> Option<&RouterRow> {
+        match row {
+            Row::Router(row) => Some(row),
+            _ => None,
+        }
     }
 
     fn into_row(self) -> Row {
@@ -290,12 +368,14 @@ impl Editable for RouterRow {
     } };
 }
 
-impl Editable for FloatingRow {
+impl RowKind for FloatingRow {
     ghost use Rattle.std.specs.Prelude.{refl};
     ghost use Rattle.api_types.specs.declared.kind.Kind.TheVariants.{Floating as KindOf};
     ghost use Rattle.api_types.specs.declared.kind.Row.TheVariants.{Floating as RowOf};
 
     ghost kind_is = { KindOf };
+
+    ghost part_of = { floating_of };
 
     ghost into_of = { RowOf };
 
@@ -305,6 +385,13 @@ impl Editable for FloatingRow {
 
     fn kind() -> Kind {
         Kind::Floating
+    }
+
+    fn part(row: &Row) -> Option<&FloatingRow> {
+        match row {
+            Row::Floating(row) => Some(row),
+            _ => None,
+        }
     }
 
     fn into_row(self) -> Row {
@@ -326,12 +413,14 @@ impl Editable for FloatingRow {
     } };
 }
 
-impl Editable for PolicyRow {
+impl RowKind for PolicyRow {
     ghost use Rattle.std.specs.Prelude.{refl};
     ghost use Rattle.api_types.specs.declared.kind.Kind.TheVariants.{Policy as KindOf};
     ghost use Rattle.api_types.specs.declared.kind.Row.TheVariants.{Policy as RowOf};
 
     ghost kind_is = { KindOf };
+
+    ghost part_of = { policy_of };
 
     ghost into_of = { RowOf };
 
@@ -341,6 +430,13 @@ impl Editable for PolicyRow {
 
     fn kind() -> Kind {
         Kind::Policy
+    }
+
+    fn part(row: &Row) -> Option<&PolicyRow> {
+        match row {
+            Row::Policy(row) => Some(row),
+            _ => None,
+        }
     }
 
     fn into_row(self) -> Row {
