@@ -1,3 +1,5 @@
+//! What a resync will put in place: rows of a version with the tables made of them.
+
 ghost use Rattle.std.specs.Prelude.{◌≡◌, IfOk};
 ghost use Rattle.api_types.specs.Consistent.{IsConsistent};
 ghost use Rattle.plane_types.specs.Retagged.{AreTags};

@@ -1,3 +1,5 @@
+//! The tables of a host, made of rows by its three agents.
+
 ghost use Rattle.std.specs.Prelude.{◌≡◌, IfOk};
 ghost use Rattle.api_types.specs.Consistent.{IsConsistent};
 ghost use Rattle.plane_types.specs.Retagged.{AreTags};

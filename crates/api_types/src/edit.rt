@@ -1,3 +1,5 @@
+//! Items put into a table of their kind, and taken back.
+
 ghost use Rattle.std.specs.Prelude.{◌≡◌, None, [], ◌∷◌, ◌++◌, if◌then◌else◌, Option, option_copied, IfOk, OnOk, OnErr};
 ghost use Rattle.api_types.specs.declared.kind.Row.{Row};
 ghost use Rattle.api_types.specs.Table.{is_new, row_of};

@@ -1,3 +1,5 @@
+//! Floating addresses, and where they lead.
+
 ghost use Rattle.std.specs.Prelude.{◌≡◌};
 ghost use Rattle.api_types.specs.Consistent.Named.{is_own_port as own_port_in};
 

@@ -1,3 +1,5 @@
+//! Security groups and their rules.
+
 ghost use Rattle.std.specs.Prelude.{◌≡◌};
 ghost use Rattle.api_types.specs.Consistent.InForm.{is_group_of as group_of_in};
 

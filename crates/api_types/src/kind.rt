@@ -1,3 +1,5 @@
+//! The nine kinds of rows, and a row of any kind.
+
 ghost use Rattle.std.specs.Prelude.{◌≡◌};
 ghost use Rattle.api_types.specs.Titles.{title_of};
 

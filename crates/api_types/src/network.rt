@@ -1,3 +1,5 @@
+//! Networks and their segments.
+
 ghost use Rattle.std.specs.Prelude.{◌≡◌};
 ghost use Rattle.api_types.specs.Consistent.InForm.{is_network_of as network_of_in};
 

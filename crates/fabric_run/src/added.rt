@@ -1,3 +1,5 @@
+//! What a look-up adds to a run: network, router and trail.
+
 ghost use Rattle.std.specs.Prelude.{◌≡◌, ◌++◌, ℕ, map, option_copied, option_to_list};
 ghost use Rattle.plane_types.specs.Fabric.{inward_trail, next_path, path_at, place_trail, sent_path, step_path};
 ghost use Rattle.plane_types.specs.Places.{place_seen};

@@ -1,3 +1,5 @@
+//! An event from its first host to its verdict.
+
 ghost use Rattle.std.specs.Prelude.{◌≡◌, ◌<◌, ◌≤◌, ℕ, IfOk, List, None, count_by, option_to_list, suc};
 ghost use Rattle.plane_types.specs.Fabric.{at_inward, at_tap, begun as begun_with, fabric_fate, steps_for as steps_for_life, walk};
 ghost use Rattle.plane_types.specs.Hosts.{Host, is_named};

@@ -1,3 +1,5 @@
+//! The hosts as a run sees them: names, tables and entries, borrowed.
+
 ghost use Rattle.std.specs.Prelude.{◌≡◌, ◌<◌, Some, length, slice_get};
 ghost use Rattle.fabric_run.specs.Seen.{host_seen};
 

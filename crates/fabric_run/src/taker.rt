@@ -1,3 +1,5 @@
+//! Hosts that are looked for: by name, by a tap, or as takers of a frame from a wire.
+
 ghost use Rattle.std.specs.Prelude.{◌≡◌, ◌&&◌, option_copied};
 ghost use Rattle.plane_types.specs.Fabric.{takes as taken_by, takes_to};
 ghost use Rattle.plane_types.specs.Hosts.{Host};

@@ -1,3 +1,5 @@
+//! The loop of a run: look-up after look-up, to a bound.
+
 ghost use Rattle.std.specs.Prelude.{◌≡◌, ◌≤◌, [], ℕ, List, OnOk, count_by, length};
 ghost use Rattle.plane_types.specs.Fabric.{begun as begun_with, walk};
 ghost use Rattle.plane_types.specs.Hosts.{is_named};

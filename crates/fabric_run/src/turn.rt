@@ -1,3 +1,5 @@
+//! One look-up, and where it leads: on at this host, to another one, or to an end.
+
 ghost use Rattle.std.specs.Prelude.{◌≡◌, ◌+◌, ◌<◌, ◌≤◌, ◌++◌, ◌&&◌, ℕ, IfOk, List, None, OnOk, Some, count_by, find, length, not, slice_get, suc};
 ghost use Rattle.std.specs.Str.{bytes_eq};
 ghost use Rattle.plane_types.specs.Fabric.{Going, Run as TheRun, moved as moved_by, takes, tunnelled as tunnelled_by, walk, wired as wired_by};

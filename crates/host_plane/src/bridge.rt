@@ -1,3 +1,5 @@
+//! At the bridge, and what comes by tunnel, by wire or to the DHCP port.
+
 ghost use Rattle.std.specs.Prelude.{◌≡◌, option_copied};
 ghost use Rattle.plane_types.specs.Ends.{destination};
 ghost use Rattle.plane_types.specs.Packets.{address_ask};

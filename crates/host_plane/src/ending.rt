@@ -1,3 +1,5 @@
+//! Where a look-up leads: a place, a tunnel, a wire, or an end that borrows from the tables.
+
 ghost use Rattle.std.specs.Prelude.{◌≡◌};
 ghost use Rattle.plane_types.specs.TableStep.{drops as drop_step, plain as plain_step};
 ghost use Rattle.host_plane.specs.Seen.{step_seen, stepped_seen};

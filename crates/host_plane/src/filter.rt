@@ -1,3 +1,5 @@
+//! The filter of a tap, with tracked flows.
+
 ghost use Rattle.std.specs.Prelude.{◌≡◌, ◌++◌, ◌&&◌};
 ghost use Rattle.std.specs.List.{list_any};
 ghost use Rattle.api_types.specs.Table.{ident_eq};

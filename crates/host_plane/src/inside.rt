@@ -1,3 +1,5 @@
+//! A frame that comes to a router.
+
 ghost use Rattle.std.specs.Prelude.{◌≡◌, ◌++◌};
 ghost use Rattle.plane_types.specs.TableStep.{router_by_leg as by_port, router_in as routed_in, tagged_leg as leg_by_port};
 ghost use Rattle.plane_types.specs.Parts.{packet_of};

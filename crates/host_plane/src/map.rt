@@ -1,3 +1,5 @@
+//! Bridge and neighbours, searched by halving.
+
 ghost use Rattle.std.specs.Prelude.{◌≡◌, ◌+◌, ◌*◌, ◌&&◌, ◌==◌, find, option_copied};
 ghost use Rattle.std.specs.List.Sorted.{IsSortedBy};
 ghost use Rattle.net_addr.specs.Addresses.{addr_eq, number, width};

@@ -1,3 +1,5 @@
+//! One look-up: the place decides which table is asked. Begin here.
+
 ghost use Rattle.std.specs.Prelude.{◌≡◌, ◌+◌, ◌≤◌, ◌++◌, length};
 ghost use Rattle.plane_types.specs.Places.{place_seen};
 ghost use Rattle.plane_types.specs.TableStep.{table_step};

@@ -1,3 +1,5 @@
+//! What a router does with a packet: destination, own addresses, route, source.
+
 ghost use Rattle.std.specs.Prelude.{◌≡◌, ◌++◌, Some, option_map};
 ghost use Rattle.std.specs.List.{list_any};
 ghost use Rattle.std.specs.Option.{unwrap_or};

@@ -1,3 +1,5 @@
+//! The source with which a packet leaves a router: floating, translated, or its own.
+
 ghost use Rattle.std.specs.Prelude.{◌≡◌, ◌++◌, ◌&&◌, ◌||◌, find, not, option_map, true};
 ghost use Rattle.std.specs.List.{list_any};
 ghost use Rattle.net_addr.specs.Addresses.{addr_eq};

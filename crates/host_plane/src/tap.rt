@@ -1,3 +1,5 @@
+//! A frame in and out of a port: guard and filter.
+
 ghost use Rattle.std.specs.Prelude.{◌≡◌, ◌++◌};
 ghost use Rattle.api_types.specs.declared.group.Direction.TheVariants.{Egress, Ingress};
 ghost use Rattle.plane_types.specs.Packets.{ip_frame};

@@ -1,3 +1,5 @@
+//! Translation entries: those that a packet answers, and ports that are free.
+
 ghost use Rattle.std.specs.Prelude.{◌≡◌, ◌<◌, ◌||◌, ◌++◌, ℕ, Some, false, find, if◌then◌else◌, option_map, slice_index_or};
 ghost use Rattle.std.specs.List.{filter_map};
 ghost use Rattle.plane_types.specs.Keys.{key_eq};

@@ -1,3 +1,5 @@
+//! The route with the longest prefix.
+
 ghost use Rattle.std.specs.Prelude.{◌≡◌, ◌&&◌, Some, if◌then◌else◌, option_copied, option_map};
 ghost use Rattle.net_addr.specs.Prefixes.{contains};
 ghost use Rattle.api_types.specs.Table.{ident_eq};

@@ -1,3 +1,5 @@
+//! The table `filters`: the rules of each secured tap.
+
 ghost use Rattle.std.specs.Prelude.{◌≡◌, ◌==◌, ◌||◌, ◌++◌, ◌<◌, ◌≤◌, ℕ, IfNone, IfOk, IfSome, OnOk, false, flat_map, length, map, slice_index_or as get_or, true};
 ghost use Rattle.std.specs.BTreeSet.{contains};
 ghost use Rattle.std.specs.List.{filter_map};

@@ -1,3 +1,5 @@
+//! The table `tags`: a local tag for each network here, kept from one wiring to the next.
+
 ghost use Rattle.std.specs.Prelude.{◌≡◌, ◌==◌, ◌<◌, ◌≤◌, ◌&&◌, ◌||◌, ℕ, IfNone, IfOk, OnOk, nat_eq, option_map, true};
 ghost use Rattle.std.specs.HashSet.{contains};
 ghost use Rattle.std.specs.List.{list_any};

@@ -1,3 +1,5 @@
+//! The table `floats`: floating addresses that routers here translate.
+
 ghost use Rattle.std.specs.Prelude.{◌≡◌, IfOk};
 ghost use Rattle.api_types.specs.Holders.{router_named};
 ghost use Rattle.plane_types.specs.TableRows.{float_row_by, float_rows as float_rows_of, is_hosted as is_hosted_by_rows};

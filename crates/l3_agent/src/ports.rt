@@ -1,3 +1,5 @@
+//! The ports of a router, as its table has them.
+
 ghost use Rattle.std.specs.Prelude.{◌≡◌, IfOk, map};
 ghost use Rattle.std.specs.List.{filter_map};
 ghost use Rattle.api_types.specs.declared.port.Fixed.{Fixed as TheFixed};

@@ -1,3 +1,5 @@
+//! The table `routers`: the routers here.
+
 ghost use Rattle.std.specs.Prelude.{◌≡◌, IfOk};
 ghost use Rattle.api_types.specs.RouterRows.{has_snat as snat_of};
 ghost use Rattle.plane_types.specs.TableRows.{hosted, router_row as router_row_of, router_rows as router_rows_of};

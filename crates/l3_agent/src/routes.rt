@@ -1,3 +1,5 @@
+//! The table `routes`: the routes of the routers here.
+
 ghost use Rattle.std.specs.Prelude.{◌≡◌, ◌++◌, IfOk, OnOk, map};
 ghost use Rattle.api_types.specs.RouterRows.{ways_of as ways_by_rows};
 ghost use Rattle.plane_types.specs.TableRows.{route_row, route_rows as route_rows_of};

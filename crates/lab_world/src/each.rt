@@ -1,3 +1,5 @@
+//! Loops over all hosts, each as one step of one host.
+
 ghost use Rattle.std.specs.Prelude.{◌≡◌, ◌≤◌, ◌++◌, OnOk, length, map};
 ghost use Rattle.std.specs.List.{filter_map};
 ghost use Rattle.api_types.specs.Lists.{Each};

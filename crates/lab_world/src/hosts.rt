@@ -1,3 +1,5 @@
+//! The hosts in order, each with its agents; frames see them as a fleet.
+
 ghost use Rattle.std.specs.Prelude.{◌≡◌, ◌↔◌, ◌<◌, ◌≤◌, ◌++◌, ◌∷◌, [], ℕ, None, Some, IfNone, IfOk, IfSome, IsTrue, OnErr, OnOk, find, flat_map, if◌then◌else◌, length, map, option_copied, option_map};
 ghost use Rattle.std.specs.Str.{bytes_eq};
 ghost use Rattle.api_types.specs.Consistent.{IsConsistent};

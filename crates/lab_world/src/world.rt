@@ -1,3 +1,5 @@
+//! The world: machine, messages and hosts, and the one call that answers an ask.
+
 ghost use Rattle.std.specs.Prelude.{◌≡◌, ◌↔◌, ◌≤◌, IfErr, IfOk, IsTrue, None, OnOk, map, true, is_some};
 ghost use Rattle.api_types.specs.Consistent.{IsConsistent};
 ghost use Rattle.api_check.specs.FirstBroken.{first_broken_of};

@@ -1,3 +1,5 @@
+//! A list whose room is in no contract.
+
 ghost use Rattle.std.specs.Prelude.{◌≡◌, ◌↔◌, [], ◌∷◌, ◌++◌, length, IfOk, IsTrue, OnOk, OnErr};
 
 use crate::address::{Prefix, Span};

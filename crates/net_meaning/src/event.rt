@@ -1,3 +1,5 @@
+//! An event, by the rows: from a port, or from a wire. Begin here.
+
 ghost use Rattle.std.specs.Prelude.{◌≡◌, ◌++◌, [], ◌∷◌, IfOk, if◌then◌else◌, map, suc};
 ghost use Rattle.api_types.specs.Table.{row_of};
 ghost use Rattle.api_types.specs.declared.group.Direction.TheVariants.{Egress as Outward};

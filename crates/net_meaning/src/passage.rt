@@ -1,3 +1,5 @@
+//! The filter of a port, with tracked flows.
+
 ghost use Rattle.std.specs.Prelude.{◌≡◌, ◌++◌, ◌&&◌};
 ghost use Rattle.plane_types.specs.Entries.{has_flow as flow_is_there, opposite as other_way};
 ghost use Rattle.plane_types.specs.Filter.{rules_allow as allowed_by_rules};

@@ -1,3 +1,5 @@
+//! What a router does with a packet, by the rows.
+
 ghost use Rattle.std.specs.Prelude.{◌≡◌, ◌++◌, IfOk, Some, find, if◌then◌else◌, map, option_map};
 ghost use Rattle.std.specs.List.{list_any};
 ghost use Rattle.std.specs.Option.{unwrap_or};

@@ -1,3 +1,5 @@
+//! The source with which a packet leaves a router, by the rows.
+
 ghost use Rattle.std.specs.Prelude.{◌≡◌, ◌&&◌, ◌||◌, find, not, map, option_map};
 ghost use Rattle.net_addr.specs.Addresses.{addr_eq};
 ghost use Rattle.net_addr.specs.declared.address.Addr.TheVariants.{V4};

@@ -1,3 +1,5 @@
+//! A packet at one port, and where it is then.
+
 ghost use Rattle.std.specs.Prelude.{◌≡◌, IfOk, OnOk, Some, option_to_list, suc};
 ghost use Rattle.api_types.specs.Holders.{router_of as router_by_rows};
 ghost use Rattle.plane_types.specs.Meaning.{Onward, Trace as TheTrace, arrived as arrived_at, at_router as at_router_by, ended as ended_with, got as got_by, handed as handed_by, handed_out as handed_out_by, received as received_by, with_fresh, with_path};

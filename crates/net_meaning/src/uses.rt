@@ -1,3 +1,5 @@
+//! The valid translation entries of a router.
+
 ghost use Rattle.std.specs.Prelude.{◌≡◌, ◌<◌, ◌||◌, ◌++◌, ℕ, IfOk, OnOk, Some, false, find, map, option_map, slice_index_or};
 ghost use Rattle.std.specs.List.{filter_map};
 ghost use Rattle.plane_types.specs.Keys.{key_eq};

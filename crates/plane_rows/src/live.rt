@@ -1,3 +1,5 @@
+//! Live ports, segments, and which ports hear each other.
+
 ghost use Rattle.std.specs.Prelude.{◌≡◌, is_some, option_copied, option_map};
 ghost use Rattle.api_types.specs.declared.network.NetworkRow.{NetworkRow as TheNetwork};
 ghost use Rattle.api_types.specs.Live.{is_joined as joined_by_rows, is_live as live_by_rows, is_local as local_of, joined_with as joined_of, network_of, segment as segment_by_rows};

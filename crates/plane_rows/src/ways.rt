@@ -1,3 +1,5 @@
+//! The routes of a router.
+
 ghost use Rattle.std.specs.Prelude.{◌≡◌, ◌++◌, List, IfOk, OnOk, Some, find, flat_map, map, option_copied, option_map, option_to_list};
 ghost use Rattle.std.specs.List.{filter_map};
 ghost use Rattle.net_addr.specs.Addresses.{renumbered};

@@ -1,3 +1,5 @@
+//! Frames, and the keys by which packets are tracked.
+
 ghost use Rattle.std.specs.Prelude.{◌≡◌};
 ghost use Rattle.plane_types.specs.Keys.{answer_kind, frame_key, key_of_part, reversed};
 

@@ -1,3 +1,5 @@
+//! Packets of IP, taken out of their frames and put back.
+
 ghost use Rattle.std.specs.Prelude.{◌≡◌, option_map};
 ghost use Rattle.plane_types.specs.Packets.{ip_frame, is_for_many as names_many, is_unsupported as unsupported, key_of, packet_in, part_from as with_source_port, part_to as with_destination_port};
 ghost use Rattle.plane_types.specs.Parts.{packet_of};

@@ -1,3 +1,5 @@
+//! Packets on their way through a router: ends and ports that are changed.
+
 ghost use Rattle.std.specs.Prelude.{◌≡◌, ◌-◌, ◌<◌, option_map};
 ghost use Rattle.plane_types.specs.Ends.{turned_round as other_way_round};
 ghost use Rattle.plane_types.specs.Packets.{part_to as with_destination_port};

@@ -1,3 +1,5 @@
+//! Translation entries: what one says, and which packets answer it.
+
 ghost use Rattle.std.specs.Prelude.{◌≡◌, ◌==◌, ◌&&◌, Some, option_map};
 ghost use Rattle.net_addr.specs.Addresses.{addr_eq};
 ghost use Rattle.plane_types.specs.Ends.{destination as destined_to};
