@@ -3,10 +3,10 @@
 ghost use Rattle.std.specs.Prelude.{◌≡◌, ◌+◌, ◌<◌, ◌≤◌, [], ◌∷◌, ◌++◌, None, IfOk, OnErr, OnOk};
 ghost use Rattle.api_types.specs.Consistent.{IsConsistent};
 ghost use Rattle.api_types.specs.Rows.{Fits, after};
-ghost use Rattle.plane_types.specs.Placed.{IsPlaced};
+ghost use Rattle.plane_types.specs.Attached.{IsPlaced};
 ghost use Rattle.plane_types.specs.Realises.{Realises};
 ghost use Rattle.plane_types.specs.Node.{CanFollow, heard as heard_of, host_of, host_with, resynced, started, told, with_entries};
-ghost use Rattle.plane_types.specs.Wired.{wired as wired_by_rows};
+ghost use Rattle.plane_types.specs.TablesOfRows.{wired as wired_by_rows};
 
 use crate::ready::ReadyNode;
 use api_types::{Change, Rows};

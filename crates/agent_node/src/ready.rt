@@ -2,8 +2,8 @@
 
 ghost use Rattle.std.specs.Prelude.{◌≡◌, IfOk};
 ghost use Rattle.api_types.specs.Consistent.{IsConsistent};
-ghost use Rattle.plane_types.specs.Retagged.{AreTags};
-ghost use Rattle.plane_types.specs.Wired.{wired as wired_by_rows};
+ghost use Rattle.plane_types.specs.NewTags.{AreTags};
+ghost use Rattle.plane_types.specs.TablesOfRows.{wired as wired_by_rows};
 
 use crate::wiring::wired;
 use api_types::Rows;

@@ -6,7 +6,7 @@ use Rattle.std.proofs.lemmas.Option.{get_or_from_slice_get, none-some, same_Some
 use Rattle.api_types.proofs.NameLemmas.{bytes_itself}
 use Rattle.plane_laws.proofs.Facts.{AtMostOne}
 use Rattle.plane_types.specs.Hosts.{Host, is_named}
-use Rattle.plane_types.specs.Told.{place_among}
+use Rattle.plane_types.specs.Verdicts.{place_among}
 use Rattle.plane_types.specs.declared.entry.Entry.{Entry}
 use Rattle.plane_types.specs.declared.lists.TableLists.{TableLists}
 

@@ -8,10 +8,10 @@ use Rattle.plane_types.specs.Fabric.{Run as TheRun, after_step, place_trail, ste
 use Rattle.plane_types.specs.Hosts.{Host, is_named}
 use Rattle.plane_types.specs.Places.{Place}
 use Rattle.plane_types.specs.TableStep.{Stepped}
-use Rattle.plane_types.specs.Told.{place_among, told_fresh, told_trail}
+use Rattle.plane_types.specs.Verdicts.{place_among, told_fresh, told_trail}
 use Rattle.plane_types.specs.declared.entry.Entry.{Entry}
 use Rattle.plane_types.specs.declared.verdict.Made.{Made}
-use Rattle.fabric_run.specs.Seen.{Tells}
+use Rattle.fabric_run.specs.Views.{Tells}
 use Rattle.fabric_run.specs.declared.run.Run.{Run}
 use Rattle.fabric_run.proofs.FleetLemmas.{place_of}
 

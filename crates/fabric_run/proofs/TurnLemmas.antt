@@ -18,7 +18,7 @@ use Rattle.plane_types.specs.declared.verdict.DropCause.TheVariants.{Unsupported
 use Rattle.plane_types.specs.declared.verdict.Outcome.TheVariants.{Dropped}
 use Rattle.fabric_run.proofs.TellsLemmas.{told_long}
 use Rattle.fabric_run.proofs.WalkLemmas.{walk_done, walk_grows, walk_more}
-use Rattle.fabric_run.specs.Seen.{ended_with, gone_to, led_to, looks_of, path_from}
+use Rattle.fabric_run.specs.Views.{ended_with, gone_to, led_to, looks_of, path_from}
 
 -- the time to live has eight bits, where there are so few look-ups
 eight_bits : (e : Event) → looks_of e ≤ 772 → HasEightBits e

@@ -13,7 +13,7 @@ use Rattle.api_types.specs.declared.wire.Wire.{Wire}
 use Rattle.plane_types.specs.declared.verdict.DropCause.TheVariants.{Unknown}
 use Rattle.plane_types.specs.declared.verdict.Outcome.TheVariants.{Dropped}
 use Rattle.plane_types.specs.declared.verdict.Toward.{Toward}
-use Rattle.fabric_run.specs.Seen.{gone_to}
+use Rattle.fabric_run.specs.Views.{gone_to}
 
 module _ (hosts : List Host) where
   pub walk_more : (many : ℕ) (h : Host) (place : Place) (r : Run) → walk hosts (suc many) h place r ≡ taken hosts (walk hosts many) h place r (table_step h.tables (h.entries ++ r.fresh) place)

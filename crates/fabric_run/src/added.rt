@@ -3,8 +3,8 @@
 ghost use Rattle.std.specs.Prelude.{◌≡◌, ◌++◌, ℕ, map, option_copied, option_to_list};
 ghost use Rattle.plane_types.specs.Fabric.{inward_trail, next_path, path_at, place_trail, sent_path, step_path};
 ghost use Rattle.plane_types.specs.Places.{place_seen};
-ghost use Rattle.host_plane.specs.Seen.{step_seen};
-ghost use Rattle.fabric_run.specs.Seen.{host_seen};
+ghost use Rattle.host_plane.specs.Views.{step_seen};
+ghost use Rattle.fabric_run.specs.Views.{host_seen};
 
 use crate::fleet::HostAt;
 use crate::run::Added;

@@ -4,21 +4,21 @@ ghost use Rattle.std.specs.Prelude.{◌≡◌, ◌<◌, ◌≤◌, ℕ, IfOk, Li
 ghost use Rattle.plane_types.specs.Fabric.{at_inward, at_tap, begun as begun_with, fabric_fate, steps_for as steps_for_life, walk};
 ghost use Rattle.plane_types.specs.Hosts.{Host, is_named};
 ghost use Rattle.plane_types.specs.Meaning.{life_of};
-ghost use Rattle.plane_types.specs.Told.{fabric_verdict};
+ghost use Rattle.plane_types.specs.Verdicts.{fabric_verdict};
 ghost use Rattle.plane_types.specs.TableStep.{inward_at as inward_by, tap_at as tap_by_port};
 ghost use Rattle.plane_types.specs.declared.event.Event.TheVariants.{FromPort, FromWire};
 ghost use Rattle.plane_types.specs.declared.table.Carrier.TheVariants.{Wire as ByWire};
-ghost use Rattle.host_plane.specs.Seen.{outcome_of as outcome_seen, step_seen};
+ghost use Rattle.host_plane.specs.Views.{outcome_of as outcome_seen, step_seen};
 ghost use Rattle.plane_types.specs.Places.{End};
 ghost use Rattle.plane_types.specs.declared.verdict.Outcome.TheVariants.{Dropped};
-ghost use Rattle.fabric_run.specs.Seen.{IsWithin, ended_by, host_seen, looks_of, start_path, turned};
+ghost use Rattle.fabric_run.specs.Views.{IsWithin, ended_by, host_seen, looks_of, start_path, turned};
 
 use crate::added::network_at;
 use crate::fleet::{Fleet, HostAt, host_at};
 use crate::run::Run;
 use crate::taker::{Sought, first, taker};
 use crate::trip::travel;
-use crate::turn::Turn;
+use crate::position::Turn;
 use api_types::Id;
 use host_plane::{Ended, Ending, Step};
 use net_addr::{Copies, OutOfMemory, Text};

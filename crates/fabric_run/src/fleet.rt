@@ -1,7 +1,7 @@
 //! The hosts as a run sees them: names, tables and entries, borrowed.
 
 ghost use Rattle.std.specs.Prelude.{◌≡◌, ◌<◌, Some, length, slice_get};
-ghost use Rattle.fabric_run.specs.Seen.{host_seen};
+ghost use Rattle.fabric_run.specs.Views.{host_seen};
 
 use net_addr::Text;
 use plane_types::{Entries, HostTables};

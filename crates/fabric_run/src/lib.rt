@@ -11,7 +11,7 @@ mod fleet;
 mod run;
 mod taker;
 mod trip;
-mod turn;
+mod position;
 
 pub use begin::send;
 pub use fleet::Fleet;

@@ -3,7 +3,7 @@
 ghost use Rattle.std.specs.Prelude.{◌≡◌, ◌&&◌, option_copied};
 ghost use Rattle.plane_types.specs.Fabric.{takes as taken_by, takes_to};
 ghost use Rattle.plane_types.specs.Hosts.{Host};
-ghost use Rattle.fabric_run.specs.Seen.{IsFirst, host_seen, is_other_than, is_sought_in};
+ghost use Rattle.fabric_run.specs.Views.{IsFirst, host_seen, is_other_than, is_sought_in};
 
 use crate::fleet::{Fleet, HostAt, host_at};
 use api_types::Id;

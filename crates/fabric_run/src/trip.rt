@@ -3,11 +3,11 @@
 ghost use Rattle.std.specs.Prelude.{◌≡◌, ◌≤◌, [], ℕ, List, OnOk, count_by, length};
 ghost use Rattle.plane_types.specs.Fabric.{begun as begun_with, walk};
 ghost use Rattle.plane_types.specs.Hosts.{is_named};
-ghost use Rattle.fabric_run.specs.Seen.{IsFate, IsWithin, turned};
+ghost use Rattle.fabric_run.specs.Views.{IsFate, IsWithin, turned};
 
 use crate::fleet::Fleet;
 use crate::run::Run;
-use crate::turn::{Turn, advance};
+use crate::position::{Turn, advance};
 use net_addr::OutOfMemory;
 use std::alloc::Global;
 

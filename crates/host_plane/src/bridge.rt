@@ -4,7 +4,7 @@ ghost use Rattle.std.specs.Prelude.{◌≡◌, option_copied};
 ghost use Rattle.plane_types.specs.Ends.{destination};
 ghost use Rattle.plane_types.specs.Packets.{address_ask};
 ghost use Rattle.plane_types.specs.TableStep.{asked_at, bridge_at as bridge_by_key, bridge_in as bridged_in, bridge_step as bridged_at_tag, bridged_by as bridged_by_row, inward_step as bridged_inward, lease_answer as leased_by, lease_at as lease_by_mac, led as led_by, neighbour_at as neighbour_by_address, routed_in as routed_to, source_of as sender_of, tapped as tapped_at, wire_or as wire_or_dropped};
-ghost use Rattle.host_plane.specs.Seen.{step_seen};
+ghost use Rattle.host_plane.specs.Views.{step_seen};
 
 use crate::ending::{Ended, Ending, Step, drops};
 use crate::map::{bridge_at, neighbour_at};

@@ -2,7 +2,7 @@
 
 ghost use Rattle.std.specs.Prelude.{◌≡◌};
 ghost use Rattle.plane_types.specs.TableStep.{drops as drop_step, plain as plain_step};
-ghost use Rattle.host_plane.specs.Seen.{step_seen, stepped_seen};
+ghost use Rattle.host_plane.specs.Views.{step_seen, stepped_seen};
 
 use api_types::{Id, Lease};
 use net_addr::{Addr, Mac, Text};

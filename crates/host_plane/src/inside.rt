@@ -3,7 +3,7 @@
 ghost use Rattle.std.specs.Prelude.{◌≡◌, ◌++◌};
 ghost use Rattle.plane_types.specs.TableStep.{router_by_leg as by_port, router_in as routed_in, tagged_leg as leg_by_port};
 ghost use Rattle.plane_types.specs.Parts.{packet_of};
-ghost use Rattle.host_plane.specs.Seen.{stepped_seen};
+ghost use Rattle.host_plane.specs.Views.{stepped_seen};
 
 use crate::ending::{Stepped, dropped};
 use crate::port::port_of;

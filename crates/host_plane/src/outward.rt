@@ -4,7 +4,7 @@ ghost use Rattle.std.specs.Prelude.{◌≡◌};
 ghost use Rattle.plane_types.specs.Packets.{ip_frame};
 ghost use Rattle.plane_types.specs.TableStep.{neighbour_at as neighbour_by_address, sent_at as sent_at_port, sent_by as sent_by_neighbour, tag_row as row_of_tag, tagged_leg as leg_by_port, unheld as unheld_by};
 ghost use Rattle.plane_types.specs.Parts.{packet_of};
-ghost use Rattle.host_plane.specs.Seen.{step_seen};
+ghost use Rattle.host_plane.specs.Views.{step_seen};
 
 use crate::ending::{Ended, Ending, Step, drops};
 use crate::map::neighbour_at;

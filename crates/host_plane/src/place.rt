@@ -3,7 +3,7 @@
 ghost use Rattle.std.specs.Prelude.{◌≡◌, ◌+◌, ◌≤◌, ◌++◌, length};
 ghost use Rattle.plane_types.specs.Places.{place_seen};
 ghost use Rattle.plane_types.specs.TableStep.{table_step};
-ghost use Rattle.host_plane.specs.Seen.{step_seen, stepped_seen};
+ghost use Rattle.host_plane.specs.Views.{step_seen, stepped_seen};
 
 use crate::bridge::{bridge_step, dhcp_in, inward_step};
 use crate::ending::{Step, Stepped};

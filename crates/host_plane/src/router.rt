@@ -9,7 +9,7 @@ ghost use Rattle.plane_types.specs.Routing.{best_way as best_of_ways, destined a
 ghost use Rattle.plane_types.specs.TableStep.{leg_at, plain, stops, table_routed as led_by, table_view, way_at, ways_at};
 ghost use Rattle.plane_types.specs.declared.verdict.Outcome.TheVariants.{Absorbed};
 ghost use Rattle.plane_types.specs.Parts.{changed_of, destined_of, packet_of, sourced_of};
-ghost use Rattle.host_plane.specs.Seen.{stepped_seen};
+ghost use Rattle.host_plane.specs.Views.{stepped_seen};
 
 use crate::ending::{Ended, Ending, Step, Stepped, dropped};
 use crate::outward::sent_at;

@@ -7,7 +7,7 @@ ghost use Rattle.plane_types.specs.Places.{Bridge, Next};
 ghost use Rattle.plane_types.specs.TableStep.{stops as stop_step, tap_at as tap_by_port, tap_delivers as delivered_to, tap_filtered as filtered_by, tap_guards as guarded, tap_in as taken_in, tap_out as taken_out, tap_out_by as taken_out_by, tap_passage, tap_sends as sent_by};
 ghost use Rattle.plane_types.specs.Parts.{packet_of};
 ghost use Rattle.plane_types.specs.declared.verdict.Outcome.TheVariants.{Delivered};
-ghost use Rattle.host_plane.specs.Seen.{step_seen, stepped_seen};
+ghost use Rattle.host_plane.specs.Views.{step_seen, stepped_seen};
 
 use crate::ending::{Ended, Ending, Step, Stepped, dropped};
 use crate::filter::passage_at;

@@ -6,7 +6,7 @@ use Rattle.api_types.specs.declared.call.Caller.{Caller}
 use Rattle.api_ml2.specs.Carrying.{carries}
 use Rattle.plane_types.specs.Crossing.{CrossesAtRouters}
 use Rattle.plane_types.specs.Hosts.{Host, all_entries}
-use Rattle.plane_types.specs.Told.{fabric_verdict, hosts_after, kept_from, made_at, rows_verdict, without_hosts}
+use Rattle.plane_types.specs.Verdicts.{fabric_verdict, hosts_after, kept_from, made_at, rows_verdict, without_hosts}
 use Rattle.plane_types.specs.declared.ask.LabAnswer.TheVariants.{Seen}
 use Rattle.plane_types.specs.declared.ask.LabCall.TheVariants.{Frames}
 use Rattle.plane_types.specs.declared.event.Event.{Event}

@@ -8,7 +8,7 @@ use Rattle.api_types.specs.declared.refusal.Refusal.{Refusal}
 use Rattle.api_types.specs.declared.refusal.Refusal.TheVariants.{NoHost, NoMessage, OutOfMemory}
 use Rattle.net_settings.specs.Settings.{SettingsParts}
 use Rattle.plane_types.specs.Node.{Node, heard, host_of, resynced, told, with_entries}
-use Rattle.plane_types.specs.Told.{fabric_verdict}
+use Rattle.plane_types.specs.Verdicts.{fabric_verdict}
 use Rattle.plane_types.specs.declared.ask.Heard.{Heard}
 use Rattle.plane_types.specs.declared.ask.HostState.{HostState}
 use Rattle.plane_types.specs.declared.ask.LabAnswer.{LabAnswer}

@@ -12,8 +12,8 @@ use Rattle.api_types.specs.declared.change.Item.{Item}
 use Rattle.net_settings.specs.Settings.{SettingsParts}
 use Rattle.plane_types.specs.Hosts.{Host, is_named}
 use Rattle.plane_types.specs.Node.{CanFollow, Node, host_of}
-use Rattle.plane_types.specs.Placed.{IsPlaced}
-use Rattle.plane_types.specs.Told.{fabric_verdict, kept as kept_at_hosts}
+use Rattle.plane_types.specs.Attached.{IsPlaced}
+use Rattle.plane_types.specs.Verdicts.{fabric_verdict, kept as kept_at_hosts}
 use Rattle.plane_types.specs.declared.event.Event.{Event}
 use Rattle.plane_laws.proofs.Counted.{once-counted}
 use Rattle.plane_laws.proofs.Facts.{AtMostOne}

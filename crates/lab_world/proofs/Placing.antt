@@ -10,8 +10,8 @@ use Rattle.std.proofs.lemmas.Option.{slice_get-get_or, slice_get-map}
 use Rattle.api_types.proofs.ListLemmas.{none_some, some_equal}
 use Rattle.api_types.specs.Lists.{Each}
 use Rattle.plane_types.specs.Hosts.{Host}
-use Rattle.plane_types.specs.Placed.{IsPlaced, meets, translates}
-use Rattle.plane_types.specs.Told.{kept, kept_from, made_at}
+use Rattle.plane_types.specs.Attached.{IsPlaced, meets, translates}
+use Rattle.plane_types.specs.Verdicts.{kept, kept_from, made_at}
 use Rattle.plane_types.specs.declared.entry.Entry.{Entry}
 use Rattle.plane_types.specs.declared.lists.TableLists.{TableLists}
 use Rattle.plane_types.specs.declared.verdict.Made.{Made}

@@ -13,7 +13,7 @@ use Rattle.net_settings.specs.Settings.{SettingsParts}
 use Rattle.net_settings.specs.declared.settings.Host.{Host as Carrier}
 use Rattle.plane_types.specs.Hosts.{all_entries}
 use Rattle.plane_types.specs.Node.{Node, follows, host_of, resynced, started, told, with_entries}
-use Rattle.plane_types.specs.Told.{made_at}
+use Rattle.plane_types.specs.Verdicts.{made_at}
 use Rattle.plane_types.specs.declared.verdict.Made.{Made}
 use Rattle.bus_core.specs.History.{History}
 use Rattle.world_laws.specs.Agents.{Agent, agent_of, first_agent, rewired, seat, told as agent_told}

@@ -15,7 +15,7 @@ use Rattle.api_types.specs.declared.refusal.Refusal.TheVariants.{Forbidden, Inva
 use Rattle.api_policy.specs.Visibility.{sees_row}
 use Rattle.plane_types.specs.Hosts.{all_entries}
 use Rattle.plane_types.specs.Node.{heard}
-use Rattle.plane_types.specs.Told.{fabric_verdict, rows_verdict}
+use Rattle.plane_types.specs.Verdicts.{fabric_verdict, rows_verdict}
 use Rattle.plane_types.specs.declared.ask.HostState.{HostState}
 use Rattle.plane_types.specs.declared.ask.LabAnswer.{LabAnswer}
 use Rattle.plane_types.specs.declared.ask.LabAnswer.TheVariants.{Hosts, Seen, Tables, Told}

@@ -5,8 +5,8 @@ use Rattle.std.specs.Str.{bytes_eq}
 use Rattle.api_types.specs.RowLists.{RowLists}
 use Rattle.api_types.specs.declared.change.Item.{Item}
 use Rattle.plane_types.specs.Node.{Node, Ready, resynced, told, with_entries}
-use Rattle.plane_types.specs.Told.{made_at}
-use Rattle.plane_types.specs.Wired.{wired}
+use Rattle.plane_types.specs.Verdicts.{made_at}
+use Rattle.plane_types.specs.TablesOfRows.{wired}
 use Rattle.plane_types.specs.declared.ask.HostState.{HostState}
 use Rattle.plane_types.specs.declared.table.TagRow.{TagRow}
 use Rattle.plane_types.specs.declared.verdict.Made.{Made}

@@ -3,8 +3,8 @@
 ghost use Rattle.std.specs.Prelude.{◌≡◌, ◌≤◌, ◌++◌, OnOk, length, map};
 ghost use Rattle.std.specs.List.{filter_map};
 ghost use Rattle.api_types.specs.Lists.{Each};
-ghost use Rattle.plane_types.specs.Placed.{IsPlaced};
-ghost use Rattle.plane_types.specs.Told.{kept, made_at};
+ghost use Rattle.plane_types.specs.Attached.{IsPlaced};
+ghost use Rattle.plane_types.specs.Verdicts.{kept, made_at};
 ghost use Rattle.plane_types.specs.Node.{CanFollow, Node, Ready, host_of, with_entries};
 ghost use Rattle.lab_world.specs.Steps.{AreFor, IsKeptAt, IsSettledAt, IsToldAt, IsToldNode, Stepwise, settled_node};
 

@@ -8,7 +8,7 @@ ghost use Rattle.net_settings.specs.Rules.{MeetsRules};
 ghost use Rattle.plane_types.specs.Crossing.{CrossesAtRouters};
 ghost use Rattle.plane_types.specs.Hosts.{all_entries};
 ghost use Rattle.plane_types.specs.Node.{Node, started};
-ghost use Rattle.plane_types.specs.Told.{rows_verdict, without_hosts};
+ghost use Rattle.plane_types.specs.Verdicts.{rows_verdict, without_hosts};
 ghost use Rattle.plane_types.specs.declared.ask.Ask.TheVariants.{Lab as LabAsk};
 ghost use Rattle.plane_types.specs.declared.ask.LabAnswer.TheVariants.{Seen};
 ghost use Rattle.plane_types.specs.declared.ask.LabCall.TheVariants.{Frames};

@@ -6,8 +6,8 @@ use Rattle.plane_types.specs.Meaning.{Trace, arrived, dropped, got}
 use Rattle.plane_types.specs.Packets.{Packet}
 use Rattle.plane_types.specs.declared.entry.Entry.{Entry}
 use Rattle.plane_types.specs.declared.verdict.DropCause.TheVariants.{Unknown}
-use Rattle.net_meaning.specs.Turns.{next_by, turn_by, turned}
-use Rattle.net_meaning.specs.declared.turn.Turn.{Turn}
+use Rattle.net_meaning.specs.Views.{next_by, turn_by, turned}
+use Rattle.net_meaning.specs.declared.at_port.Turn.{Turn}
 
 got_more : (rows : RowLists) (entries : List Entry) (many : ℕ) (q : PortRow) (p : Packet) (t : Trace) → got rows entries (suc many) q p t ≡ arrived rows entries (got rows entries many) q p t
 unfolding got

@@ -8,15 +8,15 @@ ghost use Rattle.plane_types.specs.Meaning.{dropped as dropped_by, from_live as 
 ghost use Rattle.api_types.specs.Wires.{network_on as network_on_wire};
 ghost use Rattle.api_types.specs.Holders.{port_at as port_by_mac};
 ghost use Rattle.plane_types.specs.Packets.{is_unsupported as unsupported};
-ghost use Rattle.plane_types.specs.Told.{of_nobody, rows_verdict};
+ghost use Rattle.plane_types.specs.Verdicts.{of_nobody, rows_verdict};
 ghost use Rattle.plane_types.specs.declared.verdict.DropCause.TheVariants.{Unsupported as DropUnsupported};
 ghost use Rattle.plane_types.specs.Parts.{packet_of};
-ghost use Rattle.net_meaning.specs.Turns.{fate_of, trace_of};
+ghost use Rattle.net_meaning.specs.Views.{fate_of, trace_of};
 
 use crate::ask::{asked, lease_asked, leased, out_of};
 use crate::guard::passes_guard;
 use crate::passage::passage_at;
-use crate::turn::{Fate, Trace, got};
+use crate::at_port::{Fate, Trace, got};
 use api_types::{Direction, Id, NetworkRow, PortRow, Rows, is_router_port};
 use net_addr::{OutOfMemory, Seq, Text};
 use plane_rows::{dhcp_port, holder, is_live, joined_with, network_on, port_at};

@@ -13,7 +13,7 @@ mod guard;
 mod passage;
 mod router;
 mod source;
-mod turn;
+mod at_port;
 mod uses;
 
 pub use event::explain;

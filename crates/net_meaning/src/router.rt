@@ -11,7 +11,7 @@ ghost use Rattle.plane_types.specs.Ends.{destination as destined_to};
 ghost use Rattle.plane_types.specs.Routing.{answers as answers_to, best_way as best_of_ways, better as better_of, destined as destined_by, beats as way_beats, routed as routed_by_view, routed_to as to_by_view, routed_way as way_by_view, sent as sent_by};
 ghost use Rattle.plane_rows.specs.Ways.{way_of};
 ghost use Rattle.plane_types.specs.Parts.{changed_of, destined_of, packet_of, sourced_of, use_of};
-ghost use Rattle.net_meaning.specs.Turns.{routed_of};
+ghost use Rattle.net_meaning.specs.Views.{routed_of};
 
 use crate::source::find_source;
 use crate::uses::{answering, valid_uses};

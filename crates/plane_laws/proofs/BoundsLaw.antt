@@ -24,7 +24,7 @@ use Rattle.plane_types.specs.Passage.{Passage}
 use Rattle.api_types.specs.RouterRows.{leg_of, legs_of, router_view}
 use Rattle.plane_types.specs.Routing.{RouteEnds, RouteSends, Routed, Use, routed, uses_by}
 use Rattle.api_types.specs.RouterViews.{RouterView}
-use Rattle.plane_types.specs.Told.{of_nobody, rows_verdict}
+use Rattle.plane_types.specs.Verdicts.{of_nobody, rows_verdict}
 use Rattle.plane_types.specs.declared.entry.Entry.{Entry}
 use Rattle.plane_types.specs.declared.event.Event.{Event}
 use Rattle.plane_types.specs.declared.event.Event.TheVariants.{FromPort, FromWire}

@@ -16,7 +16,7 @@ use Rattle.plane_types.specs.Packets.{Packet, address_ask, ip_frame, is_unsuppor
 use Rattle.plane_types.specs.Places.{Bridge, DhcpIn, End, Next, Place, RouterIn, Step, TapIn, TapOut, ToTunnel, ToWire, TunnelIn, WireIn}
 use Rattle.plane_types.specs.Routing.{RouteEnds, RouteSends, Routed, routed}
 use Rattle.plane_types.specs.TableStep.{Stepped, asked_at, bridge_at, bridge_at_tag, bridge_step, bridged_by, drops, inward_at, inward_step, lease_answer, lease_at, led, leg_at, neighbour_at, plain, router_at, router_by_leg, router_by_row, sent_at, sent_by, source_of, stops, table_routed, table_step, table_view, tag_row, tagged_leg, tap_at, tap_guards, tap_in, tap_out, tap_passage, tap_sends, unheld, wire_or}
-use Rattle.plane_types.specs.Told.{fabric_verdict, told_fresh}
+use Rattle.plane_types.specs.Verdicts.{fabric_verdict, told_fresh}
 use Rattle.plane_types.specs.declared.entry.Entry.{Entry}
 use Rattle.plane_types.specs.declared.event.Event.{Event}
 use Rattle.plane_types.specs.declared.event.Event.TheVariants.{FromPort, FromWire}

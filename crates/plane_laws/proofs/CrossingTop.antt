@@ -28,7 +28,7 @@ use Rattle.plane_types.specs.Meaning.{Fate, answered, asked, asked_by, dropped, 
 use Rattle.api_types.specs.Leases.{lease_for}
 use Rattle.plane_types.specs.Packets.{Packet, address_ask, ask_frame, dhcp_frame, ip_frame, is_unsupported, lease_ask, packet}
 use Rattle.plane_types.specs.Passage.{Passage}
-use Rattle.plane_types.specs.Told.{fabric_verdict, rows_verdict}
+use Rattle.plane_types.specs.Verdicts.{fabric_verdict, rows_verdict}
 use Rattle.plane_types.specs.declared.entry.Entry.{Entry}
 use Rattle.plane_types.specs.declared.event.Event.{Event}
 use Rattle.plane_types.specs.declared.event.Event.TheVariants.{FromPort, FromWire}

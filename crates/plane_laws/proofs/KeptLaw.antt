@@ -15,10 +15,10 @@ use Rattle.api_types.specs.RowLists.{RowLists}
 use Rattle.api_types.specs.declared.network.Segment.{Segment}
 use Rattle.plane_types.specs.Fabric.{fabric_fate}
 use Rattle.plane_types.specs.Hosts.{Host, is_named}
-use Rattle.plane_types.specs.Placed.{IsPlaced}
+use Rattle.plane_types.specs.Attached.{IsPlaced}
 use Rattle.plane_types.specs.Realises.{Realises}
 use Rattle.plane_types.specs.Synced.{AreSynced}
-use Rattle.plane_types.specs.Told.{hosts_after, kept_from, made_at, place_among, told_fresh}
+use Rattle.plane_types.specs.Verdicts.{hosts_after, kept_from, made_at, place_among, told_fresh}
 use Rattle.plane_types.specs.declared.entry.Entry.{Entry}
 use Rattle.plane_types.specs.declared.event.Event.{Event}
 use Rattle.plane_laws.proofs.Facts.{AllOf, AtMostOne}

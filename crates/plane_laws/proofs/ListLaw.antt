@@ -35,11 +35,11 @@ use Rattle.plane_types.specs.Hosts.{Host, all_entries, is_named}
 use Rattle.plane_types.specs.Keys.{key_eq}
 use Rattle.api_types.specs.Live.{is_live, is_at, is_here}
 use Rattle.plane_types.specs.Meaning.{Fate, rows_fate}
-use Rattle.plane_types.specs.Placed.{IsPlaced}
+use Rattle.plane_types.specs.Attached.{IsPlaced}
 use Rattle.plane_types.specs.Realises.{Realises}
 use Rattle.plane_types.specs.Routing.{Use, uses_at}
 use Rattle.plane_types.specs.TableRows.{hosted, is_host_of, is_tap}
-use Rattle.plane_types.specs.Told.{entries_made, fabric_verdict, fabric_verdicts, hosts_after, hosts_after_all, of_nobody, rows_verdict, rows_verdicts, told_by_rows, without_hosts}
+use Rattle.plane_types.specs.Verdicts.{entries_made, fabric_verdict, fabric_verdicts, hosts_after, hosts_after_all, of_nobody, rows_verdict, rows_verdicts, told_by_rows, without_hosts}
 use Rattle.plane_types.specs.declared.entry.Entry.{Entry}
 use Rattle.plane_types.specs.declared.entry.Entry.TheVariants.{Flow, Snat}
 use Rattle.plane_types.specs.declared.event.Event.{Event}

@@ -18,7 +18,7 @@ use Rattle.plane_types.specs.Entries.{has_flow, opposite}
 use Rattle.plane_types.specs.Keys.{key_eq, kind_eq, reversed}
 use Rattle.plane_types.specs.Packets.{Packet, is_unsupported, key_of, packet}
 use Rattle.plane_types.specs.Passage.{Passage, new_flow, passage}
-use Rattle.plane_types.specs.Placed.{is_placed, meets, translates}
+use Rattle.plane_types.specs.Attached.{is_placed, meets, translates}
 use Rattle.plane_types.specs.Places.{Bridge, DhcpIn, Next, Place, RouterIn, TapIn, TapOut, TunnelIn, WireIn}
 use Rattle.plane_types.specs.Routing.{Changed, Destined, RouteEnds, RouteSends, Routed, Sourced, Use, best_way, by_any, by_float, destined, has_choice, is_gateway_live, is_own, is_taken, kept_source, least_untaken, new_port, routed, routed_out, routed_to, routed_way, sent, sourced, sourced_float, sourced_gateway, sourced_new, sourced_use, uses_at, uses_by}
 use Rattle.api_types.specs.RouterViews.{Float, Leg, RouterView, Way}

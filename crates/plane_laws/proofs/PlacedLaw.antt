@@ -21,7 +21,7 @@ use Rattle.plane_types.specs.Hosts.{Host, is_named}
 use Rattle.plane_types.specs.Keys.{key_eq, kind_eq, kind_place}
 use Rattle.plane_types.specs.Meaning.{life_of}
 use Rattle.plane_types.specs.Packets.{is_unsupported}
-use Rattle.plane_types.specs.Placed.{IsPlaced, is_placed, meets, translates}
+use Rattle.plane_types.specs.Attached.{IsPlaced, is_placed, meets, translates}
 use Rattle.plane_types.specs.Places.{End, Next, Place, Step, TapIn, ToTunnel, ToWire, TunnelIn, WireIn}
 use Rattle.plane_types.specs.TableStep.{Stepped, inward_at, table_step, tap_at}
 use Rattle.plane_types.specs.declared.entry.Entry.{Entry}

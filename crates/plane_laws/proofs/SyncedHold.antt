@@ -17,7 +17,7 @@ use Rattle.api_types.specs.declared.port.PortRow.{PortRow}
 use Rattle.api_types.specs.declared.router.RouterRow.{RouterRow}
 use Rattle.plane_types.specs.Hosts.{Host, is_named}
 use Rattle.api_types.specs.Live.{is_live, network_of, network_up}
-use Rattle.plane_types.specs.Placed.{is_placed}
+use Rattle.plane_types.specs.Attached.{is_placed}
 use Rattle.plane_types.specs.Realises.{Realises, TagStands}
 use Rattle.plane_types.specs.Synced.{AreSynced}
 use Rattle.plane_types.specs.TableRows.{hosted, is_tap, router_row, router_rows, tag_of, tap_of, tap_row, tap_rows}

@@ -10,7 +10,7 @@ use Rattle.api_types.specs.declared.network.Segment.{Segment}
 use Rattle.plane_types.specs.Fabric.{FabricFate, fabric_fate, meant}
 use Rattle.plane_types.specs.Hosts.{Host, all_entries}
 use Rattle.plane_types.specs.Meaning.{rows_fate}
-use Rattle.plane_types.specs.Told.{entries_made, fabric_verdict, of_nobody, rows_verdict, told_by_hosts, told_by_rows, told_fresh, without_hosts}
+use Rattle.plane_types.specs.Verdicts.{entries_made, fabric_verdict, of_nobody, rows_verdict, told_by_hosts, told_by_rows, told_fresh, without_hosts}
 use Rattle.plane_types.specs.declared.entry.Entry.{Entry}
 use Rattle.plane_types.specs.declared.event.Event.{Event}
 use Rattle.plane_types.specs.declared.event.Event.TheVariants.{FromPort, FromWire}

@@ -14,7 +14,7 @@ use Rattle.api_types.specs.Live.{is_live, segment}
 use Rattle.plane_types.specs.Meaning.{got, rows_fate}
 use Rattle.api_types.specs.RouterRows.{connected_ways, extra_ways, floats_of, legs_of, router_view, ways_of}
 use Rattle.plane_types.specs.Routing.{best_way, routed}
-use Rattle.plane_types.specs.Told.{rows_verdict}
+use Rattle.plane_types.specs.Verdicts.{rows_verdict}
 use Rattle.plane_types.specs.declared.event.Event.{Event}
 use Rattle.plane_types.specs.declared.event.Event.TheVariants.{FromPort}
 use Rattle.plane_types.specs.declared.verdict.DropCause.TheVariants.{Expired}

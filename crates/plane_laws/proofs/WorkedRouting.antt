@@ -26,7 +26,7 @@ use Rattle.api_types.specs.RouterRows.{connected_ways, extra_ways, floats_of, le
 use Rattle.plane_types.specs.Routing.{best_way, least_untaken, new_port, routed}
 use Rattle.plane_types.specs.TableRows.{bridge_rows, filter_rows, float_rows, inward_rows, lease_rows, neighbour_rows, route_rows, router_rows, set_rows, tap_rows}
 use Rattle.plane_types.specs.TableStep.{tables_allow}
-use Rattle.plane_types.specs.Told.{fabric_verdict, fabric_verdicts, of_nobody, rows_verdict, rows_verdicts, without_hosts}
+use Rattle.plane_types.specs.Verdicts.{fabric_verdict, fabric_verdicts, of_nobody, rows_verdict, rows_verdicts, without_hosts}
 use Rattle.plane_types.specs.declared.entry.Entry.{Entry}
 use Rattle.plane_types.specs.declared.entry.Entry.TheVariants.{Snat}
 use Rattle.plane_types.specs.declared.event.Event.{Event}

@@ -25,10 +25,10 @@ use Rattle.api_types.specs.declared.port.PortRow.{PortRow}
 use Rattle.plane_types.proofs.WorkedRows.{c1, c2, host, id, local_mac, network, no_rows, open_port, tables_of, tag}
 use Rattle.plane_types.specs.Hosts.{Host, all_entries, is_named}
 use Rattle.api_types.specs.Live.{is_live, segment}
-use Rattle.plane_types.specs.Placed.{IsPlaced}
+use Rattle.plane_types.specs.Attached.{IsPlaced}
 use Rattle.plane_types.specs.Realises.{Realises, RealisesTags, TagStands}
 use Rattle.plane_types.specs.TableRows.{is_tagged}
-use Rattle.plane_types.specs.Told.{fabric_verdict, rows_verdict, without_hosts}
+use Rattle.plane_types.specs.Verdicts.{fabric_verdict, rows_verdict, without_hosts}
 use Rattle.plane_types.specs.declared.event.Event.{Event}
 use Rattle.plane_types.specs.declared.table.TagRow.{TagRow}
 use Rattle.plane_types.specs.declared.lists.TableLists.{TableLists}

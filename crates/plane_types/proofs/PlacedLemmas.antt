@@ -3,7 +3,7 @@ use Rattle.std.proofs.Common.{◌≡◌, ℕ, ◌≤◌, List, Bool, true, cond,
 use Rattle.std.specs.Prelude.{count_by}
 use Rattle.std.specs.List.{filter}
 use Rattle.api_types.proofs.ListLemmas.{each-filter, sum-filter-le}
-use Rattle.plane_types.specs.Placed.{IsPlaced, is_placed, meets, translates}
+use Rattle.plane_types.specs.Attached.{IsPlaced, is_placed, meets, translates}
 use Rattle.plane_types.specs.declared.entry.Entry.{Entry}
 use Rattle.plane_types.specs.declared.lists.TableLists.{TableLists}
 

@@ -16,7 +16,7 @@ use Rattle.api_types.specs.declared.network.NetworkRow.{NetworkRow}
 use Rattle.plane_types.specs.Realises.{RealisesTags, TagStands}
 use Rattle.plane_types.specs.TableRows.{is_tagged, tag_of}
 use Rattle.plane_types.specs.declared.table.TagRow.{TagRow}
-use Rattle.plane_types.specs.Retagged.{AreTags, free_tags, in_turn, is_free, kept_tags, next_tag, numbers, retagged, tag_row, tagged, with_tag}
+use Rattle.plane_types.specs.NewTags.{AreTags, free_tags, in_turn, is_free, kept_tags, next_tag, numbers, retagged, tag_row, tagged, with_tag}
 use Rattle.plane_types.proofs.NumberLemmas.{count-cons, count-filter, enough-free, none-free, once-numbered, one_if}
 use Rattle.plane_types.proofs.TagLemmas.{found, has_tag, kept-once, kept-or-new}
 

@@ -19,7 +19,7 @@ use Rattle.plane_types.specs.Meaning.{got, rows_fate}
 use Rattle.plane_types.specs.Places.{TunnelIn}
 use Rattle.plane_types.specs.TableRows.{bridge_rows, filter_rows, float_rows, inward_rows, lease_rows, neighbour_rows, route_rows, router_rows, set_rows, tap_rows}
 use Rattle.plane_types.specs.TableStep.{drops, plain, table_step, tables_allow}
-use Rattle.plane_types.specs.Told.{fabric_verdict, fabric_verdicts, of_nobody, rows_verdict, rows_verdicts, without_hosts}
+use Rattle.plane_types.specs.Verdicts.{fabric_verdict, fabric_verdicts, of_nobody, rows_verdict, rows_verdicts, without_hosts}
 use Rattle.plane_types.specs.declared.event.Event.{Event}
 use Rattle.plane_types.specs.declared.event.Event.TheVariants.{FromPort}
 use Rattle.plane_types.specs.declared.frame.Frame.{Frame}

@@ -6,14 +6,14 @@ use Rattle.api_types.specs.RowLists.{RowLists}
 use Rattle.api_types.specs.Rows.{Fits, after}
 use Rattle.api_types.specs.declared.change.Item.{Item}
 use Rattle.plane_types.specs.Hosts.{Host}
-use Rattle.plane_types.specs.Placed.{IsPlaced, is_placed}
+use Rattle.plane_types.specs.Attached.{IsPlaced, is_placed}
 use Rattle.plane_types.specs.Realises.{Realises}
 use Rattle.plane_types.specs.declared.ask.Heard.{Heard}
 use Rattle.plane_types.specs.declared.ask.Heard.TheVariants.{Applied, Asleep, Gap, Old}
 use Rattle.plane_types.specs.declared.entry.Entry.{Entry}
 use Rattle.plane_types.specs.declared.table.TagRow.{TagRow}
 use Rattle.plane_types.specs.declared.lists.TableLists.{TableLists}
-use Rattle.plane_types.specs.Wired.{wired}
+use Rattle.plane_types.specs.TablesOfRows.{wired}
 
 pub record Node : Type 0 where
   pub name : List ℕ

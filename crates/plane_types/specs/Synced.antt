@@ -6,7 +6,7 @@ use Rattle.api_types.specs.Lists.{Each}
 use Rattle.api_types.specs.RowLists.{RowLists}
 use Rattle.api_types.specs.declared.network.Segment.{Segment}
 use Rattle.plane_types.specs.Hosts.{Host, is_named}
-use Rattle.plane_types.specs.Placed.{IsPlaced}
+use Rattle.plane_types.specs.Attached.{IsPlaced}
 use Rattle.plane_types.specs.Realises.{Realises}
 
 pub record AreSynced (carries : List ℕ → Segment → Bool) (rows : RowLists) (hosts : List Host) : Type 0 where

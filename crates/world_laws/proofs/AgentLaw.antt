@@ -7,13 +7,13 @@ use Rattle.api_types.specs.Rows.{Fits, after}
 use Rattle.api_types.specs.declared.change.Item.{Item}
 use Rattle.net_settings.specs.Settings.{SettingsParts}
 use Rattle.api_types.proofs.ListLemmas.{none_some, some_equal}
-use Rattle.plane_types.specs.Placed.{IsPlaced}
+use Rattle.plane_types.specs.Attached.{IsPlaced}
 use Rattle.plane_types.specs.Realises.{Realises}
 use Rattle.plane_types.specs.declared.entry.Entry.{Entry}
 use Rattle.plane_types.specs.declared.table.TagRow.{TagRow}
-use Rattle.plane_types.specs.Retagged.{AreTags}
+use Rattle.plane_types.specs.NewTags.{AreTags}
 use Rattle.plane_types.proofs.RetaggedLaw.{tags_stand}
-use Rattle.plane_types.specs.Wired.{wired}
+use Rattle.plane_types.specs.TablesOfRows.{wired}
 use Rattle.plane_types.proofs.PlacedLemmas.{stay_placed}
 use Rattle.plane_types.proofs.RealisedTags.{are_tags}
 use Rattle.bus_core.specs.History.{History, IsHistory, accepted, change_at, rows_at}

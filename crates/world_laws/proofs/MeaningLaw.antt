@@ -9,9 +9,9 @@ use Rattle.api_types.specs.declared.change.Item.{Item}
 use Rattle.api_ml2.specs.Carrying.{carries}
 use Rattle.plane_types.specs.Crossing.{CrossesAtRouters}
 use Rattle.plane_types.specs.Hosts.{Host, all_entries}
-use Rattle.plane_types.specs.Placed.{IsPlaced}
+use Rattle.plane_types.specs.Attached.{IsPlaced}
 use Rattle.plane_types.specs.Realises.{Realises}
-use Rattle.plane_types.specs.Told.{fabric_verdicts, rows_verdicts, without_hosts}
+use Rattle.plane_types.specs.Verdicts.{fabric_verdicts, rows_verdicts, without_hosts}
 use Rattle.plane_types.specs.declared.event.Event.{Event}
 use Rattle.plane_laws.specs.Held.{HoldRows}
 use Rattle.plane_laws.proofs.ListLaw.{lists-cross, lists-mean-rows}

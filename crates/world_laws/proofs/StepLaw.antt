@@ -12,8 +12,8 @@ use Rattle.net_settings.specs.Settings.{SettingsParts}
 use Rattle.net_settings.specs.declared.settings.Host.{Host as Carrier}
 use Rattle.api_types.proofs.ListLemmas.{none_some, some_equal}
 use Rattle.plane_types.specs.Hosts.{is_named}
-use Rattle.plane_types.specs.Placed.{IsPlaced}
-use Rattle.plane_types.specs.Told.{fabric_verdict, hosts_after, kept_from, made_at}
+use Rattle.plane_types.specs.Attached.{IsPlaced}
+use Rattle.plane_types.specs.Verdicts.{fabric_verdict, hosts_after, kept_from, made_at}
 use Rattle.plane_types.specs.declared.event.Event.{Event}
 use Rattle.plane_types.specs.declared.verdict.Made.{Made}
 use Rattle.plane_laws.proofs.KeptLaw.{stay-placed}

@@ -5,11 +5,11 @@ use Rattle.api_types.specs.RowLists.{RowLists}
 use Rattle.api_types.specs.Rows.{after}
 use Rattle.api_types.specs.declared.change.Item.{Item}
 use Rattle.plane_types.specs.Hosts.{Host}
-use Rattle.plane_types.specs.Placed.{is_placed}
+use Rattle.plane_types.specs.Attached.{is_placed}
 use Rattle.plane_types.specs.declared.entry.Entry.{Entry}
 use Rattle.plane_types.specs.declared.lists.TableLists.{TableLists}
 use Rattle.plane_types.specs.Node.{Node, follows}
-use Rattle.plane_types.specs.Wired.{wired}
+use Rattle.plane_types.specs.TablesOfRows.{wired}
 
 pub record Agent : Type 0 where
   pub name : List ℕ

@@ -4,7 +4,7 @@ use Rattle.api_types.specs.Lists.{Each}
 use Rattle.net_settings.specs.Rules.{MeetsRules}
 use Rattle.net_settings.specs.Settings.{SettingsParts}
 use Rattle.net_settings.specs.declared.settings.Host.{Host as Carrier}
-use Rattle.plane_types.specs.Placed.{IsPlaced}
+use Rattle.plane_types.specs.Attached.{IsPlaced}
 use Rattle.plane_types.specs.Realises.{Realises}
 use Rattle.bus_core.specs.History.{History, IsHistory, first_kept, rows_at}
 use Rattle.world_laws.specs.Agents.{Agent, seat}

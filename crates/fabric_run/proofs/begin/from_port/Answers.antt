@@ -1,5 +1,5 @@
 use Rattle.std.proofs.Common.{suc}
-use Rattle.host_plane.specs.Seen.{step_seen}
+use Rattle.host_plane.specs.Views.{step_seen}
 use Rattle.plane_types.specs.Fabric.{steps_for, walk}
 use Rattle.plane_types.specs.Meaning.{life_of}
 use Rattle.plane_types.specs.declared.verdict.DropCause.TheVariants.{Dead}

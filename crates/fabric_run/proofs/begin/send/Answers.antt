@@ -1,7 +1,7 @@
 use Rattle.std.proofs.Common.{◌≡◌, ◌∙◌, ◌++◌, length, ap, arith}
 use Rattle.std.specs.Prelude.{option_to_list}
 use Rattle.plane_types.specs.Fabric.{FabricFate, begun, fabric_fate, walk}
-use Rattle.fabric_run.specs.Seen.{looks_of, start_path, turned}
+use Rattle.fabric_run.specs.Views.{looks_of, start_path, turned}
 use Rattle.fabric_run.proofs.TurnLemmas.{few_made}
 use Rattle.fabric_run.proofs.begin.send.Goals as goal
 

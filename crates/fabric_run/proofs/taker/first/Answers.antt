@@ -1,6 +1,6 @@
 use Rattle.std.proofs.Common.{◌∙◌, ◌<◌, sym, arith}
 use Rattle.std.specs.Prelude.{length}
-use Rattle.fabric_run.specs.Seen.{host_seen, is_sought_in}
+use Rattle.fabric_run.specs.Views.{host_seen, is_sought_in}
 use Rattle.fabric_run.proofs.FleetLemmas.{found_here, not_here}
 use Rattle.fabric_run.proofs.taker.first.Goals as goal
 

@@ -1,7 +1,7 @@
 use Rattle.std.proofs.Common.{◌≡◌, ◌∙◌, ◌+◌, ◌-◌, ◌≤◌, zero, suc, length, refl, ap, sym, subst, arith}
-use Rattle.host_plane.specs.Seen.{step_seen}
+use Rattle.host_plane.specs.Views.{step_seen}
 use Rattle.plane_types.specs.Fabric.{FabricFate, begun, finished, walk}
-use Rattle.fabric_run.specs.Seen.{Tells, ended_by, turned}
+use Rattle.fabric_run.specs.Views.{Tells, ended_by, turned}
 use Rattle.fabric_run.proofs.TurnLemmas.{led_grows, stands}
 use Rattle.fabric_run.proofs.trip.travel.Goals as goal
 

@@ -1,6 +1,6 @@
 use Rattle.std.proofs.Common.{◌≡◌, ◌+◌, ◌-◌, ◌≤◌, length}
 use Rattle.plane_types.specs.Fabric.{Run as TheRun, begun, walk}
-use Rattle.fabric_run.specs.Seen.{IsWithin, Tells, turned}
+use Rattle.fabric_run.specs.Views.{IsWithin, Tells, turned}
 use Rattle.fabric_run.proofs.trip.travel.Given as goal
 
 -- what a walk from here comes to, is what one from the first place comes to

@@ -1,5 +1,5 @@
 use Rattle.std.proofs.Common.{◌∙◌}
-use Rattle.plane_types.specs.Retagged.{free_tags, in_turn, kept_tags, retagged}
+use Rattle.plane_types.specs.NewTags.{free_tags, in_turn, kept_tags, retagged}
 use Rattle.l2_agent.proofs.FreeLemmas.{free_alike}
 use Rattle.l2_agent.proofs.tags.retagged.Goals as goal
 

@@ -1,7 +1,7 @@
 use Rattle.std.proofs.Common.{◌∙◌, map}
 use Rattle.std.specs.List.{filter}
 use Rattle.api_types.specs.declared.network.NetworkRow.{NetworkRow}
-use Rattle.plane_types.specs.Retagged.{tagged}
+use Rattle.plane_types.specs.NewTags.{tagged}
 use Rattle.l2_agent.proofs.tags.tagged.Goals as goal
 
 pub returns : goal.returns

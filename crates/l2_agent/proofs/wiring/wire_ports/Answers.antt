@@ -1,6 +1,6 @@
 use Rattle.std.proofs.Common.{◌∙◌, ap, sym, subst}
 use Rattle.plane_types.specs.Realises.{RealisesTags}
-use Rattle.plane_types.specs.Retagged.{retagged}
+use Rattle.plane_types.specs.NewTags.{retagged}
 use Rattle.plane_types.proofs.RetaggedLaw.{tags_stand}
 use Rattle.l2_agent.proofs.wiring.wire_ports.Goals as goal
 

@@ -2,8 +2,8 @@ use Rattle.std.proofs.Common.{◌<◌, ◌++◌, ◌∙◌, Some, ap, arith, len
 use Rattle.std.specs.List.{filter_map}
 use Rattle.std.proofs.lemmas.Option.{slice_get-get_or}
 use Rattle.plane_types.specs.Node.{Node, host_of, with_entries}
-use Rattle.plane_types.specs.Placed.{IsPlaced}
-use Rattle.plane_types.specs.Told.{made_at}
+use Rattle.plane_types.specs.Attached.{IsPlaced}
+use Rattle.plane_types.specs.Verdicts.{made_at}
 use Rattle.lab_world.specs.Steps.{IsKeptAt}
 use Rattle.lab_world.proofs.Placing.{will_be_placed}
 use Rattle.lab_world.proofs.SoFar.{at_last, one_more}

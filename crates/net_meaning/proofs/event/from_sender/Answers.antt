@@ -10,7 +10,7 @@ use Rattle.plane_types.specs.Parts.{packet_of}
 use Rattle.plane_types.specs.declared.entry.Entry.{Entry}
 use Rattle.plane_types.specs.declared.frame.Frame.{Frame}
 use Rattle.plane_types.specs.declared.frame.Frame.TheVariants.{Dhcp, Ip, NeighbourAsk, Other}
-use Rattle.net_meaning.specs.Turns.{trace_of}
+use Rattle.net_meaning.specs.Views.{trace_of}
 use Rattle.net_meaning.proofs.event.from_sender.Goals as goal
 
 -- the packet of a frame is sent out

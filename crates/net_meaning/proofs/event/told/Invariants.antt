@@ -1,5 +1,5 @@
 use Rattle.std.proofs.Common.{◌≡◌, map, take}
-use Rattle.plane_types.specs.Told.{of_nobody}
+use Rattle.plane_types.specs.Verdicts.{of_nobody}
 use Rattle.net_meaning.proofs.event.told.Given as goal
 
 -- the entries so far are told

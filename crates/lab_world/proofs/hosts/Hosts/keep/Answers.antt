@@ -1,8 +1,8 @@
 use Rattle.std.proofs.Common.{◌∙◌, map, subst, sym}
 use Rattle.api_types.specs.Lists.{Each}
 use Rattle.plane_types.specs.Node.{host_of}
-use Rattle.plane_types.specs.Placed.{IsPlaced}
-use Rattle.plane_types.specs.Told.{kept}
+use Rattle.plane_types.specs.Attached.{IsPlaced}
+use Rattle.plane_types.specs.Verdicts.{kept}
 use Rattle.lab_world.proofs.hosts.Hosts.keep.Goals as goal
 
 pub keep_all-requires-clause-placed : goal.keep_all-requires-clause-placed

@@ -1,8 +1,8 @@
 use Rattle.std.proofs.Common.{◌∙◌, ◌≡◌, List, ap, arith, inl, length, map, refl, subst, sym}
 use Rattle.std.proofs.lemmas.Result.{err_from_is_err_and}
 use Rattle.api_types.specs.Lists.{Each}
-use Rattle.plane_types.specs.Placed.{IsPlaced}
-use Rattle.plane_types.specs.Told.{fabric_verdict, kept}
+use Rattle.plane_types.specs.Attached.{IsPlaced}
+use Rattle.plane_types.specs.Verdicts.{fabric_verdict, kept}
 use Rattle.plane_types.specs.declared.verdict.Made.{Made}
 use Rattle.plane_types.specs.declared.verdict.Verdict.{Verdict}
 use Rattle.plane_types.specs.Node.{Node, host_of}

@@ -1,16 +1,16 @@
 use Rattle.std.proofs.Common.{◌≡◌, ◌∙◌, ◌++◌, ap, sym}
 use Rattle.std.specs.Prelude.{option_to_list}
-use Rattle.host_plane.specs.Seen.{step_seen}
+use Rattle.host_plane.specs.Views.{step_seen}
 use Rattle.plane_laws.proofs.Counted.{once-counted}
 use Rattle.plane_laws.proofs.MadeLaw.{admits-one, step-admits}
 use Rattle.plane_types.specs.Fabric.{after_step, moved as moved_by, step_path, walk}
 use Rattle.plane_types.specs.Hosts.{Host, is_named}
 use Rattle.plane_types.specs.Places.{Place, place_seen}
 use Rattle.plane_types.specs.TableStep.{Stepped, table_step}
-use Rattle.fabric_run.specs.Seen.{host_seen}
+use Rattle.fabric_run.specs.Views.{host_seen}
 use Rattle.fabric_run.proofs.TellsLemmas.{tells_after}
 use Rattle.fabric_run.proofs.TurnLemmas.{step_to}
-use Rattle.fabric_run.proofs.turn.advance.Goals as goal
+use Rattle.fabric_run.proofs.position.advance.Goals as goal
 
 pub returns-clause-walked : goal.returns-clause-walked
 returns-clause-walked g c = λ many r tells.

@@ -7,11 +7,11 @@ use Rattle.plane_types.specs.Routing.{RouteEnds, RouteSends, Routed as TheRouted
 use Rattle.plane_types.specs.Parts.{packet_of}
 use Rattle.net_meaning.specs.declared.router.Routed.{Routed}
 use Rattle.net_meaning.specs.declared.router.Routed.TheVariants.{Ends as EndsThere, Sends}
-use Rattle.net_meaning.specs.declared.turn.Fate.{Fate}
-use Rattle.net_meaning.specs.declared.turn.Next.{Next}
-use Rattle.net_meaning.specs.declared.turn.Next.TheVariants.{Ends, To}
-use Rattle.net_meaning.specs.declared.turn.Trace.{Trace}
-use Rattle.net_meaning.specs.declared.turn.Turn.{Turn}
+use Rattle.net_meaning.specs.declared.at_port.Fate.{Fate}
+use Rattle.net_meaning.specs.declared.at_port.Next.{Next}
+use Rattle.net_meaning.specs.declared.at_port.Next.TheVariants.{Ends, To}
+use Rattle.net_meaning.specs.declared.at_port.Trace.{Trace}
+use Rattle.net_meaning.specs.declared.at_port.Turn.{Turn}
 
 abbrev pub routed_of : Routed → TheRouted
 routed_of (EndsThere o) = RouteEnds o

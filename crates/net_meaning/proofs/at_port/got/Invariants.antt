@@ -1,8 +1,8 @@
 use Rattle.std.proofs.Common.{◌≡◌, ◌-◌}
 use Rattle.plane_types.specs.Meaning.{got as got_by}
 use Rattle.plane_types.specs.Parts.{packet_of}
-use Rattle.net_meaning.specs.Turns.{trace_of}
-use Rattle.net_meaning.proofs.turn.got.Given as goal
+use Rattle.net_meaning.specs.Views.{trace_of}
+use Rattle.net_meaning.proofs.at_port.got.Given as goal
 
 -- what becomes of the packet from here on is what becomes of it
 abbrev pub invariant-loop-routers : goal.invariant-loop-routers

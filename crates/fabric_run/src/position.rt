@@ -5,8 +5,8 @@ ghost use Rattle.std.specs.Str.{bytes_eq};
 ghost use Rattle.plane_types.specs.Fabric.{Going, Run as TheRun, moved as moved_by, takes, tunnelled as tunnelled_by, walk, wired as wired_by};
 ghost use Rattle.plane_types.specs.Hosts.{Host, is_named};
 ghost use Rattle.plane_types.specs.Places.{End, place_seen};
-ghost use Rattle.host_plane.specs.Seen.{outcome_of, step_seen};
-ghost use Rattle.fabric_run.specs.Seen.{IsWithin, Tells, Walks, host_seen, turned};
+ghost use Rattle.host_plane.specs.Views.{outcome_of, step_seen};
+ghost use Rattle.fabric_run.specs.Views.{IsWithin, Tells, Walks, host_seen, turned};
 
 use crate::added::added_by;
 use crate::fleet::{Fleet, HostAt, host_at};

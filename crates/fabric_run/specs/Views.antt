@@ -2,13 +2,13 @@
 use Rattle.std.specs.Prelude.{ℕ, suc, [], ◌&&◌, ◌≡◌, ◌<◌, Bool, List, Option, Some, None, find, is_some, length, not, option_copied, slice_get, true}
 use Rattle.std.specs.Str.{bytes_eq}
 use Rattle.api_types.specs.Ident.{Ident}
-use Rattle.host_plane.specs.Seen.{step_seen}
+use Rattle.host_plane.specs.Views.{step_seen}
 use Rattle.plane_types.specs.Fabric.{FabricFate, Going, Run as TheRun, at_inward, at_tap, finished, steps_for, takes}
 use Rattle.plane_types.specs.Hosts.{Host, is_named}
 use Rattle.plane_types.specs.Meaning.{life_of}
 use Rattle.plane_types.specs.Places.{End, Next, Place, Step, TapIn, ToTunnel, ToWire, WireIn}
 use Rattle.plane_types.specs.TableStep.{inward_at, tap_at}
-use Rattle.plane_types.specs.Told.{told_fresh, told_trail}
+use Rattle.plane_types.specs.Verdicts.{told_fresh, told_trail}
 use Rattle.plane_types.specs.declared.event.Event.{Event}
 use Rattle.plane_types.specs.declared.event.Event.TheVariants.{FromPort, FromWire}
 use Rattle.plane_types.specs.declared.table.Carrier.TheVariants.{Wire as ByWire}
@@ -19,7 +19,7 @@ use Rattle.fabric_run.specs.declared.fleet.HostAt.{HostAt}
 use Rattle.fabric_run.specs.declared.run.Run.{Run}
 use Rattle.fabric_run.specs.declared.taker.Sought.{Sought}
 use Rattle.fabric_run.specs.declared.taker.Sought.TheVariants.{Named, Taker, WithTap}
-use Rattle.fabric_run.specs.declared.turn.Turn.{Turn}
+use Rattle.fabric_run.specs.declared.position.Turn.{Turn}
 
 abbrev pub host_seen : HostAt → Host
 host_seen h = record { name = h.name.now; tables = h.tables.now.lists; entries = h.entries.now.items }

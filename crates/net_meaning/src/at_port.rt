@@ -6,7 +6,7 @@ ghost use Rattle.plane_types.specs.Meaning.{Onward, Trace as TheTrace, arrived a
 ghost use Rattle.api_types.specs.RouterRows.{leg_of};
 ghost use Rattle.plane_types.specs.Routing.{RouteSends};
 ghost use Rattle.plane_types.specs.Parts.{packet_of};
-ghost use Rattle.net_meaning.specs.Turns.{fate_of, passed_list, trace_of, turn_by};
+ghost use Rattle.net_meaning.specs.Views.{fate_of, passed_list, trace_of, turn_by};
 
 use crate::ask::out_of;
 use crate::passage::passage_at;

@@ -1,7 +1,7 @@
 -- The tables that a host makes of rows.
 use Rattle.std.specs.Prelude.{ℕ, List}
 use Rattle.api_types.specs.RowLists.{RowLists}
-use Rattle.plane_types.specs.Retagged.{retagged}
+use Rattle.plane_types.specs.NewTags.{retagged}
 use Rattle.plane_types.specs.TableRows.{bridge_rows, filter_rows, float_rows, inward_rows, lease_rows, neighbour_rows, route_rows, router_rows, set_rows, tap_rows}
 use Rattle.plane_types.specs.declared.table.TagRow.{TagRow}
 use Rattle.plane_types.specs.declared.lists.TableLists.{TableLists}

@@ -1,9 +1,9 @@
 use Rattle.std.proofs.Common.{◌∙◌, ◌-◌, ◌+◌, ap, sym}
 use Rattle.plane_types.specs.Meaning.{got as got_by}
 use Rattle.plane_types.specs.Parts.{packet_of}
-use Rattle.net_meaning.specs.Turns.{next_by, trace_of}
+use Rattle.net_meaning.specs.Views.{next_by, trace_of}
 use Rattle.net_meaning.proofs.TurnLemmas.{no_turn, turn_on}
-use Rattle.net_meaning.proofs.turn.got.Goals as goal
+use Rattle.net_meaning.proofs.at_port.got.Goals as goal
 
 pub returns-in-Ends : goal.returns-in-Ends
 returns-in-Ends c =
