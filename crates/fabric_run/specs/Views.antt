@@ -19,7 +19,7 @@ use Rattle.fabric_run.specs.declared.fleet.HostAt.{HostAt}
 use Rattle.fabric_run.specs.declared.run.Run.{Run}
 use Rattle.fabric_run.specs.declared.taker.Sought.{Sought}
 use Rattle.fabric_run.specs.declared.taker.Sought.TheVariants.{Named, Taker, WithTap}
-use Rattle.fabric_run.specs.declared.position.Turn.{Turn}
+use Rattle.fabric_run.specs.declared.position.Position.{Position}
 
 abbrev pub host_seen : HostAt → Host
 host_seen h = record { name = h.name.now; tables = h.tables.now.lists; entries = h.entries.now.items }
@@ -58,7 +58,7 @@ led_to hosts on at r (ToTunnel name number frame) = finished r (Dropped Unknown)
 led_to hosts on at r (ToWire w n toward frame) = finished r (Dropped Unknown)
 
 -- what a turn leads to
-abbrev pub turned : List Host → Going → Turn → TheRun → FabricFate
+abbrev pub turned : List Host → Going → Position → TheRun → FabricFate
 turned hosts on t r = led_to hosts on t.at r (step_seen t.step)
 
 -- at a place there is a host
@@ -68,7 +68,7 @@ is_within hosts at (End o way) = Unit {0}
 is_within hosts at (ToTunnel name number frame) = Unit {0}
 is_within hosts at (ToWire w n toward frame) = Unit {0}
 
-abbrev pub IsWithin : List Host → Turn → Type 0
+abbrev pub IsWithin : List Host → Position → Type 0
 IsWithin hosts t = is_within hosts t.at (step_seen t.step)
 
 -- from a run that is told on, this fate is that of the rest
@@ -84,12 +84,12 @@ ended_with (Next place) = Dropped Unknown
 ended_with (ToTunnel name number frame) = Dropped Unknown
 ended_with (ToWire w n toward frame) = Dropped Unknown
 
-abbrev pub ended_by : Turn → Outcome
+abbrev pub ended_by : Position → Outcome
 ended_by t = ended_with (step_seen t.step)
 
 -- the fate that code tells
-pub record IsFate (hosts : List Host) (turn : Turn) (run : Run) (v : FabricFate) : Type 0 where
-  pub ended : ended_by turn ≡ v.outcome
+pub record IsFate (hosts : List Host) (position : Position) (run : Run) (v : FabricFate) : Type 0 where
+  pub ended : ended_by position ≡ v.outcome
   pub told : Tells hosts run v.run
 
 -- how many look-ups an event may have
@@ -103,5 +103,5 @@ path_from (Next (TapIn port frame)) (Some h) = at_tap h (tap_at h.tables port)
 path_from (Next (WireIn w frame)) (Some h) = at_inward h (inward_at h.tables (ByWire w))
 path_from step o = []
 
-abbrev pub start_path : List Host → Turn → List Ident
+abbrev pub start_path : List Host → Position → List Ident
 start_path hosts t = path_from (step_seen t.step) (slice_get hosts t.at)

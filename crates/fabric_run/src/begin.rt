@@ -18,9 +18,9 @@ use crate::fleet::{Fleet, HostAt, host_at};
 use crate::run::Run;
 use crate::taker::{Sought, first, taker};
 use crate::trip::travel;
-use crate::position::Turn;
+use crate::position::Position;
 use api_types::Id;
-use host_plane::{Ended, Ending, Step};
+use host_plane::{FrameEnd, Ending, Step};
 use net_addr::{Copies, OutOfMemory, Text};
 use plane_types::{AskAnswer, DropCause, Event, Frame, Outcome, Place, Verdict, is_unsupported};
 use std::alloc::Global;
@@ -60,20 +60,20 @@ fn network_of_wire(host: &HostAt<'_>, physical: &Text, tag: Option<u16>) -> Opti
     }
 }
 
-fn dropped<'f>(cause: DropCause) -> Turn<'f>
+fn dropped<'f>(cause: DropCause) -> Position<'f>
     ensures { step_seen result.step ≡ End (Dropped cause) None }
 {
-    Turn {
+    Position {
         at: 0,
         step: Step::End(Ending {
-            ended: Ended::Dropped(cause),
+            ended: FrameEnd::Dropped(cause),
             way: None,
         }),
     }
 }
 
 // An event from a port begins at the first host with a tap of it.
-fn from_port<'f, F: Fleet>(fleet: &'f F, port: Id, frame: &Frame) -> Turn<'f>
+fn from_port<'f, F: Fleet>(fleet: &'f F, port: Id, frame: &Frame) -> Position<'f>
     ensures within { IsWithin (F.hosts fleet.now) result }
     ensures begun { turned (F.hosts fleet.now)
         (walk (F.hosts fleet.now) (suc (steps_for_life (life_of frame.now)))) result
@@ -81,7 +81,7 @@ fn from_port<'f, F: Fleet>(fleet: &'f F, port: Id, frame: &Frame) -> Turn<'f>
         ≡ fabric_fate (F.hosts fleet.now) (FromPort port frame.now) }
 {
     match first(fleet, &Sought::WithTap(port)) {
-        Some(at) => Turn {
+        Some(at) => Position {
             at,
             step: Step::Next(Place::TapIn {
                 port,
@@ -98,7 +98,7 @@ fn from_wire<'f, F: Fleet>(
     physical: &'f Text,
     tag: Option<u16>,
     frame: &Frame,
-) -> Turn<'f>
+) -> Position<'f>
     ensures within { IsWithin (F.hosts fleet.now) result }
     ensures begun { turned (F.hosts fleet.now)
         (walk (F.hosts fleet.now) (steps_for_life (life_of frame.now))) result
@@ -109,7 +109,7 @@ fn from_wire<'f, F: Fleet>(
         return dropped(DropCause::Unsupported);
     }
     match taker(fleet, None, physical, tag, frame) {
-        Some(at) => Turn {
+        Some(at) => Position {
             at,
             step: Step::Next(Place::WireIn {
                 physical,
@@ -122,35 +122,35 @@ fn from_wire<'f, F: Fleet>(
 }
 
 // The network on which an event begins.
-fn start_network<F: Fleet>(fleet: &F, turn: &Turn<'_>) -> Option<Id>
-    requires { IsWithin (F.hosts fleet.now) turn.now }
-    ensures { option_to_list result ≡ start_path (F.hosts fleet.now) turn.now }
+fn start_network<F: Fleet>(fleet: &F, position: &Position<'_>) -> Option<Id>
+    requires { IsWithin (F.hosts fleet.now) position.now }
+    ensures { option_to_list result ≡ start_path (F.hosts fleet.now) position.now }
 {
-    match &turn.step {
-        Step::Next(Place::TapIn { port, .. }) => network_of_tap(&host_at(fleet, turn.at), *port),
+    match &position.step {
+        Step::Next(Place::TapIn { port, .. }) => network_of_tap(&host_at(fleet, position.at), *port),
         Step::Next(Place::WireIn { physical, tag, .. }) => {
-            network_of_wire(&host_at(fleet, turn.at), physical, *tag)
+            network_of_wire(&host_at(fleet, position.at), physical, *tag)
         }
         _ => None,
     }
 }
 
 // The outcome that an end stands for.
-fn outcome_of(alloc: Global, ended: &Ended<'_>) -> Result<Outcome, OutOfMemory>
+fn outcome_of(alloc: Global, ended: &FrameEnd<'_>) -> Result<Outcome, OutOfMemory>
     ensures { IfOk result (λ o. o ≡ outcome_seen ended.now) }
 {
     match ended {
-        Ended::Delivered { port, frame } => Ok(Outcome::Delivered {
+        FrameEnd::Delivered { port, frame } => Ok(Outcome::Delivered {
             port: *port,
             frame: *frame,
         }),
-        Ended::Address { address, mac } => Ok(Outcome::Answered(AskAnswer::Arp {
+        FrameEnd::Address { address, mac } => Ok(Outcome::Answered(AskAnswer::Arp {
             address: *address,
             mac: *mac,
         })),
-        Ended::Lease(lease) => Ok(Outcome::Answered(AskAnswer::Lease(lease.copy(alloc)?))),
-        Ended::Absorbed { router } => Ok(Outcome::Absorbed { router: *router }),
-        Ended::Out {
+        FrameEnd::Lease(lease) => Ok(Outcome::Answered(AskAnswer::Lease(lease.copy(alloc)?))),
+        FrameEnd::Absorbed { router } => Ok(Outcome::Absorbed { router: *router }),
+        FrameEnd::Out {
             network,
             toward,
             frame,
@@ -159,15 +159,15 @@ fn outcome_of(alloc: Global, ended: &Ended<'_>) -> Result<Outcome, OutOfMemory>
             toward: *toward,
             frame: *frame,
         }),
-        Ended::Dropped(cause) => Ok(Outcome::Dropped(*cause)),
+        FrameEnd::Dropped(cause) => Ok(Outcome::Dropped(*cause)),
     }
 }
 
 // An event that has no look-up left is dropped.
-fn end_of(alloc: Global, turn: &Turn<'_>) -> Result<Outcome, OutOfMemory>
-    ensures { IfOk result (λ o. o ≡ ended_by turn.now) }
+fn end_of(alloc: Global, position: &Position<'_>) -> Result<Outcome, OutOfMemory>
+    ensures { IfOk result (λ o. o ≡ ended_by position.now) }
 {
-    match &turn.step {
+    match &position.step {
         Step::End(ending) => outcome_of(alloc, &ending.ended),
         Step::Next(_) | Step::ToTunnel { .. } | Step::ToWire { .. } => {
             Ok(Outcome::Dropped(DropCause::Unknown))
@@ -176,17 +176,17 @@ fn end_of(alloc: Global, turn: &Turn<'_>) -> Result<Outcome, OutOfMemory>
 }
 
 // The verdict at the end of a run.
-fn told(alloc: Global, turn: &Turn<'_>, run: Run) -> Result<Verdict, OutOfMemory>
+fn told(alloc: Global, position: &Position<'_>, run: Run) -> Result<Verdict, OutOfMemory>
     ensures { IfOk result
         (λ v. v
         ≡ record {
-          outcome = ended_by turn.now;
+          outcome = ended_by position.now;
           path = run.path;
           fresh = run.made;
           trail = run.trail;
         }) }
 {
-    let outcome = end_of(alloc, turn)?;
+    let outcome = end_of(alloc, position)?;
     let Run {
         path,
         fresh: _,
@@ -202,7 +202,7 @@ fn told(alloc: Global, turn: &Turn<'_>, run: Run) -> Result<Verdict, OutOfMemory
 }
 
 // How an event begins, and how many look-ups it may have.
-fn begin<'f, F: Fleet>(fleet: &'f F, event: &'f Event) -> Turn<'f>
+fn begin<'f, F: Fleet>(fleet: &'f F, event: &'f Event) -> Position<'f>
     ensures within { IsWithin (F.hosts fleet.now) result }
     ensures begun { turned (F.hosts fleet.now) (walk (F.hosts fleet.now) (looks_of event.now))
         result (begun_with (start_path (F.hosts fleet.now) result))
@@ -238,8 +238,8 @@ pub fn send<F: Fleet>(alloc: Global, fleet: &F, event: &Event) -> Result<Verdict
     ensures { IfOk result (λ v. v ≡ fabric_verdict (F.hosts fleet.now) event.now) }
 {
     let mut run = Run::begin(alloc)?;
-    let mut turn = begin(fleet, event);
-    run.pass(start_network(fleet, &turn))?;
-    travel(alloc, fleet, looks_for(event), &mut turn, &mut run)?;
-    told(alloc, &turn, run)
+    let mut position = begin(fleet, event);
+    run.pass(start_network(fleet, &position))?;
+    travel(alloc, fleet, looks_for(event), &mut position, &mut run)?;
+    told(alloc, &position, run)
 }

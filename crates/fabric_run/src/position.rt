@@ -13,14 +13,14 @@ use crate::fleet::{Fleet, HostAt, host_at};
 use crate::run::Run;
 use crate::taker::{Sought, first, taker};
 use api_types::Id;
-use host_plane::{Ended, Ending, Step, step};
+use host_plane::{FrameEnd, Ending, Step, step};
 use net_addr::{OutOfMemory, Text};
 use plane_types::{DropCause, Frame, Place, Toward};
 use std::alloc::Global;
 
 /// Where an event is after a look-up: at a place of the host, or at its end.
 #[derive(Drop)]
-pub(crate) struct Turn<'f> {
+pub(crate) struct Position<'f> {
     pub(crate) at: usize,
     pub(crate) step: Step<'f>,
 }
@@ -71,38 +71,38 @@ fn place_again<'f>(place: &Place<'f>) -> Place<'f>
     }
 }
 
-fn ended_again<'f>(ended: &Ended<'f>) -> Ended<'f>
+fn ended_again<'f>(ended: &FrameEnd<'f>) -> FrameEnd<'f>
     ensures { outcome_of result ≡ outcome_of ended.now }
 {
     match ended {
-        Ended::Delivered { port, frame } => Ended::Delivered {
+        FrameEnd::Delivered { port, frame } => FrameEnd::Delivered {
             port: *port,
             frame: *frame,
         },
-        Ended::Address { address, mac } => Ended::Address {
+        FrameEnd::Address { address, mac } => FrameEnd::Address {
             address: *address,
             mac: *mac,
         },
-        Ended::Lease(lease) => Ended::Lease(lease),
-        Ended::Absorbed { router } => Ended::Absorbed { router: *router },
-        Ended::Out {
+        FrameEnd::Lease(lease) => FrameEnd::Lease(lease),
+        FrameEnd::Absorbed { router } => FrameEnd::Absorbed { router: *router },
+        FrameEnd::Out {
             network,
             toward,
             frame,
-        } => Ended::Out {
+        } => FrameEnd::Out {
             network: *network,
             toward: *toward,
             frame: *frame,
         },
-        Ended::Dropped(cause) => Ended::Dropped(*cause),
+        FrameEnd::Dropped(cause) => FrameEnd::Dropped(*cause),
     }
 }
 
-fn ends<'f>(at: usize, ended: &Ended<'f>) -> Turn<'f>
+fn ends<'f>(at: usize, ended: &FrameEnd<'f>) -> Position<'f>
     ensures at { result.at ≡ at }
     ensures step { step_seen result.step ≡ End (outcome_of ended.now) None }
 {
-    Turn {
+    Position {
         at,
         step: Step::End(Ending {
             ended: ended_again(ended),
@@ -118,7 +118,7 @@ fn tunnelled<'f, F: Fleet>(
     name: &Text,
     number: u32,
     frame: &Frame,
-) -> Turn<'f>
+) -> Position<'f>
     requires { at < length (F.hosts fleet.now) }
     ensures within { result.at < length (F.hosts fleet.now) }
     ensures led { (on : Going) (r : TheRun)
@@ -126,17 +126,17 @@ fn tunnelled<'f, F: Fleet>(
         ≡ tunnelled_by on number frame.now r (find (is_named name.now) (F.hosts fleet.now)) }
 {
     match first(fleet, &Sought::Named(name)) {
-        Some(next) => Turn {
+        Some(next) => Position {
             at: next,
             step: Step::Next(Place::TunnelIn {
                 number,
                 frame: *frame,
             }),
         },
-        None => Turn {
+        None => Position {
             at,
             step: Step::End(Ending {
-                ended: Ended::Dropped(DropCause::Unknown),
+                ended: FrameEnd::Dropped(DropCause::Unknown),
                 way: None,
             }),
         },
@@ -153,7 +153,7 @@ fn wired<'f, F: Fleet>(
     network: Id,
     toward: Toward,
     frame: &Frame,
-) -> Turn<'f>
+) -> Position<'f>
     requires { at < length (F.hosts fleet.now) }
     ensures within { result.at < length (F.hosts fleet.now) }
     ensures led { (on : Going) (r : TheRun)
@@ -166,7 +166,7 @@ fn wired<'f, F: Fleet>(
         (F.hosts fleet.now)) }
 {
     match taker(fleet, Some(host.name), physical, tag, frame) {
-        Some(next) => Turn {
+        Some(next) => Position {
             at: next,
             step: Step::Next(Place::WireIn {
                 physical,
@@ -174,10 +174,10 @@ fn wired<'f, F: Fleet>(
                 frame: *frame,
             }),
         },
-        None => Turn {
+        None => Position {
             at,
             step: Step::End(Ending {
-                ended: Ended::Out {
+                ended: FrameEnd::Out {
                     network,
                     toward,
                     frame: *frame,
@@ -189,7 +189,7 @@ fn wired<'f, F: Fleet>(
 }
 
 // Where a step of a host leads.
-fn moved<'f, F: Fleet>(fleet: &'f F, at: usize, host: &HostAt<'f>, step: &Step<'f>) -> Turn<'f>
+fn moved<'f, F: Fleet>(fleet: &'f F, at: usize, host: &HostAt<'f>, step: &Step<'f>) -> Position<'f>
     requires here { slice_get (F.hosts fleet.now) at ≡ Some (host_seen host.now) }
     requires within { at < length (F.hosts fleet.now) }
     ensures within { result.at < length (F.hosts fleet.now) }
@@ -198,7 +198,7 @@ fn moved<'f, F: Fleet>(fleet: &'f F, at: usize, host: &HostAt<'f>, step: &Step<'
         ≡ moved_by (F.hosts fleet.now) on (host_seen host.now) r (step_seen step.now) }
 {
     match step {
-        Step::Next(place) => Turn {
+        Step::Next(place) => Position {
             at,
             step: Step::Next(place_again(place)),
         },
@@ -223,28 +223,28 @@ pub(crate) fn advance<'f, F: Fleet>(
     alloc: Global,
     fleet: &'f F,
     run: &mut Run,
-    turn: &mut Turn<'f>,
+    position: &mut Position<'f>,
 ) -> Result<(), OutOfMemory>
-    requires within { IsWithin (F.hosts fleet.now) turn.old }
+    requires within { IsWithin (F.hosts fleet.now) position.old }
     requires room { 2 ≤ run.old.fresh.spare }
     requires names { (name : List ℕ) → count_by (is_named name) (F.hosts fleet.now) ≤ 1 }
-    ensures within { OnOk result (IsWithin (F.hosts fleet.now) turn.new) }
+    ensures within { OnOk result (IsWithin (F.hosts fleet.now) position.new) }
     ensures room { run.old.fresh.spare + length run.old.fresh.items
         ≤ run.new.fresh.spare + length run.new.fresh.items }
     ensures walked { OnOk result
         ((many : ℕ) (r : TheRun) → Tells (F.hosts fleet.now) run.old r
         → Walks (F.hosts fleet.now) run.new
-        (turned (F.hosts fleet.now) (walk (F.hosts fleet.now) (suc many)) turn.old r)
-        (turned (F.hosts fleet.now) (walk (F.hosts fleet.now) many) turn.new)) }
+        (turned (F.hosts fleet.now) (walk (F.hosts fleet.now) (suc many)) position.old r)
+        (turned (F.hosts fleet.now) (walk (F.hosts fleet.now) many) position.new)) }
 {
-    let Step::Next(place) = &turn.step else {
+    let Step::Next(place) = &position.step else {
         return Ok(());
     };
-    let at = turn.at;
+    let at = position.at;
     let host = host_at(fleet, at);
     let step = step(host.tables, host.entries, &mut run.fresh, place);
     let added = added_by(&host, place, &step);
     run.note(alloc, at, &host, &added)?;
-    *turn = moved(fleet, at, &host, &step);
+    *position = moved(fleet, at, &host, &step);
     Ok(())
 }

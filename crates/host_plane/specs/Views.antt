@@ -5,13 +5,13 @@ use Rattle.plane_types.specs.TableStep.{Stepped}
 use Rattle.plane_types.specs.declared.verdict.AskAnswer.TheVariants.{Arp as ArpAnswer, Lease as LeaseAnswer}
 use Rattle.plane_types.specs.declared.verdict.Outcome.{Outcome}
 use Rattle.plane_types.specs.declared.verdict.Outcome.TheVariants.{Absorbed, Answered, Delivered, Dropped, Out}
-use Rattle.host_plane.specs.declared.ending.Ended.{Ended}
-use Rattle.host_plane.specs.declared.ending.Ended.TheVariants.{Absorbed as TheirAbsorbed, Address as TheirAddress, Delivered as TheirDelivered, Dropped as TheirDropped, Lease as TheirLease, Out as TheirOut}
+use Rattle.host_plane.specs.declared.ending.FrameEnd.{FrameEnd}
+use Rattle.host_plane.specs.declared.ending.FrameEnd.TheVariants.{Absorbed as TheirAbsorbed, Address as TheirAddress, Delivered as TheirDelivered, Dropped as TheirDropped, Lease as TheirLease, Out as TheirOut}
 use Rattle.host_plane.specs.declared.ending.Step.{Step as TheirStep}
 use Rattle.host_plane.specs.declared.ending.Step.TheVariants.{End as TheirEnd, Next as TheirNext, ToTunnel as TheirToTunnel, ToWire as TheirToWire}
 use Rattle.host_plane.specs.declared.ending.Stepped.{Stepped as TheirStepped}
 
-abbrev pub outcome_of : Ended → Outcome
+abbrev pub outcome_of : FrameEnd → Outcome
 outcome_of (TheirDelivered port frame) = Delivered port frame
 outcome_of (TheirAddress address mac) = Answered (ArpAnswer address mac)
 outcome_of (TheirLease lease) = Answered (LeaseAnswer lease.now)

@@ -6,7 +6,7 @@ ghost use Rattle.plane_types.specs.Packets.{address_ask};
 ghost use Rattle.plane_types.specs.TableStep.{asked_at, bridge_at as bridge_by_key, bridge_in as bridged_in, bridge_step as bridged_at_tag, bridged_by as bridged_by_row, inward_step as bridged_inward, lease_answer as leased_by, lease_at as lease_by_mac, led as led_by, neighbour_at as neighbour_by_address, routed_in as routed_to, source_of as sender_of, tapped as tapped_at, wire_or as wire_or_dropped};
 ghost use Rattle.host_plane.specs.Views.{step_seen};
 
-use crate::ending::{Ended, Ending, Step, drops};
+use crate::ending::{FrameEnd, Ending, Step, drops};
 use crate::map::{bridge_at, neighbour_at};
 use api_types::Id;
 use net_addr::Mac;
@@ -117,7 +117,7 @@ fn asked<'t>(tables: &HostTables, inner: bool, row: &'t TagRow, src: Mac, ends: 
 {
     match neighbour_at(tables, row.tag, &ends.destination()) {
         Some(held) => Step::End(Ending {
-            ended: Ended::Address {
+            ended: FrameEnd::Address {
                 address: held.address,
                 mac: held.mac,
             },
@@ -209,7 +209,7 @@ pub(crate) fn dhcp_in<'t>(tables: &'t HostTables, tag: u16, frame: &Frame) -> St
 {
     match tables.lease_at(tag, sender(frame)) {
         Some(row) => Step::End(Ending {
-            ended: Ended::Lease(&row.lease),
+            ended: FrameEnd::Lease(&row.lease),
             way: None,
         }),
         None => drops(DropCause::NoLease),

@@ -10,7 +10,7 @@ use plane_types::{DropCause, Entry, Frame, Place, Toward};
 
 /// How a frame ends, as an `Outcome` says it, but that a lease is borrowed from the tables.
 #[derive(Clone, Copy)]
-pub enum Ended<'t> {
+pub enum FrameEnd<'t> {
     /// A port gets it.
     Delivered {
         port: Id,
@@ -39,7 +39,7 @@ pub enum Ended<'t> {
 /// The end of a frame at a host.
 #[derive(Clone, Copy)]
 pub struct Ending<'t> {
-    pub ended: Ended<'t>,
+    pub ended: FrameEnd<'t>,
     /// The network of the way out, where a router sent the packet on in this look-up.
     pub way: Option<Id>,
 }
@@ -70,7 +70,7 @@ impl Drop for Step<'_> {
         // the prover asks that values of these types are at hand
         let _toward = Toward::Dhcp;
         let _ending = Ending {
-            ended: Ended::Dropped(DropCause::Unknown),
+            ended: FrameEnd::Dropped(DropCause::Unknown),
             way: None,
         };
         match self {
@@ -126,7 +126,7 @@ pub(crate) fn drops<'t>(cause: DropCause) -> Step<'t>
     ensures { step_seen result ≡ drop_step cause }
 {
     Step::End(Ending {
-        ended: Ended::Dropped(cause),
+        ended: FrameEnd::Dropped(cause),
         way: None,
     })
 }

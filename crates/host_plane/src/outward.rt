@@ -6,7 +6,7 @@ ghost use Rattle.plane_types.specs.TableStep.{neighbour_at as neighbour_by_addre
 ghost use Rattle.plane_types.specs.Parts.{packet_of};
 ghost use Rattle.host_plane.specs.Views.{step_seen};
 
-use crate::ending::{Ended, Ending, Step, drops};
+use crate::ending::{FrameEnd, Ending, Step, drops};
 use crate::map::neighbour_at;
 use crate::port::port_of;
 use api_types::Id;
@@ -31,7 +31,7 @@ fn unheld<'t>(tables: &'t HostTables, tag: u16, hop: &Addr, packet: &Packet) -> 
     let way = Some(row.network);
     match &row.wire {
         Some(_) => Step::End(Ending {
-            ended: Ended::Out {
+            ended: FrameEnd::Out {
                 network: row.network,
                 toward: Toward::Address(*hop),
                 frame: to_mac(packet, Mac(0)),
@@ -39,7 +39,7 @@ fn unheld<'t>(tables: &'t HostTables, tag: u16, hop: &Addr, packet: &Packet) -> 
             way,
         }),
         None => Step::End(Ending {
-            ended: Ended::Dropped(DropCause::NoHolder),
+            ended: FrameEnd::Dropped(DropCause::NoHolder),
             way,
         }),
     }

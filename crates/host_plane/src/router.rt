@@ -11,7 +11,7 @@ ghost use Rattle.plane_types.specs.declared.verdict.Outcome.TheVariants.{Absorbe
 ghost use Rattle.plane_types.specs.Parts.{changed_of, destined_of, packet_of, sourced_of};
 ghost use Rattle.host_plane.specs.Views.{stepped_seen};
 
-use crate::ending::{Ended, Ending, Step, Stepped, dropped};
+use crate::ending::{FrameEnd, Ending, Step, Stepped, dropped};
 use crate::outward::sent_at;
 use crate::port::port_of;
 use crate::source::{find_source, fixed_behind};
@@ -169,7 +169,7 @@ fn absorbed<'t>(router: Id) -> Stepped<'t>
 {
     Stepped {
         step: Step::End(Ending {
-            ended: Ended::Absorbed { router },
+            ended: FrameEnd::Absorbed { router },
             way: None,
         }),
         made: None,

@@ -9,7 +9,7 @@ ghost use Rattle.plane_types.specs.Parts.{packet_of};
 ghost use Rattle.plane_types.specs.declared.verdict.Outcome.TheVariants.{Delivered};
 ghost use Rattle.host_plane.specs.Views.{step_seen, stepped_seen};
 
-use crate::ending::{Ended, Ending, Step, Stepped, dropped};
+use crate::ending::{FrameEnd, Ending, Step, Stepped, dropped};
 use crate::filter::passage_at;
 use api_types::{Direction, Id};
 use net_addr::Addr;
@@ -118,7 +118,7 @@ fn deliver<'t>(port: Id, frame: Frame) -> Step<'t>
     ensures { step_seen result ≡ stop_step (Delivered port frame) }
 {
     Step::End(Ending {
-        ended: Ended::Delivered { port, frame },
+        ended: FrameEnd::Delivered { port, frame },
         way: None,
     })
 }

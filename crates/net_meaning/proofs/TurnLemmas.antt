@@ -7,7 +7,7 @@ use Rattle.plane_types.specs.Packets.{Packet}
 use Rattle.plane_types.specs.declared.entry.Entry.{Entry}
 use Rattle.plane_types.specs.declared.verdict.DropCause.TheVariants.{Unknown}
 use Rattle.net_meaning.specs.Views.{next_by, turn_by, turned}
-use Rattle.net_meaning.specs.declared.at_port.Turn.{Turn}
+use Rattle.net_meaning.specs.declared.at_port.AtPort.{AtPort}
 
 got_more : (rows : RowLists) (entries : List Entry) (many : ℕ) (q : PortRow) (p : Packet) (t : Trace) → got rows entries (suc many) q p t ≡ arrived rows entries (got rows entries many) q p t
 unfolding got
@@ -18,13 +18,13 @@ unfolding got
 got_none rows entries q p t = refl
 
 -- what a turn leads to is what becomes of the packet
-pub turn_on : (rows : RowLists) (entries : List Entry) (many passed : ℕ) (q : PortRow) (p : Packet) (t new : Trace) (turn : Turn) → passed < many
-    → turn_by (got rows entries (many - (passed + 1))) t turn ≡ arrived rows entries (got rows entries (many - (passed + 1))) q p t
-    → new ≡ turned t turn
-    → next_by (got rows entries (many - (passed + 1))) turn.next new ≡ got rows entries (many - passed) q p t
-turn_on rows entries many passed q p t new turn below turn_is new_is =
+pub turn_on : (rows : RowLists) (entries : List Entry) (many passed : ℕ) (q : PortRow) (p : Packet) (t new : Trace) (at_port : AtPort) → passed < many
+    → turn_by (got rows entries (many - (passed + 1))) t at_port ≡ arrived rows entries (got rows entries (many - (passed + 1))) q p t
+    → new ≡ turned t at_port
+    → next_by (got rows entries (many - (passed + 1))) at_port.next new ≡ got rows entries (many - passed) q p t
+turn_on rows entries many passed q p t new at_port below turn_is new_is =
     let left : many - passed ≡ suc (many - (passed + 1)) = omega arith in
-    ap (next_by (got rows entries (many - (passed + 1))) turn.next) new_is ∙ turn_is
+    ap (next_by (got rows entries (many - (passed + 1))) at_port.next) new_is ∙ turn_is
     ∙ sym (ap (λ n. got rows entries n q p t) left ∙ got_more rows entries (many - (passed + 1)) q p t)
 
 -- where no turn is left

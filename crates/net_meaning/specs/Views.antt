@@ -11,7 +11,7 @@ use Rattle.net_meaning.specs.declared.at_port.Fate.{Fate}
 use Rattle.net_meaning.specs.declared.at_port.Next.{Next}
 use Rattle.net_meaning.specs.declared.at_port.Next.TheVariants.{Ends, To}
 use Rattle.net_meaning.specs.declared.at_port.Trace.{Trace}
-use Rattle.net_meaning.specs.declared.at_port.Turn.{Turn}
+use Rattle.net_meaning.specs.declared.at_port.AtPort.{AtPort}
 
 abbrev pub routed_of : Routed → TheRouted
 routed_of (EndsThere o) = RouteEnds o
@@ -34,8 +34,8 @@ next_by on (Ends o) t = ended t o
 next_by on (To q p) t = on q.now (packet_of p) t
 
 -- with what the turn made and passed
-abbrev pub turned : TheTrace → Turn → TheTrace
-turned t turn = with_path (with_fresh t (option_to_list turn.made)) (passed_list turn.passed)
+abbrev pub turned : TheTrace → AtPort → TheTrace
+turned t at_port = with_path (with_fresh t (option_to_list at_port.made)) (passed_list at_port.passed)
 
-abbrev pub turn_by : Onward → TheTrace → Turn → TheFate
-turn_by on t turn = next_by on turn.next (turned t turn)
+abbrev pub turn_by : Onward → TheTrace → AtPort → TheFate
+turn_by on t at_port = next_by on at_port.next (turned t at_port)

@@ -42,7 +42,7 @@ pub(crate) enum Next<'r> {
 /// What became of a packet at a port: the entry that this made, the router and the network that it
 /// passed, and where it is then.
 #[derive(Drop)]
-pub(crate) struct Turn<'r> {
+pub(crate) struct AtPort<'r> {
     made: Option<Entry>,
     passed: Option<(Id, Id)>,
     next: Next<'r>,
@@ -55,7 +55,7 @@ fn received<'r>(
     fresh: &[Entry],
     port: &PortRow,
     packet: &Packet,
-) -> Turn<'r>
+) -> AtPort<'r>
     ensures { (on : Onward) (t : TheTrace) → t.fresh ≡ fresh.now
         → turn_by on t result ≡ received_by rows.now entries.now port.now (packet_of packet.now) t }
 {
@@ -68,7 +68,7 @@ fn received<'r>(
     } else {
         Outcome::Dropped(DropCause::Ingress)
     };
-    Turn {
+    AtPort {
         made: if passage.passes { passage.made } else { None },
         passed: None,
         next: Next::Ends(outcome),
@@ -76,7 +76,7 @@ fn received<'r>(
 }
 
 // The joined holder of the next hop gets what a router sends on by a port.
-fn handed_out<'r>(rows: &'r Rows, router: &RouterRow, out: &PortRow, sent: &Sent<'r>) -> Turn<'r>
+fn handed_out<'r>(rows: &'r Rows, router: &RouterRow, out: &PortRow, sent: &Sent<'r>) -> AtPort<'r>
     ensures { (on : Onward) (t : TheTrace)
         → turn_by on t result
         ≡ handed_out_by rows.now on router.now sent.now.hop (packet_of sent.now.packet)
@@ -104,7 +104,7 @@ fn handed_out<'r>(rows: &'r Rows, router: &RouterRow, out: &PortRow, sent: &Sent
             DropCause::NoHolder,
         )),
     };
-    Turn {
+    AtPort {
         made: sent.made,
         passed: Some((router.id, network)),
         next,
@@ -112,7 +112,7 @@ fn handed_out<'r>(rows: &'r Rows, router: &RouterRow, out: &PortRow, sent: &Sent
 }
 
 // The port by which it leaves is one of the router's.
-fn handed<'r>(rows: &'r Rows, router: &RouterRow, sent: &Sent<'r>) -> Turn<'r>
+fn handed<'r>(rows: &'r Rows, router: &RouterRow, sent: &Sent<'r>) -> AtPort<'r>
     ensures { (on : Onward) (t : TheTrace)
         → turn_by on t result
         ≡ handed_by rows.now on router.now t
@@ -121,7 +121,7 @@ fn handed<'r>(rows: &'r Rows, router: &RouterRow, sent: &Sent<'r>) -> Turn<'r>
 {
     match leg(rows, router, sent.out.id) {
         Some(out) => handed_out(rows, router, out, sent),
-        None => Turn {
+        None => AtPort {
             made: sent.made,
             passed: None,
             next: Next::Ends(Outcome::Dropped(DropCause::Unknown)),
@@ -129,10 +129,10 @@ fn handed<'r>(rows: &'r Rows, router: &RouterRow, sent: &Sent<'r>) -> Turn<'r>
     }
 }
 
-fn ended<'r>(outcome: Outcome) -> Turn<'r>
+fn ended<'r>(outcome: Outcome) -> AtPort<'r>
     ensures { (on : Onward) (t : TheTrace) → turn_by on t result ≡ ended_with t outcome }
 {
-    Turn {
+    AtPort {
         made: None,
         passed: None,
         next: Next::Ends(outcome),
@@ -147,10 +147,10 @@ fn at_router<'r>(
     fresh: &[Entry],
     port: &PortRow,
     packet: &Packet,
-) -> Result<Turn<'r>, OutOfMemory>
+) -> Result<AtPort<'r>, OutOfMemory>
     ensures { IfOk result
-        (λ turn. (on : Onward) (t : TheTrace) → t.fresh ≡ fresh.now
-        → turn_by on t turn
+        (λ at_port. (on : Onward) (t : TheTrace) → t.fresh ≡ fresh.now
+        → turn_by on t at_port
         ≡ at_router_by rows.now entries.now on port.now (packet_of packet.now) t
         (router_by_rows rows.now port.now)) }
 {
@@ -171,10 +171,10 @@ fn arrived<'r>(
     fresh: &[Entry],
     port: &PortRow,
     packet: &Packet,
-) -> Result<Turn<'r>, OutOfMemory>
+) -> Result<AtPort<'r>, OutOfMemory>
     ensures { IfOk result
-        (λ turn. (on : Onward) (t : TheTrace) → t.fresh ≡ fresh.now
-        → turn_by on t turn
+        (λ at_port. (on : Onward) (t : TheTrace) → t.fresh ≡ fresh.now
+        → turn_by on t at_port
         ≡ arrived_at rows.now entries.now on port.now (packet_of packet.now) t) }
 {
     if is_router_port(&port.owner) {
@@ -219,8 +219,8 @@ pub(crate) fn got<'r>(
     let mut at = port;
     let mut packet = packet;
     for routers in 0..many {
-        let turn = arrived(alloc, rows, entries, trace.fresh.as_slice(), at, &packet)?;
-        let Turn { made, passed, next } = turn;
+        let at_port = arrived(alloc, rows, entries, trace.fresh.as_slice(), at, &packet)?;
+        let AtPort { made, passed, next } = at_port;
         note(&mut trace, made, passed)?;
         match next {
             Next::Ends(outcome) => return Ok(Fate { outcome, trace }),

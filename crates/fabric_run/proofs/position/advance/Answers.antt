@@ -22,12 +22,12 @@ returns-clause-walked g c = λ many r tells.
     let step_is : step_seen c.step-step.result ≡ made.step = c.step-step.ensures.step ∙ ap (λ es. (table_step h.tables (h.entries ++ es) place).step) tells.fresh in
     record {
       next = after_step h place made r;
-      told = tells_after hosts (λ name. once-counted (is_named name) hosts (c.requires.names name)) c.args.run.now c.note.new.self r h place made c.args.turn.now.at
+      told = tells_after hosts (λ name. once-counted (is_named name) hosts (c.requires.names name)) c.args.run.now c.note.new.self r h place made c.args.position.now.at
           (option_to_list c.added_by-added.result.router ++ option_to_list c.added_by-added.result.network) (option_to_list c.added_by-added.result.tag) c.step-step.new.fresh.items
           c.host_at-host.ensures tells (admits-one h.tables entries made.made (step-admits h.tables entries place))
           (c.added_by-added.ensures.path ∙ ap (step_path h place) step_is) c.in_ok-note.ensures.path
           (c.step-step.ensures.made ∙ ap (λ es. c.args.run.now.fresh.items ++ (table_step h.tables (h.entries ++ es) place).made) tells.fresh)
           (ap (λ f. f.items) c.in_ok-note.ensures.fresh) c.in_ok-note.ensures.made c.added_by-added.ensures.trail c.in_ok-note.ensures.trail;
-      same = step_to hosts many c.args.turn.now.at (step_seen c.args.turn.now.step) place h r (ap step_seen c.in-Next.is) c.host_at-host.ensures
+      same = step_to hosts many c.args.position.now.at (step_seen c.args.position.now.step) place h r (ap step_seen c.in-Next.is) c.host_at-host.ensures
           ∙ ap (moved_by hosts (walk hosts many) h (after_step h place made r)) (sym step_is) ∙ sym (c.moved.ensures.led (walk hosts many) (after_step h place made r));
     }

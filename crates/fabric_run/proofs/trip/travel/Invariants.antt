@@ -6,5 +6,5 @@ use Rattle.fabric_run.proofs.trip.travel.Given as goal
 -- what a walk from here comes to, is what one from the first place comes to
 abbrev pub invariant-loop-looks : goal.invariant-loop-looks
 invariant-loop-looks g l =
-    (r : TheRun) × Tells (g.F.Fleet.hosts l.fleet) l.run r × IsWithin (g.F.Fleet.hosts l.fleet) l.turn × (258 ≤ l.run.fresh.spare + length l.run.fresh.items)
-    × (turned (g.F.Fleet.hosts l.fleet) (walk (g.F.Fleet.hosts l.fleet) (l.many - l.looks)) l.turn r ≡ turned (g.F.Fleet.hosts l.fleet) (walk (g.F.Fleet.hosts l.fleet) l.many) l.fn.turn (begun l.fn.run.path))
+    (r : TheRun) × Tells (g.F.Fleet.hosts l.fleet) l.run r × IsWithin (g.F.Fleet.hosts l.fleet) l.position × (258 ≤ l.run.fresh.spare + length l.run.fresh.items)
+    × (turned (g.F.Fleet.hosts l.fleet) (walk (g.F.Fleet.hosts l.fleet) (l.many - l.looks)) l.position r ≡ turned (g.F.Fleet.hosts l.fleet) (walk (g.F.Fleet.hosts l.fleet) l.many) l.fn.position (begun l.fn.run.path))
