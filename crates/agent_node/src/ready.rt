@@ -3,7 +3,7 @@
 ghost use Rattle.std.specs.Prelude.{◌≡◌, IfOk};
 ghost use Rattle.api_types.specs.Consistent.{IsConsistent};
 ghost use Rattle.plane_types.specs.NewTags.{AreTags};
-ghost use Rattle.plane_types.specs.TablesOfRows.{wired as wired_by_rows};
+ghost use Rattle.plane_types.specs.TablesOfRows.{tables_of_rows as wired_by_rows};
 
 use crate::wiring::wired;
 use api_types::Rows;

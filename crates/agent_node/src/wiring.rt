@@ -4,7 +4,7 @@ ghost use Rattle.std.specs.Prelude.{◌≡◌, IfOk};
 ghost use Rattle.api_types.specs.Consistent.{IsConsistent};
 ghost use Rattle.plane_types.specs.NewTags.{AreTags};
 ghost use Rattle.plane_types.specs.Realises.{Realises};
-ghost use Rattle.plane_types.specs.TablesOfRows.{wired as wired_by_rows};
+ghost use Rattle.plane_types.specs.TablesOfRows.{tables_of_rows as wired_by_rows};
 
 use api_types::Rows;
 use dhcp_agent::wire_leases;
@@ -48,7 +48,7 @@ fn joined(l2: L2Tables, l3: L3Tables, leases: Leases) -> TableLists
 
 /// The tables that a host makes of rows, where its tags were these. Its cost is that of
 /// `wire_ports`, `wire_routers` and `wire_leases`, and grows with what these make.
-#[tactic(auto, unfolding(plane_types::specs::TablesOfRows::wired))]
+#[tactic(auto, unfolding(plane_types::specs::TablesOfRows::tables_of_rows))]
 pub(crate) fn wired(
     alloc: Global,
     rows: &Rows,

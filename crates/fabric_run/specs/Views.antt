@@ -2,13 +2,13 @@
 use Rattle.std.specs.Prelude.{ℕ, suc, [], ◌&&◌, ◌≡◌, ◌<◌, Bool, List, Option, Some, None, find, is_some, length, not, option_copied, slice_get, true}
 use Rattle.std.specs.Str.{bytes_eq}
 use Rattle.api_types.specs.Ident.{Ident}
-use Rattle.host_plane.specs.Views.{step_seen}
-use Rattle.plane_types.specs.Fabric.{FabricFate, Going, Run as TheRun, at_inward, at_tap, finished, steps_for, takes}
+use Rattle.host_plane.specs.Views.{view_of_step}
+use Rattle.plane_types.specs.Fabric.{FabricFate, Going, Run as TheRun, at_inward, at_tap, fate_of_run, steps_for, takes}
 use Rattle.plane_types.specs.Hosts.{Host, is_named}
 use Rattle.plane_types.specs.Meaning.{life_of}
 use Rattle.plane_types.specs.Places.{End, Next, Place, Step, TapIn, ToTunnel, ToWire, WireIn}
 use Rattle.plane_types.specs.TableStep.{inward_at, tap_at}
-use Rattle.plane_types.specs.Verdicts.{told_fresh, told_trail}
+use Rattle.plane_types.specs.Verdicts.{made_entries, trail_items}
 use Rattle.plane_types.specs.declared.event.Event.{Event}
 use Rattle.plane_types.specs.declared.event.Event.TheVariants.{FromPort, FromWire}
 use Rattle.plane_types.specs.declared.table.Carrier.TheVariants.{Wire as ByWire}
@@ -21,8 +21,8 @@ use Rattle.fabric_run.specs.declared.taker.Sought.{Sought}
 use Rattle.fabric_run.specs.declared.taker.Sought.TheVariants.{Named, Taker, WithTap}
 use Rattle.fabric_run.specs.declared.position.Position.{Position}
 
-abbrev pub host_seen : HostAt → Host
-host_seen h = record { name = h.name.now; tables = h.tables.now.lists; entries = h.entries.now.items }
+abbrev pub view_of_host : HostAt → Host
+view_of_host h = record { name = h.name.now; tables = h.tables.now.lists; entries = h.entries.now.items }
 
 -- any host, or one with another name
 abbrev pub is_other_than : Option (List ℕ) → Host → Bool
@@ -43,23 +43,23 @@ IsFirst test hosts (Some at) = (at < length hosts) × (slice_get hosts at ≡ fi
 pub record Tells (hosts : List Host) (run : Run) (r : TheRun) : Type 0 where
   pub path : run.path ≡ r.path
   pub fresh : run.fresh.items ≡ r.fresh
-  pub made : run.made ≡ told_fresh hosts r.fresh r.makers
+  pub made : run.made ≡ made_entries hosts r.fresh r.makers
   pub makers : length r.makers ≡ length r.fresh
-  pub trail : run.trail ≡ told_trail r.trail
+  pub trail : run.trail ≡ trail_items r.trail
 
 abbrev pub gone_to : Going → Place → TheRun → Option Host → FabricFate
-gone_to on place r None = finished r (Dropped Unknown)
+gone_to on place r None = fate_of_run r (Dropped Unknown)
 gone_to on place r (Some h) = on h place r
 
-abbrev pub led_to : List Host → Going → ℕ → TheRun → Step → FabricFate
-led_to hosts on at r (Next place) = gone_to on place r (slice_get hosts at)
-led_to hosts on at r (End o way) = finished r o
-led_to hosts on at r (ToTunnel name number frame) = finished r (Dropped Unknown)
-led_to hosts on at r (ToWire w n toward frame) = finished r (Dropped Unknown)
+abbrev pub step_fate : List Host → Going → ℕ → TheRun → Step → FabricFate
+step_fate hosts on at r (Next place) = gone_to on place r (slice_get hosts at)
+step_fate hosts on at r (End o way) = fate_of_run r o
+step_fate hosts on at r (ToTunnel name number frame) = fate_of_run r (Dropped Unknown)
+step_fate hosts on at r (ToWire w n toward frame) = fate_of_run r (Dropped Unknown)
 
 -- what a turn leads to
-abbrev pub turned : List Host → Going → Position → TheRun → FabricFate
-turned hosts on t r = led_to hosts on t.at r (step_seen t.step)
+abbrev pub position_fate : List Host → Going → Position → TheRun → FabricFate
+position_fate hosts on t r = step_fate hosts on t.at r (view_of_step t.step)
 
 -- at a place there is a host
 abbrev pub is_within : List Host → ℕ → Step → Type 0
@@ -69,7 +69,7 @@ is_within hosts at (ToTunnel name number frame) = Unit {0}
 is_within hosts at (ToWire w n toward frame) = Unit {0}
 
 abbrev pub IsWithin : List Host → Position → Type 0
-IsWithin hosts t = is_within hosts t.at (step_seen t.step)
+IsWithin hosts t = is_within hosts t.at (view_of_step t.step)
 
 -- from a run that is told on, this fate is that of the rest
 pub record Walks (hosts : List Host) (run : Run) (v : FabricFate) (rest : TheRun → FabricFate) : Type 0 where
@@ -85,7 +85,7 @@ ended_with (ToTunnel name number frame) = Dropped Unknown
 ended_with (ToWire w n toward frame) = Dropped Unknown
 
 abbrev pub ended_by : Position → Outcome
-ended_by t = ended_with (step_seen t.step)
+ended_by t = ended_with (view_of_step t.step)
 
 -- the fate that code tells
 pub record IsFate (hosts : List Host) (position : Position) (run : Run) (v : FabricFate) : Type 0 where
@@ -104,4 +104,4 @@ path_from (Next (WireIn w frame)) (Some h) = at_inward h (inward_at h.tables (By
 path_from step o = []
 
 abbrev pub start_path : List Host → Position → List Ident
-start_path hosts t = path_from (step_seen t.step) (slice_get hosts t.at)
+start_path hosts t = path_from (view_of_step t.step) (slice_get hosts t.at)

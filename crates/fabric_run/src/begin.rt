@@ -1,17 +1,17 @@
 //! An event from its first host to its verdict.
 
 ghost use Rattle.std.specs.Prelude.{◌≡◌, ◌<◌, ◌≤◌, ℕ, IfOk, List, None, count_by, option_to_list, suc};
-ghost use Rattle.plane_types.specs.Fabric.{at_inward, at_tap, begun as begun_with, fabric_fate, steps_for as steps_for_life, walk};
+ghost use Rattle.plane_types.specs.Fabric.{at_inward, at_tap, run_from as begun_with, fabric_fate, steps_for as steps_for_life, walk};
 ghost use Rattle.plane_types.specs.Hosts.{Host, is_named};
 ghost use Rattle.plane_types.specs.Meaning.{life_of};
 ghost use Rattle.plane_types.specs.Verdicts.{fabric_verdict};
 ghost use Rattle.plane_types.specs.TableStep.{inward_at as inward_by, tap_at as tap_by_port};
 ghost use Rattle.plane_types.specs.declared.event.Event.TheVariants.{FromPort, FromWire};
 ghost use Rattle.plane_types.specs.declared.table.Carrier.TheVariants.{Wire as ByWire};
-ghost use Rattle.host_plane.specs.Views.{outcome_of as outcome_seen, step_seen};
+ghost use Rattle.host_plane.specs.Views.{outcome_of as outcome_seen, view_of_step};
 ghost use Rattle.plane_types.specs.Places.{End};
 ghost use Rattle.plane_types.specs.declared.verdict.Outcome.TheVariants.{Dropped};
-ghost use Rattle.fabric_run.specs.Views.{IsWithin, ended_by, host_seen, looks_of, start_path, turned};
+ghost use Rattle.fabric_run.specs.Views.{IsWithin, ended_by, view_of_host, looks_of, start_path, position_fate};
 
 use crate::added::network_at;
 use crate::fleet::{Fleet, HostAt, host_at};
@@ -40,7 +40,7 @@ fn steps_for(frame: &Frame) -> u16
 
 fn network_of_tap(host: &HostAt<'_>, port: Id) -> Option<Id>
     ensures { option_to_list result
-        ≡ at_tap (host_seen host.now) (tap_by_port host.now.tables.now.lists port) }
+        ≡ at_tap (view_of_host host.now) (tap_by_port host.now.tables.now.lists port) }
 {
     match host.tables.tap_at(port) {
         Some(tap) => network_at(host, tap.tag),
@@ -50,7 +50,7 @@ fn network_of_tap(host: &HostAt<'_>, port: Id) -> Option<Id>
 
 fn network_of_wire(host: &HostAt<'_>, physical: &Text, tag: Option<u16>) -> Option<Id>
     ensures { option_to_list result
-        ≡ at_inward (host_seen host.now)
+        ≡ at_inward (view_of_host host.now)
         (inward_by host.now.tables.now.lists
         (ByWire (record { physical = physical.now; tag = tag }))) }
 {
@@ -61,7 +61,7 @@ fn network_of_wire(host: &HostAt<'_>, physical: &Text, tag: Option<u16>) -> Opti
 }
 
 fn dropped<'f>(cause: DropCause) -> Position<'f>
-    ensures { step_seen result.step ≡ End (Dropped cause) None }
+    ensures { view_of_step result.step ≡ End (Dropped cause) None }
 {
     Position {
         at: 0,
@@ -75,7 +75,7 @@ fn dropped<'f>(cause: DropCause) -> Position<'f>
 // An event from a port begins at the first host with a tap of it.
 fn from_port<'f, F: Fleet>(fleet: &'f F, port: Id, frame: &Frame) -> Position<'f>
     ensures within { IsWithin (F.hosts fleet.now) result }
-    ensures begun { turned (F.hosts fleet.now)
+    ensures begun { position_fate (F.hosts fleet.now)
         (walk (F.hosts fleet.now) (suc (steps_for_life (life_of frame.now)))) result
         (begun_with (start_path (F.hosts fleet.now) result))
         ≡ fabric_fate (F.hosts fleet.now) (FromPort port frame.now) }
@@ -100,7 +100,7 @@ fn from_wire<'f, F: Fleet>(
     frame: &Frame,
 ) -> Position<'f>
     ensures within { IsWithin (F.hosts fleet.now) result }
-    ensures begun { turned (F.hosts fleet.now)
+    ensures begun { position_fate (F.hosts fleet.now)
         (walk (F.hosts fleet.now) (steps_for_life (life_of frame.now))) result
         (begun_with (start_path (F.hosts fleet.now) result))
         ≡ fabric_fate (F.hosts fleet.now) (FromWire physical.now tag frame.now) }
@@ -204,7 +204,7 @@ fn told(alloc: Global, position: &Position<'_>, run: Run) -> Result<Verdict, Out
 // How an event begins, and how many look-ups it may have.
 fn begin<'f, F: Fleet>(fleet: &'f F, event: &'f Event) -> Position<'f>
     ensures within { IsWithin (F.hosts fleet.now) result }
-    ensures begun { turned (F.hosts fleet.now) (walk (F.hosts fleet.now) (looks_of event.now))
+    ensures begun { position_fate (F.hosts fleet.now) (walk (F.hosts fleet.now) (looks_of event.now))
         result (begun_with (start_path (F.hosts fleet.now) result))
         ≡ fabric_fate (F.hosts fleet.now) event.now }
 {

@@ -2,11 +2,11 @@
 
 ghost use Rattle.std.specs.Prelude.{◌≡◌, ◌+◌, ◌<◌, ◌≤◌, ◌++◌, ◌&&◌, ℕ, IfOk, List, None, OnOk, Some, count_by, find, length, not, slice_get, suc};
 ghost use Rattle.std.specs.Str.{bytes_eq};
-ghost use Rattle.plane_types.specs.Fabric.{Going, Run as TheRun, moved as moved_by, takes, tunnelled as tunnelled_by, walk, wired as wired_by};
+ghost use Rattle.plane_types.specs.Fabric.{Going, Run as TheRun, next_position as moved_by, takes, over_tunnel as tunnelled_by, walk, over_wire as wired_by};
 ghost use Rattle.plane_types.specs.Hosts.{Host, is_named};
-ghost use Rattle.plane_types.specs.Places.{End, place_seen};
-ghost use Rattle.host_plane.specs.Views.{outcome_of, step_seen};
-ghost use Rattle.fabric_run.specs.Views.{IsWithin, Tells, Walks, host_seen, turned};
+ghost use Rattle.plane_types.specs.Places.{End, view_of_place};
+ghost use Rattle.host_plane.specs.Views.{outcome_of, view_of_step};
+ghost use Rattle.fabric_run.specs.Views.{IsWithin, Tells, Walks, view_of_host, position_fate};
 
 use crate::added::added_by;
 use crate::fleet::{Fleet, HostAt, host_at};
@@ -27,7 +27,7 @@ pub(crate) struct Position<'f> {
 
 // The same place once more.
 fn place_again<'f>(place: &Place<'f>) -> Place<'f>
-    ensures { place_seen result ≡ place_seen place.now }
+    ensures { view_of_place result ≡ view_of_place place.now }
 {
     match place {
         Place::TapIn { port, frame } => Place::TapIn {
@@ -100,7 +100,7 @@ fn ended_again<'f>(ended: &FrameEnd<'f>) -> FrameEnd<'f>
 
 fn ends<'f>(at: usize, ended: &FrameEnd<'f>) -> Position<'f>
     ensures at { result.at ≡ at }
-    ensures step { step_seen result.step ≡ End (outcome_of ended.now) None }
+    ensures step { view_of_step result.step ≡ End (outcome_of ended.now) None }
 {
     Position {
         at,
@@ -122,7 +122,7 @@ fn tunnelled<'f, F: Fleet>(
     requires { at < length (F.hosts fleet.now) }
     ensures within { result.at < length (F.hosts fleet.now) }
     ensures led { (on : Going) (r : TheRun)
-        → turned (F.hosts fleet.now) on result r
+        → position_fate (F.hosts fleet.now) on result r
         ≡ tunnelled_by on number frame.now r (find (is_named name.now) (F.hosts fleet.now)) }
 {
     match first(fleet, &Sought::Named(name)) {
@@ -157,7 +157,7 @@ fn wired<'f, F: Fleet>(
     requires { at < length (F.hosts fleet.now) }
     ensures within { result.at < length (F.hosts fleet.now) }
     ensures led { (on : Going) (r : TheRun)
-        → turned (F.hosts fleet.now) on result r
+        → position_fate (F.hosts fleet.now) on result r
         ≡ wired_by on (record { physical = physical.now; tag = tag }) network toward frame.now
         r
         (find
@@ -190,12 +190,12 @@ fn wired<'f, F: Fleet>(
 
 // Where a step of a host leads.
 fn moved<'f, F: Fleet>(fleet: &'f F, at: usize, host: &HostAt<'f>, step: &Step<'f>) -> Position<'f>
-    requires here { slice_get (F.hosts fleet.now) at ≡ Some (host_seen host.now) }
+    requires here { slice_get (F.hosts fleet.now) at ≡ Some (view_of_host host.now) }
     requires within { at < length (F.hosts fleet.now) }
     ensures within { result.at < length (F.hosts fleet.now) }
     ensures led { (on : Going) (r : TheRun)
-        → turned (F.hosts fleet.now) on result r
-        ≡ moved_by (F.hosts fleet.now) on (host_seen host.now) r (step_seen step.now) }
+        → position_fate (F.hosts fleet.now) on result r
+        ≡ moved_by (F.hosts fleet.now) on (view_of_host host.now) r (view_of_step step.now) }
 {
     match step {
         Step::Next(place) => Position {
@@ -234,8 +234,8 @@ pub(crate) fn advance<'f, F: Fleet>(
     ensures walked { OnOk result
         ((many : ℕ) (r : TheRun) → Tells (F.hosts fleet.now) run.old r
         → Walks (F.hosts fleet.now) run.new
-        (turned (F.hosts fleet.now) (walk (F.hosts fleet.now) (suc many)) position.old r)
-        (turned (F.hosts fleet.now) (walk (F.hosts fleet.now) many) position.new)) }
+        (position_fate (F.hosts fleet.now) (walk (F.hosts fleet.now) (suc many)) position.old r)
+        (position_fate (F.hosts fleet.now) (walk (F.hosts fleet.now) many) position.new)) }
 {
     let Step::Next(place) = &position.step else {
         return Ok(());

@@ -1,9 +1,9 @@
 //! The loop of a run: look-up after look-up, to a bound.
 
 ghost use Rattle.std.specs.Prelude.{◌≡◌, ◌≤◌, [], ℕ, List, OnOk, count_by, length};
-ghost use Rattle.plane_types.specs.Fabric.{begun as begun_with, walk};
+ghost use Rattle.plane_types.specs.Fabric.{run_from as begun_with, walk};
 ghost use Rattle.plane_types.specs.Hosts.{is_named};
-ghost use Rattle.fabric_run.specs.Views.{IsFate, IsWithin, turned};
+ghost use Rattle.fabric_run.specs.Views.{IsFate, IsWithin, position_fate};
 
 use crate::fleet::Fleet;
 use crate::run::Run;
@@ -24,11 +24,11 @@ pub(crate) fn travel<'f, F: Fleet>(
     requires begun { (run.old.fresh.items ≡ []) × (run.old.made ≡ []) × (run.old.trail ≡ []) }
     requires room { 258 ≤ run.old.fresh.spare }
     requires bounded { length
-        (turned (F.hosts fleet.now) (walk (F.hosts fleet.now) many) position.old (begun_with run.old.path)).run.fresh
+        (position_fate (F.hosts fleet.now) (walk (F.hosts fleet.now) many) position.old (begun_with run.old.path)).run.fresh
         ≤ 256 }
     ensures { OnOk result
         (IsFate (F.hosts fleet.now) position.new run.new
-        (turned (F.hosts fleet.now) (walk (F.hosts fleet.now) many) position.old
+        (position_fate (F.hosts fleet.now) (walk (F.hosts fleet.now) many) position.old
         (begun_with run.old.path))) }
 {
     for looks in 0..many {

@@ -1,6 +1,6 @@
 -- Where a look-up leads, without the borrowing of names and leases.
 use Rattle.std.specs.Prelude.{option_to_list}
-use Rattle.plane_types.specs.Places.{End, Next, Step, ToTunnel, ToWire, place_seen}
+use Rattle.plane_types.specs.Places.{End, Next, Step, ToTunnel, ToWire, view_of_place}
 use Rattle.plane_types.specs.TableStep.{Stepped}
 use Rattle.plane_types.specs.declared.verdict.AskAnswer.TheVariants.{Arp as ArpAnswer, Lease as LeaseAnswer}
 use Rattle.plane_types.specs.declared.verdict.Outcome.{Outcome}
@@ -19,11 +19,11 @@ outcome_of (TheirAbsorbed router) = Absorbed router
 outcome_of (TheirOut network toward frame) = Out network toward frame
 outcome_of (TheirDropped cause) = Dropped cause
 
-abbrev pub step_seen : TheirStep → Step
-step_seen (TheirNext place) = Next (place_seen place)
-step_seen (TheirToTunnel host number frame) = ToTunnel host.now number frame
-step_seen (TheirToWire physical tag network toward frame) = ToWire (record { physical = physical.now; tag = tag }) network toward frame
-step_seen (TheirEnd e) = End (outcome_of e.ended) e.way
+abbrev pub view_of_step : TheirStep → Step
+view_of_step (TheirNext place) = Next (view_of_place place)
+view_of_step (TheirToTunnel host number frame) = ToTunnel host.now number frame
+view_of_step (TheirToWire physical tag network toward frame) = ToWire (record { physical = physical.now; tag = tag }) network toward frame
+view_of_step (TheirEnd e) = End (outcome_of e.ended) e.way
 
-abbrev pub stepped_seen : TheirStepped → Stepped
-stepped_seen s = record { step = step_seen s.step; made = option_to_list s.made }
+abbrev pub view_of_stepped : TheirStepped → Stepped
+view_of_stepped s = record { step = view_of_step s.step; made = option_to_list s.made }

@@ -3,8 +3,8 @@
 ghost use Rattle.std.specs.Prelude.{◌≡◌, option_copied};
 ghost use Rattle.plane_types.specs.Ends.{destination};
 ghost use Rattle.plane_types.specs.Packets.{address_ask};
-ghost use Rattle.plane_types.specs.TableStep.{asked_at, bridge_at as bridge_by_key, bridge_in as bridged_in, bridge_step as bridged_at_tag, bridged_by as bridged_by_row, inward_step as bridged_inward, lease_answer as leased_by, lease_at as lease_by_mac, led as led_by, neighbour_at as neighbour_by_address, routed_in as routed_to, source_of as sender_of, tapped as tapped_at, wire_or as wire_or_dropped};
-ghost use Rattle.host_plane.specs.Views.{step_seen};
+ghost use Rattle.plane_types.specs.TableStep.{asked_at, bridge_at as bridge_by_key, bridge_in as bridged_in, bridge_step as bridged_at_tag, bridged_by as bridged_by_row, inward_step as bridged_inward, lease_answer as leased_by, lease_at as lease_by_mac, target_step as led_by, neighbour_at as neighbour_by_address, routed_in as routed_to, source_of as sender_of, to_tap as tapped_at, wire_or as wire_or_dropped};
+ghost use Rattle.host_plane.specs.Views.{view_of_step};
 
 use crate::ending::{FrameEnd, Ending, Step, drops};
 use crate::map::{bridge_at, neighbour_at};
@@ -23,7 +23,7 @@ fn wire_or<'t>(
     frame: Frame,
     cause: DropCause,
 ) -> Step<'t>
-    ensures { step_seen result
+    ensures { view_of_step result
         ≡ wire_or_dropped inner row.now.network row.now.wire toward frame cause }
 {
     if inner {
@@ -43,7 +43,7 @@ fn wire_or<'t>(
 
 // A packet goes to the port; an ask for a lease came to its key, which leads to the DHCP port.
 fn tapped<'t>(tag: u16, port: Id, frame: Frame) -> Step<'t>
-    ensures { step_seen result ≡ tapped_at tag port frame }
+    ensures { view_of_step result ≡ tapped_at tag port frame }
 {
     match frame {
         Frame::Ip { .. } => Step::Next(Place::TapOut { port, frame }),
@@ -54,7 +54,7 @@ fn tapped<'t>(tag: u16, port: Id, frame: Frame) -> Step<'t>
 }
 
 fn routed_in<'t>(router: Id, port: Id, frame: Frame) -> Step<'t>
-    ensures { step_seen result ≡ routed_to router port frame }
+    ensures { view_of_step result ≡ routed_to router port frame }
 {
     match frame {
         Frame::Ip { .. } => Step::Next(Place::RouterIn {
@@ -70,7 +70,7 @@ fn routed_in<'t>(router: Id, port: Id, frame: Frame) -> Step<'t>
 
 // Where an entry of the bridge leads; a frame that came by a tunnel or wire doesn't leave by one.
 fn led<'t>(inner: bool, tag: u16, frame: Frame, to: &'t BridgeTo) -> Step<'t>
-    ensures { step_seen result ≡ led_by inner tag frame to.now }
+    ensures { view_of_step result ≡ led_by inner tag frame to.now }
 {
     match to {
         BridgeTo::Tap(port) => tapped(tag, *port, frame),
@@ -99,7 +99,7 @@ fn bridged<'t>(
     frame: Frame,
     cause: DropCause,
 ) -> Step<'t>
-    ensures { step_seen result
+    ensures { view_of_step result
         ≡ bridged_by_row inner row.now toward frame cause
         (bridge_by_key tables.now.lists row.now.tag key) }
 {
@@ -111,7 +111,7 @@ fn bridged<'t>(
 
 // An ask for an address is answered by its neighbour, else goes to the wire.
 fn asked<'t>(tables: &HostTables, inner: bool, row: &'t TagRow, src: Mac, ends: &Ends) -> Step<'t>
-    ensures { step_seen result
+    ensures { view_of_step result
         ≡ asked_at inner row.now (address_ask src ends.now)
         (neighbour_by_address tables.now.lists row.now.tag (destination ends.now)) }
 {
@@ -134,7 +134,7 @@ fn asked<'t>(tables: &HostTables, inner: bool, row: &'t TagRow, src: Mac, ends: 
 }
 
 fn bridge_in<'t>(tables: &'t HostTables, inner: bool, row: &'t TagRow, frame: Frame) -> Step<'t>
-    ensures { step_seen result ≡ bridged_in tables.now.lists inner row.now frame }
+    ensures { view_of_step result ≡ bridged_in tables.now.lists inner row.now frame }
 {
     match frame {
         Frame::Ip { dst, .. } => bridged(
@@ -169,7 +169,7 @@ pub(crate) fn bridge_step<'t>(
     tag: u16,
     frame: Frame,
 ) -> Step<'t>
-    ensures { step_seen result ≡ bridged_at_tag tables.now.lists inner tag frame }
+    ensures { view_of_step result ≡ bridged_at_tag tables.now.lists inner tag frame }
 {
     match tables.tag_row(tag) {
         Some(row) => bridge_in(tables, inner, row, frame),
@@ -183,7 +183,7 @@ pub(crate) fn inward_step<'t>(
     frame: Frame,
     found: Option<&'t InwardRow>,
 ) -> Step<'t>
-    ensures { step_seen result ≡ bridged_inward tables.now.lists frame (option_copied found.entry) }
+    ensures { view_of_step result ≡ bridged_inward tables.now.lists frame (option_copied found.entry) }
 {
     match found {
         Some(row) => bridge_step(tables, true, row.tag, frame),
@@ -204,7 +204,7 @@ fn sender(frame: &Frame) -> Mac
 
 /// A frame comes to the DHCP port of a tag, which answers with the lease of its MAC.
 pub(crate) fn dhcp_in<'t>(tables: &'t HostTables, tag: u16, frame: &Frame) -> Step<'t>
-    ensures { step_seen result
+    ensures { view_of_step result
         ≡ leased_by (lease_by_mac tables.now.lists tag (sender_of frame.now)) }
 {
     match tables.lease_at(tag, sender(frame)) {

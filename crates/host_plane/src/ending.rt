@@ -2,7 +2,7 @@
 
 ghost use Rattle.std.specs.Prelude.{◌≡◌};
 ghost use Rattle.plane_types.specs.TableStep.{drops as drop_step, plain as plain_step};
-ghost use Rattle.host_plane.specs.Views.{step_seen, stepped_seen};
+ghost use Rattle.host_plane.specs.Views.{view_of_step, view_of_stepped};
 
 use api_types::{Id, Lease};
 use net_addr::{Addr, Mac, Text};
@@ -123,7 +123,7 @@ pub(crate) struct Stepped<'t> {
 
 /// It is dropped.
 pub(crate) fn drops<'t>(cause: DropCause) -> Step<'t>
-    ensures { step_seen result ≡ drop_step cause }
+    ensures { view_of_step result ≡ drop_step cause }
 {
     Step::End(Ending {
         ended: FrameEnd::Dropped(cause),
@@ -133,7 +133,7 @@ pub(crate) fn drops<'t>(cause: DropCause) -> Step<'t>
 
 /// It is dropped, and makes no entry.
 pub(crate) fn dropped<'t>(cause: DropCause) -> Stepped<'t>
-    ensures { stepped_seen result ≡ plain_step (drop_step cause) }
+    ensures { view_of_stepped result ≡ plain_step (drop_step cause) }
 {
     Stepped {
         step: drops(cause),

@@ -3,7 +3,7 @@
 ghost use Rattle.std.specs.Prelude.{◌≡◌, ◌++◌};
 ghost use Rattle.plane_types.specs.TableStep.{router_by_leg as by_port, router_in as routed_in, tagged_leg as leg_by_port};
 ghost use Rattle.plane_types.specs.Parts.{packet_of};
-ghost use Rattle.host_plane.specs.Views.{stepped_seen};
+ghost use Rattle.host_plane.specs.Views.{view_of_stepped};
 
 use crate::ending::{Stepped, dropped};
 use crate::port::port_of;
@@ -20,7 +20,7 @@ fn routed<'t>(
     port: Id,
     packet: &Packet,
 ) -> Stepped<'t>
-    ensures { stepped_seen result
+    ensures { view_of_stepped result
         ≡ by_port tables.now.lists (entries.now ++ fresh.now) router.now (packet_of packet.now)
         (leg_by_port router.now port) }
 {
@@ -39,7 +39,7 @@ pub(crate) fn router_in<'t>(
     router: Id,
     frame: Frame,
 ) -> Stepped<'t>
-    ensures { stepped_seen result
+    ensures { view_of_stepped result
         ≡ routed_in tables.now.lists (entries.now ++ fresh.now) port router frame }
 {
     let Some(packet) = Packet::of(&frame) else {

@@ -5,11 +5,11 @@ ghost use Rattle.std.specs.List.{list_any};
 ghost use Rattle.std.specs.Option.{unwrap_or};
 ghost use Rattle.net_addr.specs.Addresses.{addr_eq};
 ghost use Rattle.plane_types.specs.Ends.{destination as destined_for};
-ghost use Rattle.plane_types.specs.Routing.{best_way as best_of_ways, destined as destined_by, is_own as is_own_by, routed as routed_by_view, routed_to as to_by_view, routed_way as way_by_view, sent as sent_by, uses_by};
+ghost use Rattle.plane_types.specs.Routing.{best_way as best_of_ways, new_destination as destined_by, is_own as is_own_by, routing_of as routed_by_view, routed_to as to_by_view, routed_way as way_by_view, sending_of as sent_by, uses_by};
 ghost use Rattle.plane_types.specs.TableStep.{leg_at, plain, stops, table_routed as led_by, table_view, way_at, ways_at};
 ghost use Rattle.plane_types.specs.declared.verdict.Outcome.TheVariants.{Absorbed};
 ghost use Rattle.plane_types.specs.Parts.{changed_of, destined_of, packet_of, sourced_of};
-ghost use Rattle.host_plane.specs.Views.{stepped_seen};
+ghost use Rattle.host_plane.specs.Views.{view_of_stepped};
 
 use crate::ending::{FrameEnd, Ending, Step, Stepped, dropped};
 use crate::outward::sent_at;
@@ -85,7 +85,7 @@ fn send_on<'t>(
     hop: &Addr,
     sourced: Option<Sourced>,
 ) -> Stepped<'t>
-    ensures { stepped_seen result
+    ensures { view_of_stepped result
         ≡ led_by tables.now.lists router.now
         (sent_by (leg_at out.now) hop.now (option_map sourced_of sourced)) }
 {
@@ -122,7 +122,7 @@ fn routed_by<'t>(
     destined: &Destined,
     row: &RouteRow,
 ) -> Stepped<'t>
-    ensures { stepped_seen result
+    ensures { view_of_stepped result
         ≡ led_by tables.now.lists router.now
         (way_by_view (table_view tables.now.lists router.now)
         (uses_by router.now.snat router.now.gateway router.now.router
@@ -148,7 +148,7 @@ fn routed_on<'t>(
     port: &RouterPort,
     destined: &Destined,
 ) -> Stepped<'t>
-    ensures { stepped_seen result
+    ensures { view_of_stepped result
         ≡ led_by tables.now.lists router.now
         (way_by_view (table_view tables.now.lists router.now)
         (uses_by router.now.snat router.now.gateway router.now.router
@@ -165,7 +165,7 @@ fn routed_on<'t>(
 }
 
 fn absorbed<'t>(router: Id) -> Stepped<'t>
-    ensures { stepped_seen result ≡ plain (stops (Absorbed router)) }
+    ensures { view_of_stepped result ≡ plain (stops (Absorbed router)) }
 {
     Stepped {
         step: Step::End(Ending {
@@ -185,7 +185,7 @@ fn routed_to<'t>(
     port: &RouterPort,
     destined: &Destined,
 ) -> Stepped<'t>
-    ensures { stepped_seen result
+    ensures { view_of_stepped result
         ≡ led_by tables.now.lists router.now
         (to_by_view (table_view tables.now.lists router.now)
         (uses_by router.now.snat router.now.gateway router.now.router
@@ -203,7 +203,7 @@ fn routed_to<'t>(
 
 /// What a router does with a packet that came by a port of it. Its cost grows with the entries,
 /// with the router's ports, and with the routes and floating addresses.
-#[tactic(auto, unfolding(plane_types::specs::Routing::routed))]
+#[tactic(auto, unfolding(plane_types::specs::Routing::routing_of))]
 pub(crate) fn route<'t>(
     tables: &'t HostTables,
     entries: &[Entry],
@@ -212,7 +212,7 @@ pub(crate) fn route<'t>(
     port: &RouterPort,
     packet: &Packet,
 ) -> Stepped<'t>
-    ensures { stepped_seen result
+    ensures { view_of_stepped result
         ≡ led_by tables.now.lists router.now
         (routed_by_view (table_view tables.now.lists router.now) (entries.now ++ fresh.now)
         (leg_at port.now) (packet_of packet.now)) }

@@ -7,7 +7,7 @@ ghost use Rattle.plane_types.specs.Places.{Bridge, Next};
 ghost use Rattle.plane_types.specs.TableStep.{stops as stop_step, tap_at as tap_by_port, tap_delivers as delivered_to, tap_filtered as filtered_by, tap_guards as guarded, tap_in as taken_in, tap_out as taken_out, tap_out_by as taken_out_by, tap_passage, tap_sends as sent_by};
 ghost use Rattle.plane_types.specs.Parts.{packet_of};
 ghost use Rattle.plane_types.specs.declared.verdict.Outcome.TheVariants.{Delivered};
-ghost use Rattle.host_plane.specs.Views.{step_seen, stepped_seen};
+ghost use Rattle.host_plane.specs.Views.{view_of_step, view_of_stepped};
 
 use crate::ending::{FrameEnd, Ending, Step, Stepped, dropped};
 use crate::filter::passage_at;
@@ -39,7 +39,7 @@ fn guards(tap: &TapRow, frame: &Frame) -> bool
 }
 
 fn to_bridge<'t>(tap: &TapRow, frame: Frame) -> Step<'t>
-    ensures { step_seen result ≡ Next (Bridge tap.now.tag frame) }
+    ensures { view_of_step result ≡ Next (Bridge tap.now.tag frame) }
 {
     Step::Next(Place::Bridge {
         tag: tap.tag,
@@ -55,7 +55,7 @@ fn filtered<'t>(
     tap: &TapRow,
     packet: &Packet,
 ) -> Stepped<'t>
-    ensures { stepped_seen result
+    ensures { view_of_stepped result
         ≡ filtered_by (ip_frame (packet_of packet.now)) tap.now
         (tap_passage tables.now.lists (entries.now ++ fresh.now) tap.now Egress
         (packet_of packet.now)) }
@@ -78,7 +78,7 @@ fn sends<'t>(
     tap: &TapRow,
     frame: Frame,
 ) -> Stepped<'t>
-    ensures { stepped_seen result
+    ensures { view_of_stepped result
         ≡ sent_by tables.now.lists (entries.now ++ fresh.now) tap.now frame }
 {
     match Packet::of(&frame) {
@@ -98,7 +98,7 @@ pub(crate) fn tap_in<'t>(
     port: Id,
     frame: Frame,
 ) -> Stepped<'t>
-    ensures { stepped_seen result
+    ensures { view_of_stepped result
         ≡ taken_in tables.now.lists (entries.now ++ fresh.now) frame
         (tap_by_port tables.now.lists port) }
 {
@@ -115,7 +115,7 @@ pub(crate) fn tap_in<'t>(
 }
 
 fn deliver<'t>(port: Id, frame: Frame) -> Step<'t>
-    ensures { step_seen result ≡ stop_step (Delivered port frame) }
+    ensures { view_of_step result ≡ stop_step (Delivered port frame) }
 {
     Step::End(Ending {
         ended: FrameEnd::Delivered { port, frame },
@@ -131,7 +131,7 @@ fn delivers<'t>(
     tap: &TapRow,
     packet: &Packet,
 ) -> Stepped<'t>
-    ensures { stepped_seen result
+    ensures { view_of_stepped result
         ≡ delivered_to tap.now.port (ip_frame (packet_of packet.now))
         (tap_passage tables.now.lists (entries.now ++ fresh.now) tap.now Ingress
         (packet_of packet.now)) }
@@ -154,7 +154,7 @@ fn gets<'t>(
     tap: &TapRow,
     frame: Frame,
 ) -> Stepped<'t>
-    ensures { stepped_seen result
+    ensures { view_of_stepped result
         ≡ taken_out_by tables.now.lists (entries.now ++ fresh.now) frame tap.now }
 {
     match Packet::of(&frame) {
@@ -174,7 +174,7 @@ pub(crate) fn tap_out<'t>(
     port: Id,
     frame: Frame,
 ) -> Stepped<'t>
-    ensures { stepped_seen result
+    ensures { view_of_stepped result
         ≡ taken_out tables.now.lists (entries.now ++ fresh.now) frame
         (tap_by_port tables.now.lists port) }
 {

@@ -8,7 +8,7 @@ ghost use Rattle.api_types.specs.Live.{is_here as is_here_by_rows};
 ghost use Rattle.api_types.specs.Table.{ident_eq};
 ghost use Rattle.api_types.specs.declared.port.PortRow.{PortRow as ThePort};
 ghost use Rattle.plane_types.specs.TableRows.{tag_of as tag_given};
-ghost use Rattle.plane_types.specs.NewTags.{in_turn as given_in_turn, kept_tags as kept_of, next_tag as next_of, retagged as retagged_by_rows, tagged as tagged_by_rows};
+ghost use Rattle.plane_types.specs.NewTags.{in_turn as given_in_turn, kept_tags as kept_of, next_tag as next_of, new_tags as retagged_by_rows, tagged_networks as tagged_by_rows};
 ghost use Rattle.l2_agent.specs.Among.{ids_among};
 ghost use Rattle.l2_agent.specs.Free.{free_from, is_left};
 
@@ -83,7 +83,7 @@ fn networks_among(
 }
 
 // The networks that have a tag on the host, in order of creation.
-#[tactic(auto, unfolding(plane_types::specs::NewTags::tagged))]
+#[tactic(auto, unfolding(plane_types::specs::NewTags::tagged_networks))]
 fn tagged(alloc: Global, rows: &Rows, host: &Text) -> Result<Vec<Id>, OutOfMemory>
     ensures { IfOk result (λ v. v.items ≡ tagged_by_rows rows.now host.now) }
 {
@@ -181,7 +181,7 @@ fn in_turn(
 
 /// The tags of a host. A network keeps the tag that it had, and the others take the least free
 /// ones, in order of creation. Its cost grows with the networks, the ports and the old tags.
-#[tactic(auto, unfolding(plane_types::specs::NewTags::retagged))]
+#[tactic(auto, unfolding(plane_types::specs::NewTags::new_tags))]
 pub(crate) fn retagged(
     alloc: Global,
     rows: &Rows,

@@ -4,7 +4,7 @@ ghost use Rattle.std.specs.Prelude.{◌≡◌, IfOk};
 ghost use Rattle.api_types.specs.Consistent.{IsConsistent};
 ghost use Rattle.plane_types.specs.TableRows.{bridge_rows as bridge_rows_of, filter_rows as filter_rows_of, inward_rows as inward_rows_of, neighbour_rows as neighbour_rows_of, set_rows as set_rows_of, tap_rows as tap_rows_of};
 ghost use Rattle.plane_types.specs.Realises.{RealisesTags};
-ghost use Rattle.plane_types.specs.NewTags.{AreTags, retagged as retagged_by_rows};
+ghost use Rattle.plane_types.specs.NewTags.{AreTags, new_tags as retagged_by_rows};
 
 use crate::bridge::bridge_rows;
 use crate::filters::filter_rows;

@@ -1,7 +1,7 @@
 -- Where packets are and what events come to, as code has them.
 use Rattle.std.specs.Prelude.{List, [], ◌∷◌, Option, Some, None, option_to_list}
 use Rattle.api_types.specs.Ident.{Ident}
-use Rattle.plane_types.specs.Meaning.{Fate as TheFate, Onward, Trace as TheTrace, ended, with_fresh, with_path}
+use Rattle.plane_types.specs.Meaning.{Fate as TheFate, Onward, Trace as TheTrace, end_fate, with_fresh, with_path}
 use Rattle.api_types.specs.RouterRows.{leg_of}
 use Rattle.plane_types.specs.Routing.{RouteEnds, RouteSends, Routed as TheRouted}
 use Rattle.plane_types.specs.Parts.{packet_of}
@@ -30,12 +30,12 @@ passed_list (Some p) = p.0 ∷ p.1 ∷ []
 
 -- the event ends, or another port gets the packet
 abbrev pub next_by : Onward → Next → TheTrace → TheFate
-next_by on (Ends o) t = ended t o
+next_by on (Ends o) t = end_fate t o
 next_by on (To q p) t = on q.now (packet_of p) t
 
 -- with what the turn made and passed
-abbrev pub turned : TheTrace → AtPort → TheTrace
-turned t at_port = with_path (with_fresh t (option_to_list at_port.made)) (passed_list at_port.passed)
+abbrev pub trace_after : TheTrace → AtPort → TheTrace
+trace_after t at_port = with_path (with_fresh t (option_to_list at_port.made)) (passed_list at_port.passed)
 
-abbrev pub turn_by : Onward → TheTrace → AtPort → TheFate
-turn_by on t at_port = next_by on at_port.next (turned t at_port)
+abbrev pub at_port_fate : Onward → TheTrace → AtPort → TheFate
+at_port_fate on t at_port = next_by on at_port.next (trace_after t at_port)

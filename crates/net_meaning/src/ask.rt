@@ -1,7 +1,7 @@
 //! Asks for addresses and leases, by the rows.
 
 ghost use Rattle.std.specs.Prelude.{◌≡◌, IfOk};
-ghost use Rattle.plane_types.specs.Meaning.{answered as lease_answer, asked as address_asked, lease_asked as lease_asked_of, leased as leased_by, out_of as out_or_dropped};
+ghost use Rattle.plane_types.specs.Meaning.{lease_outcome as lease_answer, address_outcome as address_asked, lease_asked as lease_asked_of, dhcp_outcome as leased_by, out_of as out_or_dropped};
 ghost use Rattle.plane_types.specs.Packets.{address_ask, lease_ask};
 
 use api_types::{Id, Lease, PortRow, Rows};

@@ -2,11 +2,11 @@
 
 ghost use Rattle.std.specs.Prelude.{◌≡◌, IfOk, OnOk, Some, option_to_list, suc};
 ghost use Rattle.api_types.specs.Holders.{router_of as router_by_rows};
-ghost use Rattle.plane_types.specs.Meaning.{Onward, Trace as TheTrace, arrived as arrived_at, at_router as at_router_by, ended as ended_with, got as got_by, handed as handed_by, handed_out as handed_out_by, received as received_by, with_fresh, with_path};
+ghost use Rattle.plane_types.specs.Meaning.{Onward, Trace as TheTrace, fate_at_port as arrived_at, at_router as at_router_by, end_fate as ended_with, port_fate as got_by, after_router as handed_by, handed_out as handed_out_by, at_receiver as received_by, with_fresh, with_path};
 ghost use Rattle.api_types.specs.RouterRows.{leg_of};
 ghost use Rattle.plane_types.specs.Routing.{RouteSends};
 ghost use Rattle.plane_types.specs.Parts.{packet_of};
-ghost use Rattle.net_meaning.specs.Views.{fate_of, passed_list, trace_of, turn_by};
+ghost use Rattle.net_meaning.specs.Views.{fate_of, passed_list, trace_of, at_port_fate};
 
 use crate::ask::out_of;
 use crate::passage::passage_at;
@@ -57,7 +57,7 @@ fn received<'r>(
     packet: &Packet,
 ) -> AtPort<'r>
     ensures { (on : Onward) (t : TheTrace) → t.fresh ≡ fresh.now
-        → turn_by on t result ≡ received_by rows.now entries.now port.now (packet_of packet.now) t }
+        → at_port_fate on t result ≡ received_by rows.now entries.now port.now (packet_of packet.now) t }
 {
     let passage = passage_at(rows, entries, fresh, port, Direction::Ingress, packet);
     let outcome = if passage.passes {
@@ -78,7 +78,7 @@ fn received<'r>(
 // The joined holder of the next hop gets what a router sends on by a port.
 fn handed_out<'r>(rows: &'r Rows, router: &RouterRow, out: &PortRow, sent: &Sent<'r>) -> AtPort<'r>
     ensures { (on : Onward) (t : TheTrace)
-        → turn_by on t result
+        → at_port_fate on t result
         ≡ handed_out_by rows.now on router.now sent.now.hop (packet_of sent.now.packet)
         (with_fresh t (option_to_list sent.now.made)) (Some out.now) }
 {
@@ -114,7 +114,7 @@ fn handed_out<'r>(rows: &'r Rows, router: &RouterRow, out: &PortRow, sent: &Sent
 // The port by which it leaves is one of the router's.
 fn handed<'r>(rows: &'r Rows, router: &RouterRow, sent: &Sent<'r>) -> AtPort<'r>
     ensures { (on : Onward) (t : TheTrace)
-        → turn_by on t result
+        → at_port_fate on t result
         ≡ handed_by rows.now on router.now t
         (RouteSends (option_to_list sent.now.made) (leg_of sent.now.out.now) sent.now.hop
         (packet_of sent.now.packet)) }
@@ -130,7 +130,7 @@ fn handed<'r>(rows: &'r Rows, router: &RouterRow, sent: &Sent<'r>) -> AtPort<'r>
 }
 
 fn ended<'r>(outcome: Outcome) -> AtPort<'r>
-    ensures { (on : Onward) (t : TheTrace) → turn_by on t result ≡ ended_with t outcome }
+    ensures { (on : Onward) (t : TheTrace) → at_port_fate on t result ≡ ended_with t outcome }
 {
     AtPort {
         made: None,
@@ -150,7 +150,7 @@ fn at_router<'r>(
 ) -> Result<AtPort<'r>, OutOfMemory>
     ensures { IfOk result
         (λ at_port. (on : Onward) (t : TheTrace) → t.fresh ≡ fresh.now
-        → turn_by on t at_port
+        → at_port_fate on t at_port
         ≡ at_router_by rows.now entries.now on port.now (packet_of packet.now) t
         (router_by_rows rows.now port.now)) }
 {
@@ -174,7 +174,7 @@ fn arrived<'r>(
 ) -> Result<AtPort<'r>, OutOfMemory>
     ensures { IfOk result
         (λ at_port. (on : Onward) (t : TheTrace) → t.fresh ≡ fresh.now
-        → turn_by on t at_port
+        → at_port_fate on t at_port
         ≡ arrived_at rows.now entries.now on port.now (packet_of packet.now) t) }
 {
     if is_router_port(&port.owner) {

@@ -6,7 +6,7 @@ ghost use Rattle.net_addr.specs.declared.address.Addr.TheVariants.{V4};
 ghost use Rattle.plane_types.specs.Ends.{source as sent_from};
 ghost use Rattle.plane_types.specs.Packets.{key_of};
 ghost use Rattle.api_types.specs.RouterRows.{floats_of, gateway_address as gateway_by_rows, leg_of, router_view};
-ghost use Rattle.plane_types.specs.Routing.{by_float as changed_by_float, is_gateway_live, new_port as new_port_of, sourced as sourced_by, sourced_float as sourced_by_float, sourced_gateway as sourced_by_gateway, sourced_new as sourced_anew};
+ghost use Rattle.plane_types.specs.Routing.{by_float as changed_by_float, is_gateway_live, new_port as new_port_of, new_source as sourced_by, sourced_float as sourced_by_float, sourced_gateway as sourced_by_gateway, sourced_new as sourced_anew};
 ghost use Rattle.api_types.specs.RouterViews.{Float};
 ghost use Rattle.plane_types.specs.Parts.{changed_of, packet_of, sourced_of, use_of};
 

@@ -20,7 +20,7 @@ use Rattle.api_types.specs.Holders.{holds, router_of}
 use Rattle.plane_types.specs.Hosts.{Host}
 use Rattle.api_types.specs.Live.{is_live, network_of, segment}
 use Rattle.api_types.specs.Wires.{wire_of}
-use Rattle.plane_types.specs.TableRows.{bridge_rows, carrier_of, filter_rows, float_rows, hosted, inward_rows, is_hosted, is_tagged, is_tap, lease_rows, neighbour_rows, route_rows, router_rows, set_rows, tap_rows}
+use Rattle.plane_types.specs.TableRows.{bridge_rows, carrier_of, filter_rows, float_rows, is_on_host, inward_rows, is_hosted, is_tagged, is_tap, lease_rows, neighbour_rows, route_rows, router_rows, set_rows, tap_rows}
 use Rattle.plane_types.specs.TableStep.{carrier_eq}
 use Rattle.plane_types.specs.declared.entry.Entry.{Entry}
 use Rattle.plane_types.specs.declared.entry.Entry.TheVariants.{Flow, Snat}
@@ -108,7 +108,7 @@ is_tap_id rows host i p = ident_eq i p.id && is_tap rows host p
 
 abbrev pub stands_at : RowLists → List ℕ → Entry → Bool
 stands_at rows host (Flow port d k) = list_any (is_tap_id rows host port) rows.ports
-stands_at rows host (Snat r k o p) = list_any (λ (x : RouterRow). ident_eq r x.id && hosted host x) rows.routers
+stands_at rows host (Snat r k o p) = list_any (λ (x : RouterRow). ident_eq r x.id && is_on_host host x) rows.routers
 
 abbrev pub EntriesStand : RowLists → Host → Type 0
 EntriesStand rows h = AllOf (λ e. stands_at rows h.name e ≡ true) h.entries

@@ -18,9 +18,9 @@ use Rattle.plane_types.specs.declared.table.TapRow.{TapRow}
 use Rattle.plane_types.specs.declared.lists.TableLists.{TableLists}
 
 -- the entry is of a tap or of a router of these tables
-abbrev pub is_placed : TableLists → Entry → Bool
-is_placed t (Flow port d k) = list_any (λ (r : TapRow). ident_eq port r.port) t.taps
-is_placed t (Snat router k o p) = list_any (λ (r : RouterTable). ident_eq router r.router) t.routers
+abbrev pub is_attached : TableLists → Entry → Bool
+is_attached t (Flow port d k) = list_any (λ (r : TapRow). ident_eq port r.port) t.taps
+is_attached t (Snat router k o p) = list_any (λ (r : RouterTable). ident_eq router r.router) t.routers
 
 -- a translation of this router, of a kind, from this outer address and port to this far end
 abbrev pub meets : Ident → KeyKind → ℕ → ℕ → Addr → ℕ → Entry → Bool
@@ -33,7 +33,7 @@ abbrev pub translates : Ident → Key → ℕ → Entry → Bool
 translates router key outer (Flow q d k) = false
 translates router key outer (Snat r k o p) = ident_eq router r && (outer == o) && key_eq k key
 
-pub record IsPlaced (h : Host) : Type 0 where
-  pub stand : Pass (is_placed h.tables) h.entries
+pub record IsAttached (h : Host) : Type 0 where
+  pub stand : Pass (is_attached h.tables) h.entries
   pub once_outside : (router : Ident) (kind : KeyKind) (outer port : ℕ) (far : Addr) (far_port : ℕ) → count_by (meets router kind outer port far far_port) h.entries ≤ 1
   pub once_inside : (router : Ident) (key : Key) (outer : ℕ) → count_by (translates router key outer) h.entries ≤ 1

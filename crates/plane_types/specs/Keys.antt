@@ -33,8 +33,8 @@ answer_kind UdpKey = UdpKey
 answer_kind (ProtoKey n) = ProtoKey n
 
 -- the key of an answer: ends and ports change places, and an echo with its reply
-abbrev pub reversed : Key → Key
-reversed k = record { kind = answer_kind k.kind; ends = turned_round k.ends; sport = k.dport; dport = k.sport }
+abbrev pub answer_key : Key → Key
+answer_key k = record { kind = answer_kind k.kind; ends = turned_round k.ends; sport = k.dport; dport = k.sport }
 
 abbrev pub kind_place : KeyKind → ℕ
 kind_place TcpKey = 0

@@ -18,8 +18,8 @@ pub record AreTags (tags : List TagRow) : Type 0 where
   pub differ : (tag : ℕ) → count_by (λ (t : TagRow). t.tag == tag) tags ≤ 1
 
 -- the networks that have a tag on the host
-unfoldable pub tagged : RowLists → List ℕ → List Ident
-tagged rows host = map (λ (n : NetworkRow). n.id) (filter (is_tagged rows host) rows.networks)
+unfoldable pub tagged_networks : RowLists → List ℕ → List Ident
+tagged_networks rows host = map (λ (n : NetworkRow). n.id) (filter (is_tagged rows host) rows.networks)
 
 -- the tags that these networks had
 unfoldable pub kept_tags : List TagRow → List Ident → List ℕ
@@ -56,5 +56,5 @@ unfoldable pub in_turn : RowLists → List TagRow → List ℕ → List Ident �
 in_turn rows old free [] = []
 in_turn rows old free (n ∷ ns) = with_tag rows n free (λ left. in_turn rows old left ns) (next_tag (tag_of old n) free)
 
-unfoldable pub retagged : RowLists → List ℕ → List TagRow → List TagRow
-retagged rows host old = in_turn rows old (free_tags (kept_tags old (tagged rows host))) (tagged rows host)
+unfoldable pub new_tags : RowLists → List ℕ → List TagRow → List TagRow
+new_tags rows host old = in_turn rows old (free_tags (kept_tags old (tagged_networks rows host))) (tagged_networks rows host)

@@ -4,7 +4,7 @@ use Rattle.std.specs.Prelude.{not, ◌&&◌, Bool, true, List, [], ◌∷◌, if
 use Rattle.api_types.specs.Ident.{Ident}
 use Rattle.api_types.specs.declared.group.Direction.{Direction}
 use Rattle.plane_types.specs.Entries.{has_flow, opposite}
-use Rattle.plane_types.specs.Keys.{reversed}
+use Rattle.plane_types.specs.Keys.{answer_key}
 use Rattle.plane_types.specs.declared.entry.Entry.{Entry}
 use Rattle.plane_types.specs.declared.entry.Entry.TheVariants.{Flow}
 use Rattle.plane_types.specs.declared.frame.Key.{Key}
@@ -23,4 +23,4 @@ abbrev pub passage : Bool → (Direction → Key → Bool) → List Entry → Id
 passage secured allows entries port direction key =
     if not secured then record { passes = true; made = [] }
     else if allows direction key then record { passes = true; made = new_flow entries port direction key }
-    else record { passes = has_flow entries port (opposite direction) (reversed key) && allows (opposite direction) (reversed key); made = [] }
+    else record { passes = has_flow entries port (opposite direction) (answer_key key) && allows (opposite direction) (answer_key key); made = [] }

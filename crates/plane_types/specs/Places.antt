@@ -27,11 +27,11 @@ pub data Step : Type 0 where
   End : Outcome → Option Ident → Step
 
 -- a place that borrows a name, without the borrowing
-abbrev pub place_seen : TheirPlace → Place
-place_seen (TheirTapIn port frame) = TapIn port frame
-place_seen (TheirBridge tag frame) = Bridge tag frame
-place_seen (TheirTunnelIn number frame) = TunnelIn number frame
-place_seen (TheirWireIn physical tag frame) = WireIn (record { physical = physical.now; tag = tag }) frame
-place_seen (TheirRouterIn port router frame) = RouterIn port router frame
-place_seen (TheirDhcpIn tag frame) = DhcpIn tag frame
-place_seen (TheirTapOut port frame) = TapOut port frame
+abbrev pub view_of_place : TheirPlace → Place
+view_of_place (TheirTapIn port frame) = TapIn port frame
+view_of_place (TheirBridge tag frame) = Bridge tag frame
+view_of_place (TheirTunnelIn number frame) = TunnelIn number frame
+view_of_place (TheirWireIn physical tag frame) = WireIn (record { physical = physical.now; tag = tag }) frame
+view_of_place (TheirRouterIn port router frame) = RouterIn port router frame
+view_of_place (TheirDhcpIn tag frame) = DhcpIn tag frame
+view_of_place (TheirTapOut port frame) = TapOut port frame

@@ -11,7 +11,7 @@ use Rattle.net_addr.specs.Prefixes.{contains}
 use Rattle.api_types.specs.Ident.{Ident}
 use Rattle.api_types.specs.Table.{ident_eq}
 use Rattle.plane_types.specs.Ends.{are_four, destination, source, turned_round, with_destination, with_source}
-use Rattle.plane_types.specs.Keys.{key_eq, kind_eq, reversed}
+use Rattle.plane_types.specs.Keys.{key_eq, kind_eq, answer_key}
 use Rattle.plane_types.specs.Packets.{Packet, key_of, part_from, part_to}
 use Rattle.plane_types.specs.declared.entry.Entry.{Entry}
 use Rattle.plane_types.specs.declared.entry.Entry.TheVariants.{Flow, Snat}
@@ -66,7 +66,7 @@ uses_by true (Some outer) r entries = uses_at r outer entries
 abbrev pub answers : Option ℕ → Packet → Use → Bool
 answers None p u = false
 answers (Some outer) p u =
-    addr_eq (V4 outer) (destination p.ends) && kind_eq u.key.kind (reversed (key_of p)).kind && (u.port == (key_of p).dport)
+    addr_eq (V4 outer) (destination p.ends) && kind_eq u.key.kind (answer_key (key_of p)).kind && (u.port == (key_of p).dport)
     && addr_eq (destination u.key.ends) (source p.ends) && (u.key.dport == (key_of p).sport)
 
 abbrev pub destined_entry : Packet → Option Use → Destined
@@ -77,8 +77,8 @@ abbrev pub destined_float : RouterView → List Use → Packet → Option Float 
 destined_float v uses p (Some f) = record { packet = record p { ends = with_destination p.ends f.fixed }; by = ByFloating }
 destined_float v uses p None = destined_entry p (find (answers v.gateway p) uses)
 
-abbrev pub destined : RouterView → List Use → Packet → Destined
-destined v uses p = destined_float v uses p (find (λ (f : Float). addr_eq (V4 f.floating) (destination p.ends)) v.floats)
+abbrev pub new_destination : RouterView → List Use → Packet → Destined
+new_destination v uses p = destined_float v uses p (find (λ (f : Float). addr_eq (V4 f.floating) (destination p.ends)) v.floats)
 
 -- The longest prefix that contains the destination is taken; of equal lengths a connected route goes before an extra one, that
 -- before the default, and the first of equal ones.
@@ -156,20 +156,20 @@ sourced_float v uses out by p (Some f) = Some (record { packet = record p { ends
 sourced_float v uses out by p None = if (not out.inside || by_float by) && v.snat && is_gateway_live v then sourced_gateway v uses p v.gateway else kept_source p
 
 -- only a packet of version 4 that came in by an interface, and leaves by the gateway port or had its destination changed
-abbrev pub sourced : RouterView → List Use → Leg → Leg → Changed → Packet → Option Sourced
-sourced v uses way_in out by p =
+abbrev pub new_source : RouterView → List Use → Leg → Leg → Changed → Packet → Option Sourced
+new_source v uses way_in out by p =
     if are_four p.ends && way_in.inside && (not out.inside || by_any by)
     then sourced_float v uses out by p (find (λ (f : Float). addr_eq (V4 f.fixed) (source p.ends)) v.floats) else kept_source p
 
 -- the packet's source MAC is that of the way out
-abbrev pub sent : Leg → Addr → Option Sourced → Routed
-sent out hop None = RouteEnds (Dropped TranslationFull)
-sent out hop (Some s) = RouteSends s.made out hop (record s.packet { src = out.mac })
+abbrev pub sending_of : Leg → Addr → Option Sourced → Routed
+sending_of out hop None = RouteEnds (Dropped TranslationFull)
+sending_of out hop (Some s) = RouteSends s.made out hop (record s.packet { src = out.mac })
 
 -- the next hop is the route's, or the destination where it has none
 abbrev pub routed_out : RouterView → List Use → Leg → Changed → Packet → Addr → Option Leg → Routed
 routed_out v uses way_in by p hop None = RouteEnds (Dropped Unknown)
-routed_out v uses way_in by p hop (Some out) = sent out hop (sourced v uses way_in out by p)
+routed_out v uses way_in by p hop (Some out) = sending_of out hop (new_source v uses way_in out by p)
 
 abbrev pub routed_way : RouterView → List Use → Leg → Changed → Packet → Option Way → Routed
 routed_way v uses way_in by p None = RouteEnds (Dropped NoRoute)
@@ -187,7 +187,7 @@ routed_to v uses way_in d =
     else routed_way v uses way_in d.by (record (d.packet) { ttl = d.packet.ttl - 1 }) (best_way (destination d.packet.ends) v.ways)
 
 -- the whole rule, which a router that is down doesn't begin
-unfoldable pub routed : RouterView → List Entry → Leg → Packet → Routed
-routed v entries way_in p =
+unfoldable pub routing_of : RouterView → List Entry → Leg → Packet → Routed
+routing_of v entries way_in p =
     if not v.up then RouteEnds (Dropped RouterDown)
-    else routed_to v (uses_by v.snat v.gateway v.id entries) way_in (destined v (uses_by v.snat v.gateway v.id entries) p)
+    else routed_to v (uses_by v.snat v.gateway v.id entries) way_in (new_destination v (uses_by v.snat v.gateway v.id entries) p)

@@ -15,6 +15,6 @@ IsRunOf test xs None = filter test xs ≡ []
 IsRunOf test xs (Some r) = IsRun test xs r
 
 -- as one more passes, at a place that is the last so far
-abbrev pub reached : ℕ → ℕ → Option Run → Run
-reached place behind None = record { from = place; behind = behind }
-reached place behind (Some r) = record { from = r.from; behind = behind }
+abbrev pub longer_run : ℕ → ℕ → Option Run → Run
+longer_run place behind None = record { from = place; behind = behind }
+longer_run place behind (Some r) = record { from = r.from; behind = behind }

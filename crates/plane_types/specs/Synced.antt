@@ -6,11 +6,11 @@ use Rattle.api_types.specs.Lists.{Each}
 use Rattle.api_types.specs.RowLists.{RowLists}
 use Rattle.api_types.specs.declared.network.Segment.{Segment}
 use Rattle.plane_types.specs.Hosts.{Host, is_named}
-use Rattle.plane_types.specs.Attached.{IsPlaced}
+use Rattle.plane_types.specs.Attached.{IsAttached}
 use Rattle.plane_types.specs.Realises.{Realises}
 
 pub record AreSynced (carries : List ℕ → Segment → Bool) (rows : RowLists) (hosts : List Host) : Type 0 where
   pub realise : Each (λ (h : Host). Realises rows h.name h.tables) hosts
-  pub placed : Each IsPlaced hosts
+  pub placed : Each IsAttached hosts
   pub names : (name : List ℕ) → count_by (is_named name) hosts ≤ 1
   pub complete : (name : List ℕ) (s : Segment) → carries name s ≡ true → list_any (is_named name) hosts ≡ true

@@ -169,8 +169,8 @@ abbrev pub is_host_of : List ℕ → Option (List ℕ) → Bool
 is_host_of host None = false
 is_host_of host (Some h) = bytes_eq h host
 
-abbrev pub hosted : List ℕ → RouterRow → Bool
-hosted host r = is_host_of host r.host
+abbrev pub is_on_host : List ℕ → RouterRow → Bool
+is_on_host host r = is_host_of host r.host
 
 -- the prefix of the subnet of each address
 abbrev pub prefixes_for : RowLists → PortRow → List Prefix
@@ -186,17 +186,17 @@ abbrev pub router_row : RowLists → List TagRow → RouterRow → RouterTable
 router_row rows tags r = record { router = r.id; up = r.up; snat = has_snat r.gateway; gateway = gateway_address rows r; ports = filter_map (tagged_by rows tags) (legs_of rows r) }
 
 unfoldable pub router_rows : RowLists → List ℕ → List TagRow → List RouterTable
-router_rows rows host tags = filter_map (λ r. if hosted host r then Some (router_row rows tags r) else None) rows.routers
+router_rows rows host tags = filter_map (λ r. if is_on_host host r then Some (router_row rows tags r) else None) rows.routers
 
 abbrev pub route_row : Ident → Way → RouteRow
 route_row r w = record { router = r; prefix = w.prefix; rank = w.rank; next = w.next; port = w.port }
 
 unfoldable pub route_rows : RowLists → List ℕ → List RouteRow
-route_rows rows host = flat_map (λ r. if hosted host r then map (route_row r.id) (ways_of rows r) else []) rows.routers
+route_rows rows host = flat_map (λ r. if is_on_host host r then map (route_row r.id) (ways_of rows r) else []) rows.routers
 
 abbrev pub is_hosted : List ℕ → Option RouterRow → Bool
 is_hosted host None = false
-is_hosted host (Some r) = hosted host r
+is_hosted host (Some r) = is_on_host host r
 
 abbrev pub float_row_by : RowLists → List ℕ → FloatingRow → Option Target → Option FloatRow
 float_row_by rows host f None = None

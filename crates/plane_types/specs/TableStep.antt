@@ -17,7 +17,7 @@ use Rattle.api_types.specs.Wires.{wire_eq}
 use Rattle.plane_types.specs.Packets.{AddressAsk, Packet, address_ask, ask_frame, ip_frame, is_unsupported, key_of, packet}
 use Rattle.plane_types.specs.Passage.{Passage, passage}
 use Rattle.plane_types.specs.Places.{Bridge, DhcpIn, End, Next, Place, RouterIn, Step, TapIn, TapOut, ToTunnel, ToWire, TunnelIn, WireIn}
-use Rattle.plane_types.specs.Routing.{RouteEnds, RouteSends, Routed, routed}
+use Rattle.plane_types.specs.Routing.{RouteEnds, RouteSends, Routed, routing_of}
 use Rattle.api_types.specs.RouterViews.{Float, Leg, RouterView, Way}
 use Rattle.plane_types.specs.declared.entry.Entry.{Entry}
 use Rattle.plane_types.specs.declared.frame.Frame.{Frame}
@@ -132,11 +132,11 @@ wire_or true n w toward frame cause = drops Unknown
 wire_or false n None toward frame cause = drops cause
 wire_or false n (Some w) toward frame cause = ToWire w n toward frame
 
-abbrev pub tapped : ℕ → Ident → Frame → Step
-tapped tag port (Ip src dst ends ttl part) = Next (TapOut port (Ip src dst ends ttl part))
-tapped tag port (Dhcp src from) = Next (DhcpIn tag (Dhcp src from))
-tapped tag port (NeighbourAsk src ends) = Next (DhcpIn tag (NeighbourAsk src ends))
-tapped tag port (Other s d y) = Next (DhcpIn tag (Other s d y))
+abbrev pub to_tap : ℕ → Ident → Frame → Step
+to_tap tag port (Ip src dst ends ttl part) = Next (TapOut port (Ip src dst ends ttl part))
+to_tap tag port (Dhcp src from) = Next (DhcpIn tag (Dhcp src from))
+to_tap tag port (NeighbourAsk src ends) = Next (DhcpIn tag (NeighbourAsk src ends))
+to_tap tag port (Other s d y) = Next (DhcpIn tag (Other s d y))
 
 abbrev pub routed_in : Ident → Ident → Frame → Step
 routed_in router port (Ip src dst ends ttl part) = Next (RouterIn port router (Ip src dst ends ttl part))
@@ -145,14 +145,14 @@ routed_in router port (Dhcp src from) = drops Unknown
 routed_in router port (Other s d y) = drops Unknown
 
 -- by the row's end; a frame that came by a tunnel or wire doesn't leave by one
-abbrev pub led : Bool → ℕ → Frame → BridgeTo → Step
-led inner tag frame (ToTap port) = tapped tag port frame
-led inner tag frame (ToRouter router port) = routed_in router port frame
-led false tag frame (ToHost host number) = ToTunnel host number frame
-led true tag frame (ToHost host number) = drops Unknown
+abbrev pub target_step : Bool → ℕ → Frame → BridgeTo → Step
+target_step inner tag frame (ToTap port) = to_tap tag port frame
+target_step inner tag frame (ToRouter router port) = routed_in router port frame
+target_step false tag frame (ToHost host number) = ToTunnel host number frame
+target_step true tag frame (ToHost host number) = drops Unknown
 
 abbrev pub bridged_by : Bool → TagRow → Toward → Frame → DropCause → Option BridgeRow → Step
-bridged_by inner row toward frame cause (Some r) = led inner row.tag frame r.to
+bridged_by inner row toward frame cause (Some r) = target_step inner row.tag frame r.to
 bridged_by inner row toward frame cause None = wire_or inner row.network row.wire toward frame cause
 
 abbrev pub asked_at : Bool → TagRow → AddressAsk → Option NeighbourRow → Step
@@ -224,7 +224,7 @@ table_routed t r (RouteSends made out hop p) = record { step = sent_at t hop p (
 
 abbrev pub router_by_leg : TableLists → List Entry → RouterTable → Packet → Option RouterPort → Stepped
 router_by_leg t entries r p None = plain (drops Unknown)
-router_by_leg t entries r p (Some x) = table_routed t r (routed (table_view t r) entries (leg_at x) p)
+router_by_leg t entries r p (Some x) = table_routed t r (routing_of (table_view t r) entries (leg_at x) p)
 
 abbrev pub router_by_row : TableLists → List Entry → Ident → Packet → Option RouterTable → Stepped
 router_by_row t entries port p None = plain (drops Unknown)

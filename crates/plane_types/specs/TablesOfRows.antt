@@ -1,14 +1,14 @@
 -- The tables that a host makes of rows.
 use Rattle.std.specs.Prelude.{ℕ, List}
 use Rattle.api_types.specs.RowLists.{RowLists}
-use Rattle.plane_types.specs.NewTags.{retagged}
+use Rattle.plane_types.specs.NewTags.{new_tags}
 use Rattle.plane_types.specs.TableRows.{bridge_rows, filter_rows, float_rows, inward_rows, lease_rows, neighbour_rows, route_rows, router_rows, set_rows, tap_rows}
 use Rattle.plane_types.specs.declared.table.TagRow.{TagRow}
 use Rattle.plane_types.specs.declared.lists.TableLists.{TableLists}
 
 -- for these tags
-abbrev pub wired_for : RowLists → List ℕ → List TagRow → TableLists
-wired_for rows host tags = record {
+abbrev pub tables_for_tags : RowLists → List ℕ → List TagRow → TableLists
+tables_for_tags rows host tags = record {
   tags = tags;
   taps = tap_rows rows host tags;
   filters = filter_rows rows host;
@@ -23,5 +23,5 @@ wired_for rows host tags = record {
 }
 
 -- where its tags were these
-unfoldable pub wired : RowLists → List ℕ → List TagRow → TableLists
-wired rows host old = wired_for rows host (retagged rows host old)
+unfoldable pub tables_of_rows : RowLists → List ℕ → List TagRow → TableLists
+tables_of_rows rows host old = tables_for_tags rows host (new_tags rows host old)

@@ -16,11 +16,11 @@ use Rattle.plane_types.specs.declared.verdict.Verdict.{Verdict as ToldVerdict}
 abbrev pub of_nobody : Entry → Made
 of_nobody e = record { entry = e; host = None }
 
-abbrev pub told_by_rows : Fate → ToldVerdict
-told_by_rows f = record { outcome = f.outcome; path = f.path; fresh = map of_nobody f.fresh; trail = [] }
+abbrev pub verdict_of_fate : Fate → ToldVerdict
+verdict_of_fate f = record { outcome = f.outcome; path = f.path; fresh = map of_nobody f.fresh; trail = [] }
 
 abbrev pub rows_verdict : RowLists → List Entry → Event → ToldVerdict
-rows_verdict rows entries event = told_by_rows (rows_fate rows entries event)
+rows_verdict rows entries event = verdict_of_fate (rows_fate rows entries event)
 
 -- the entries that an event made
 abbrev pub entries_made : List Made → List Entry
@@ -32,23 +32,23 @@ rows_verdicts rows entries [] = []
 rows_verdicts rows entries (e ∷ events) = rows_verdict rows entries e ∷ rows_verdicts rows (entries ++ entries_made (rows_verdict rows entries e).fresh) events
 
 -- by the hosts' tables: each entry with the place of its maker among the hosts
-abbrev pub place_among : List ℕ → List Host → Option ℕ
-place_among name [] = None
-place_among name (h ∷ hosts) = if is_named name h then Some zero else option_map suc (place_among name hosts)
+abbrev pub index_among : List ℕ → List Host → Option ℕ
+index_among name [] = None
+index_among name (h ∷ hosts) = if is_named name h then Some zero else option_map suc (index_among name hosts)
 
-abbrev pub told_fresh : List Host → List Entry → List (List ℕ) → List Made
-told_fresh hosts [] names = []
-told_fresh hosts (e ∷ es) [] = of_nobody e ∷ told_fresh hosts es []
-told_fresh hosts (e ∷ es) (name ∷ names) = record { entry = e; host = place_among name hosts } ∷ told_fresh hosts es names
+abbrev pub made_entries : List Host → List Entry → List (List ℕ) → List Made
+made_entries hosts [] names = []
+made_entries hosts (e ∷ es) [] = of_nobody e ∷ made_entries hosts es []
+made_entries hosts (e ∷ es) (name ∷ names) = record { entry = e; host = index_among name hosts } ∷ made_entries hosts es names
 
-abbrev pub told_trail : List (List ℕ × ℕ) → List TrailItem
-told_trail trail = map (λ (x : List ℕ × ℕ). record { host = x.0; tag = x.1 }) trail
+abbrev pub trail_items : List (List ℕ × ℕ) → List TrailItem
+trail_items trail = map (λ (x : List ℕ × ℕ). record { host = x.0; tag = x.1 }) trail
 
-abbrev pub told_by_hosts : List Host → FabricFate → ToldVerdict
-told_by_hosts hosts f = record { outcome = f.outcome; path = f.run.path; fresh = told_fresh hosts f.run.fresh f.run.makers; trail = told_trail f.run.trail }
+abbrev pub verdict_of_run : List Host → FabricFate → ToldVerdict
+verdict_of_run hosts f = record { outcome = f.outcome; path = f.run.path; fresh = made_entries hosts f.run.fresh f.run.makers; trail = trail_items f.run.trail }
 
 abbrev pub fabric_verdict : List Host → Event → ToldVerdict
-fabric_verdict hosts event = told_by_hosts hosts (fabric_fate hosts event)
+fabric_verdict hosts event = verdict_of_run hosts (fabric_fate hosts event)
 
 -- a verdict, the hosts left aside
 abbrev pub without_hosts : ToldVerdict → ToldVerdict
@@ -59,15 +59,15 @@ abbrev pub made_at : ℕ → Made → Option Entry
 made_at place m = if option_eq (λ a b. a == b) m.host (Some place) then Some m.entry else None
 
 -- each entry is added at the host that made it, places counted from the first of these
-abbrev pub kept_from : ℕ → List Host → List Made → List Host
-kept_from place [] fresh = []
-kept_from place (h ∷ hosts) fresh = record h { entries = h.entries ++ filter_map (made_at place) fresh } ∷ kept_from (suc place) hosts fresh
+abbrev pub with_made_from : ℕ → List Host → List Made → List Host
+with_made_from place [] fresh = []
+with_made_from place (h ∷ hosts) fresh = record h { entries = h.entries ++ filter_map (made_at place) fresh } ∷ with_made_from (suc place) hosts fresh
 
-abbrev pub kept : List Host → List Made → List Host
-kept hosts fresh = kept_from 0 hosts fresh
+abbrev pub with_made : List Host → List Made → List Host
+with_made hosts fresh = with_made_from 0 hosts fresh
 
 abbrev pub hosts_after : List Host → Event → List Host
-hosts_after hosts event = kept hosts (fabric_verdict hosts event).fresh
+hosts_after hosts event = with_made hosts (fabric_verdict hosts event).fresh
 
 unfoldable pub fabric_verdicts : List Host → List Event → List ToldVerdict
 fabric_verdicts hosts [] = []

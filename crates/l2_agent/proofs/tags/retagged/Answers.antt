@@ -1,10 +1,10 @@
 use Rattle.std.proofs.Common.{◌∙◌}
-use Rattle.plane_types.specs.NewTags.{free_tags, in_turn, kept_tags, retagged}
+use Rattle.plane_types.specs.NewTags.{free_tags, in_turn, kept_tags, new_tags}
 use Rattle.l2_agent.proofs.FreeLemmas.{free_alike}
 use Rattle.l2_agent.proofs.tags.retagged.Goals as goal
 
 pub returns : goal.returns
-unfolding retagged
+unfolding new_tags
 returns c =
     let rows = c.args.rows.now in
     let old = c.in_ok-old.ensures in

@@ -1,5 +1,5 @@
 use Rattle.std.proofs.Common.{◌∙◌, ◌-◌, ◌+◌, ap, sym}
-use Rattle.plane_types.specs.Meaning.{got as got_by}
+use Rattle.plane_types.specs.Meaning.{port_fate as got_by}
 use Rattle.plane_types.specs.Parts.{packet_of}
 use Rattle.net_meaning.specs.Views.{next_by, trace_of}
 use Rattle.net_meaning.proofs.TurnLemmas.{no_turn, turn_on}
