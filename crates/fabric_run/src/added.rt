@@ -66,7 +66,7 @@ fn tag_at(host: &HostAt<'_>, place: &Place<'_>) -> Option<u16>
 }
 
 // What a router adds by a step: itself and the network of the way out, where it sent the packet on.
-fn sent(host: &HostAt<'_>, router: Id, step: &Step<'_>) -> (Option<Id>, Option<Id>)
+fn router_path(host: &HostAt<'_>, router: Id, step: &Step<'_>) -> (Option<Id>, Option<Id>)
     ensures { option_to_list result.0 ++ option_to_list result.1
         ≡ sent_path (view_of_host host.now) router (view_of_step step.now) }
 {
@@ -80,12 +80,12 @@ fn sent(host: &HostAt<'_>, router: Id, step: &Step<'_>) -> (Option<Id>, Option<I
     }
 }
 
-fn passed(host: &HostAt<'_>, place: &Place<'_>, step: &Step<'_>) -> (Option<Id>, Option<Id>)
+fn path_added(host: &HostAt<'_>, place: &Place<'_>, step: &Step<'_>) -> (Option<Id>, Option<Id>)
     ensures { option_to_list result.0 ++ option_to_list result.1
         ≡ step_path (view_of_host host.now) (view_of_place place.now) (view_of_step step.now) }
 {
     match place {
-        Place::RouterIn { router, .. } => sent(host, *router, step),
+        Place::RouterIn { router, .. } => router_path(host, *router, step),
         Place::TapIn { .. }
         | Place::Bridge { .. }
         | Place::TunnelIn { .. }
@@ -102,7 +102,7 @@ pub(crate) fn added_by(host: &HostAt<'_>, place: &Place<'_>, step: &Step<'_>) ->
     ensures trail { map (λ (tag : ℕ). (host.now.name.now, tag)) (option_to_list result.tag)
         ≡ place_trail (view_of_host host.now) (view_of_place place.now) }
 {
-    let (router, network) = passed(host, place, step);
+    let (router, network) = path_added(host, place, step);
     Added {
         router,
         network,

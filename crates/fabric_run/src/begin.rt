@@ -60,7 +60,7 @@ fn network_of_wire(host: &HostAt<'_>, physical: &Text, tag: Option<u16>) -> Opti
     }
 }
 
-fn dropped<'f>(cause: DropCause) -> Position<'f>
+fn drop_at_start<'f>(cause: DropCause) -> Position<'f>
     ensures { view_of_step result.step ≡ End (Dropped cause) None }
 {
     Position {
@@ -88,7 +88,7 @@ fn from_port<'f, F: Fleet>(fleet: &'f F, port: Id, frame: &Frame) -> Position<'f
                 frame: *frame,
             }),
         },
-        None => dropped(DropCause::Dead),
+        None => drop_at_start(DropCause::Dead),
     }
 }
 
@@ -106,7 +106,7 @@ fn from_wire<'f, F: Fleet>(
         ≡ fabric_fate (F.hosts fleet.now) (FromWire physical.now tag frame.now) }
 {
     if is_unsupported(frame) {
-        return dropped(DropCause::Unsupported);
+        return drop_at_start(DropCause::Unsupported);
     }
     match taker(fleet, None, physical, tag, frame) {
         Some(at) => Position {
@@ -117,7 +117,7 @@ fn from_wire<'f, F: Fleet>(
                 frame: *frame,
             }),
         },
-        None => dropped(DropCause::Unknown),
+        None => drop_at_start(DropCause::Unknown),
     }
 }
 
@@ -176,7 +176,7 @@ fn end_of(alloc: Global, position: &Position<'_>) -> Result<Outcome, OutOfMemory
 }
 
 // The verdict at the end of a run.
-fn told(alloc: Global, position: &Position<'_>, run: Run) -> Result<Verdict, OutOfMemory>
+fn verdict_of(alloc: Global, position: &Position<'_>, run: Run) -> Result<Verdict, OutOfMemory>
     ensures { IfOk result
         (λ v. v
         ≡ record {
@@ -241,5 +241,5 @@ pub fn send<F: Fleet>(alloc: Global, fleet: &F, event: &Event) -> Result<Verdict
     let mut position = begin(fleet, event);
     run.pass(start_network(fleet, &position))?;
     travel(alloc, fleet, looks_for(event), &mut position, &mut run)?;
-    told(alloc, &position, run)
+    verdict_of(alloc, &position, run)
 }

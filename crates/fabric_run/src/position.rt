@@ -112,7 +112,7 @@ fn ends<'f>(at: usize, ended: &FrameEnd<'f>) -> Position<'f>
 }
 
 // To the host with a name, or nowhere.
-fn tunnelled<'f, F: Fleet>(
+fn cross_tunnel<'f, F: Fleet>(
     fleet: &'f F,
     at: usize,
     name: &Text,
@@ -144,7 +144,7 @@ fn tunnelled<'f, F: Fleet>(
 }
 
 // To the first other host that takes the frame from the wire, or out.
-fn wired<'f, F: Fleet>(
+fn cross_wire<'f, F: Fleet>(
     fleet: &'f F,
     at: usize,
     host: &HostAt<'f>,
@@ -189,7 +189,7 @@ fn wired<'f, F: Fleet>(
 }
 
 // Where a step of a host leads.
-fn moved<'f, F: Fleet>(fleet: &'f F, at: usize, host: &HostAt<'f>, step: &Step<'f>) -> Position<'f>
+fn follow_step<'f, F: Fleet>(fleet: &'f F, at: usize, host: &HostAt<'f>, step: &Step<'f>) -> Position<'f>
     requires here { slice_get (F.hosts fleet.now) at ≡ Some (view_of_host host.now) }
     requires within { at < length (F.hosts fleet.now) }
     ensures within { result.at < length (F.hosts fleet.now) }
@@ -206,14 +206,14 @@ fn moved<'f, F: Fleet>(fleet: &'f F, at: usize, host: &HostAt<'f>, step: &Step<'
             host: name,
             number,
             frame,
-        } => tunnelled(fleet, at, name, *number, frame),
+        } => cross_tunnel(fleet, at, name, *number, frame),
         Step::ToWire {
             physical,
             tag,
             network,
             toward,
             frame,
-        } => wired(fleet, at, host, physical, *tag, *network, *toward, frame),
+        } => cross_wire(fleet, at, host, physical, *tag, *network, *toward, frame),
         Step::End(ending) => ends(at, &ending.ended),
     }
 }
@@ -245,6 +245,6 @@ pub(crate) fn advance<'f, F: Fleet>(
     let step = step(host.tables, host.entries, &mut run.fresh, place);
     let added = added_by(&host, place, &step);
     run.note(alloc, at, &host, &added)?;
-    *position = moved(fleet, at, &host, &step);
+    *position = follow_step(fleet, at, &host, &step);
     Ok(())
 }

@@ -42,7 +42,7 @@ fn wire_or<'t>(
 }
 
 // A packet goes to the port; an ask for a lease came to its key, which leads to the DHCP port.
-fn tapped<'t>(tag: u16, port: Id, frame: Frame) -> Step<'t>
+fn to_tap<'t>(tag: u16, port: Id, frame: Frame) -> Step<'t>
     ensures { view_of_step result ≡ tapped_at tag port frame }
 {
     match frame {
@@ -69,11 +69,11 @@ fn routed_in<'t>(router: Id, port: Id, frame: Frame) -> Step<'t>
 }
 
 // Where an entry of the bridge leads; a frame that came by a tunnel or wire doesn't leave by one.
-fn led<'t>(inner: bool, tag: u16, frame: Frame, to: &'t BridgeTo) -> Step<'t>
+fn follow<'t>(inner: bool, tag: u16, frame: Frame, to: &'t BridgeTo) -> Step<'t>
     ensures { view_of_step result ≡ led_by inner tag frame to.now }
 {
     match to {
-        BridgeTo::Tap(port) => tapped(tag, *port, frame),
+        BridgeTo::Tap(port) => to_tap(tag, *port, frame),
         BridgeTo::Router { router, port } => routed_in(*router, *port, frame),
         BridgeTo::Tunnel { host, number } => {
             if inner {
@@ -90,7 +90,7 @@ fn led<'t>(inner: bool, tag: u16, frame: Frame, to: &'t BridgeTo) -> Step<'t>
 }
 
 // By the entry with the key, else to the wire.
-fn bridged<'t>(
+fn forward<'t>(
     tables: &'t HostTables,
     inner: bool,
     row: &'t TagRow,
@@ -104,13 +104,13 @@ fn bridged<'t>(
         (bridge_by_key tables.now.lists row.now.tag key) }
 {
     match bridge_at(tables, row.tag, key) {
-        Some(entry) => led(inner, row.tag, frame, &entry.to),
+        Some(entry) => follow(inner, row.tag, frame, &entry.to),
         None => wire_or(inner, row, toward, frame, cause),
     }
 }
 
 // An ask for an address is answered by its neighbour, else goes to the wire.
-fn asked<'t>(tables: &HostTables, inner: bool, row: &'t TagRow, src: Mac, ends: &Ends) -> Step<'t>
+fn answer_arp<'t>(tables: &HostTables, inner: bool, row: &'t TagRow, src: Mac, ends: &Ends) -> Step<'t>
     ensures { view_of_step result
         ≡ asked_at inner row.now (address_ask src ends.now)
         (neighbour_by_address tables.now.lists row.now.tag (destination ends.now)) }
@@ -137,7 +137,7 @@ fn bridge_in<'t>(tables: &'t HostTables, inner: bool, row: &'t TagRow, frame: Fr
     ensures { view_of_step result ≡ bridged_in tables.now.lists inner row.now frame }
 {
     match frame {
-        Frame::Ip { dst, .. } => bridged(
+        Frame::Ip { dst, .. } => forward(
             tables,
             inner,
             row,
@@ -146,8 +146,8 @@ fn bridge_in<'t>(tables: &'t HostTables, inner: bool, row: &'t TagRow, frame: Fr
             frame,
             DropCause::Unknown,
         ),
-        Frame::NeighbourAsk { src, ends } => asked(tables, inner, row, src, &ends),
-        Frame::Dhcp { .. } => bridged(
+        Frame::NeighbourAsk { src, ends } => answer_arp(tables, inner, row, src, &ends),
+        Frame::Dhcp { .. } => forward(
             tables,
             inner,
             row,

@@ -132,7 +132,7 @@ pub(crate) fn drops<'t>(cause: DropCause) -> Step<'t>
 }
 
 /// It is dropped, and makes no entry.
-pub(crate) fn dropped<'t>(cause: DropCause) -> Stepped<'t>
+pub(crate) fn drop_frame<'t>(cause: DropCause) -> Stepped<'t>
     ensures { view_of_stepped result ≡ plain_step (drop_step cause) }
 {
     Stepped {

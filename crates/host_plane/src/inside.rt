@@ -5,14 +5,14 @@ ghost use Rattle.plane_types.specs.TableStep.{router_by_leg as by_port, router_i
 ghost use Rattle.plane_types.specs.Parts.{packet_of};
 ghost use Rattle.host_plane.specs.Views.{view_of_stepped};
 
-use crate::ending::{Stepped, dropped};
+use crate::ending::{Stepped, drop_frame};
 use crate::port::port_of;
 use crate::router::route;
 use api_types::Id;
 use plane_types::{DropCause, Entry, Frame, HostTables, Packet, RouterTable};
 
 // A packet comes to a router by this port of it.
-fn routed<'t>(
+fn route_by_port<'t>(
     tables: &'t HostTables,
     entries: &[Entry],
     fresh: &[Entry],
@@ -26,7 +26,7 @@ fn routed<'t>(
 {
     match port_of(router, port) {
         Some(port) => route(tables, entries, fresh, router, port, packet),
-        None => dropped(DropCause::Unknown),
+        None => drop_frame(DropCause::Unknown),
     }
 }
 
@@ -43,10 +43,10 @@ pub(crate) fn router_in<'t>(
         ≡ routed_in tables.now.lists (entries.now ++ fresh.now) port router frame }
 {
     let Some(packet) = Packet::of(&frame) else {
-        return dropped(DropCause::Unknown);
+        return drop_frame(DropCause::Unknown);
     };
     let Some(router) = tables.router_at(router) else {
-        return dropped(DropCause::Unknown);
+        return drop_frame(DropCause::Unknown);
     };
-    routed(tables, entries, fresh, router, port, &packet)
+    route_by_port(tables, entries, fresh, router, port, &packet)
 }

@@ -11,7 +11,7 @@ use crate::inside::router_in;
 use crate::tap::{tap_in, tap_out};
 use plane_types::{Entries, Entry, Fresh, HostTables, Place};
 
-fn stepped<'t>(
+fn look_up<'t>(
     tables: &'t HostTables,
     entries: &[Entry],
     fresh: &[Entry],
@@ -75,7 +75,7 @@ pub fn step<'t>(
     ensures room { fresh.old.spare + length fresh.old.items
         ≤ fresh.new.spare + length fresh.new.items }
 {
-    let Stepped { step, made } = stepped(tables, entries.as_slice(), fresh.as_slice(), place);
+    let Stepped { step, made } = look_up(tables, entries.as_slice(), fresh.as_slice(), place);
     if let Some(entry) = made {
         fresh.add(entry);
     }

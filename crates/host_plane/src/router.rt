@@ -11,7 +11,7 @@ ghost use Rattle.plane_types.specs.declared.verdict.Outcome.TheVariants.{Absorbe
 ghost use Rattle.plane_types.specs.Parts.{changed_of, destined_of, packet_of, sourced_of};
 ghost use Rattle.host_plane.specs.Views.{view_of_stepped};
 
-use crate::ending::{FrameEnd, Ending, Step, Stepped, dropped};
+use crate::ending::{FrameEnd, Ending, Step, Stepped, drop_frame};
 use crate::outward::sent_at;
 use crate::port::port_of;
 use crate::source::{find_source, fixed_behind};
@@ -90,7 +90,7 @@ fn send_on<'t>(
         (sent_by (leg_at out.now) hop.now (option_map sourced_of sourced)) }
 {
     let Some(sourced) = sourced else {
-        return dropped(DropCause::TranslationFull);
+        return drop_frame(DropCause::TranslationFull);
     };
     let packet = Packet {
         src: out.mac,
@@ -135,7 +135,7 @@ fn routed_by<'t>(
             let hop = next_hop(row, &destined.packet);
             send_on(tables, router, out, &hop, source)
         }
-        None => dropped(DropCause::Unknown),
+        None => drop_frame(DropCause::Unknown),
     }
 }
 
@@ -160,11 +160,11 @@ fn routed_on<'t>(
     let to = destined.packet.ends.destination();
     match best_way(tables, router.router, &to) {
         Some(row) => routed_by(tables, entries, fresh, router, port, destined, row),
-        None => dropped(DropCause::NoRoute),
+        None => drop_frame(DropCause::NoRoute),
     }
 }
 
-fn absorbed<'t>(router: Id) -> Stepped<'t>
+fn absorb<'t>(router: Id) -> Stepped<'t>
     ensures { view_of_stepped result ≡ plain (stops (Absorbed router)) }
 {
     Stepped {
@@ -192,10 +192,10 @@ fn routed_to<'t>(
         (entries.now ++ fresh.now)) (leg_at port.now) (destined_of destined.now)) }
 {
     if is_own(tables, router, &destined.packet.ends.destination()) {
-        return absorbed(router.router);
+        return absorb(router.router);
     }
     if destined.packet.ttl <= 1 {
-        return dropped(DropCause::Expired);
+        return drop_frame(DropCause::Expired);
     }
     let lowered = lower(destined);
     routed_on(tables, entries, fresh, router, port, &lowered)
@@ -218,7 +218,7 @@ pub(crate) fn route<'t>(
         (leg_at port.now) (packet_of packet.now)) }
 {
     if !router.up {
-        return dropped(DropCause::RouterDown);
+        return drop_frame(DropCause::RouterDown);
     }
     let destined = find_destination(tables, entries, fresh, router, packet);
     routed_to(tables, entries, fresh, router, port, &destined)

@@ -9,7 +9,7 @@ ghost use Rattle.plane_types.specs.Parts.{packet_of};
 ghost use Rattle.plane_types.specs.declared.verdict.Outcome.TheVariants.{Delivered};
 ghost use Rattle.host_plane.specs.Views.{view_of_step, view_of_stepped};
 
-use crate::ending::{FrameEnd, Ending, Step, Stepped, dropped};
+use crate::ending::{FrameEnd, Ending, Step, Stepped, drop_frame};
 use crate::filter::passage_at;
 use api_types::{Direction, Id};
 use net_addr::Addr;
@@ -48,7 +48,7 @@ fn to_bridge<'t>(tap: &TapRow, frame: Frame) -> Step<'t>
 }
 
 // A packet goes to the bridge where it passes the filter.
-fn filtered<'t>(
+fn send_filtered<'t>(
     tables: &HostTables,
     entries: &[Entry],
     fresh: &[Entry],
@@ -67,7 +67,7 @@ fn filtered<'t>(
             made: passage.made,
         }
     } else {
-        dropped(DropCause::Egress)
+        drop_frame(DropCause::Egress)
     }
 }
 
@@ -82,7 +82,7 @@ fn sends<'t>(
         ≡ sent_by tables.now.lists (entries.now ++ fresh.now) tap.now frame }
 {
     match Packet::of(&frame) {
-        Some(packet) => filtered(tables, entries, fresh, tap, &packet),
+        Some(packet) => send_filtered(tables, entries, fresh, tap, &packet),
         None => Stepped {
             step: to_bridge(tap, frame),
             made: None,
@@ -103,12 +103,12 @@ pub(crate) fn tap_in<'t>(
         (tap_by_port tables.now.lists port) }
 {
     let Some(tap) = tables.tap_at(port) else {
-        return dropped(DropCause::Dead);
+        return drop_frame(DropCause::Dead);
     };
     if is_unsupported(&frame) {
-        dropped(DropCause::Unsupported)
+        drop_frame(DropCause::Unsupported)
     } else if tap.secured && !guards(tap, &frame) {
-        dropped(DropCause::Spoof)
+        drop_frame(DropCause::Spoof)
     } else {
         sends(tables, entries, fresh, tap, frame)
     }
@@ -143,7 +143,7 @@ fn delivers<'t>(
             made: passage.made,
         }
     } else {
-        dropped(DropCause::Ingress)
+        drop_frame(DropCause::Ingress)
     }
 }
 
@@ -180,6 +180,6 @@ pub(crate) fn tap_out<'t>(
 {
     match tables.tap_at(port) {
         Some(tap) => gets(tables, entries, fresh, tap, frame),
-        None => dropped(DropCause::Unknown),
+        None => drop_frame(DropCause::Unknown),
     }
 }

@@ -58,7 +58,7 @@ fn places_of(alloc: Global, groups: &[Shared<GroupRow>]) -> Result<HashMap<Id, u
 }
 
 // Takes the rules of a group out.
-fn taken<'r>(
+fn take_rules<'r>(
     alloc: Global,
     by_group: &mut HashMap<Id, Vec<&'r RuleRow>>,
     group: Id,
@@ -88,7 +88,7 @@ fn add_rule<'r>(
         [ None ↦ [] | Some v ↦ map (λ r. r.now) v.items ]
         ++ (if ident_eq rule.now.group q then rule.now ∷ [] else [])) }
 {
-    let mut rules = taken(alloc, by_group, rule.group);
+    let mut rules = take_rules(alloc, by_group, rule.group);
     rules.push(rule)?;
     by_group.insert(rule.group, rules)?;
     Ok(())

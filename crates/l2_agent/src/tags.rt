@@ -84,7 +84,7 @@ fn networks_among(
 
 // The networks that have a tag on the host, in order of creation.
 #[tactic(auto, unfolding(plane_types::specs::NewTags::tagged_networks))]
-fn tagged(alloc: Global, rows: &Rows, host: &Text) -> Result<Vec<Id>, OutOfMemory>
+fn find_tagged(alloc: Global, rows: &Rows, host: &Text) -> Result<Vec<Id>, OutOfMemory>
     ensures { IfOk result (λ v. v.items ≡ tagged_by_rows rows.now host.now) }
 {
     let here = networks_here(alloc, rows, host)?;
@@ -182,7 +182,7 @@ fn in_turn(
 /// The tags of a host. A network keeps the tag that it had, and the others take the least free
 /// ones, in order of creation. Its cost grows with the networks, the ports and the old tags.
 #[tactic(auto, unfolding(plane_types::specs::NewTags::new_tags))]
-pub(crate) fn retagged(
+pub(crate) fn assign_tags(
     alloc: Global,
     rows: &Rows,
     host: &Text,
@@ -190,7 +190,7 @@ pub(crate) fn retagged(
 ) -> Result<Tags, OutOfMemory>
     ensures { IfOk result (λ t. t ≡ retagged_by_rows rows.now host.now old.now) }
 {
-    let networks = tagged(alloc, rows, host)?;
+    let networks = find_tagged(alloc, rows, host)?;
     let old = TagMap::of(alloc, old)?;
     let kept = kept_tags(alloc, &old, networks.as_slice())?;
     let tags = in_turn(alloc, rows, &old, &kept, networks.as_slice())?;

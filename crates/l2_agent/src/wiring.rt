@@ -11,7 +11,7 @@ use crate::filters::filter_rows;
 use crate::inward::inward_rows;
 use crate::neighbours::neighbour_rows;
 use crate::sets::set_rows;
-use crate::tags::retagged;
+use crate::tags::assign_tags;
 use crate::taps::tap_rows;
 use api_types::Rows;
 use net_addr::{OutOfMemory, Seq, Text};
@@ -55,7 +55,7 @@ pub fn wire_ports(
     ensures neighbours { IfOk result
         (λ t. t.neighbours ≡ neighbour_rows_of rows.now host.now t.tags) }
 {
-    let tags = retagged(alloc, rows, host, old.as_slice())?;
+    let tags = assign_tags(alloc, rows, host, old.as_slice())?;
     let taps = tap_rows(alloc, rows, host, tags.as_slice())?;
     let filters = filter_rows(alloc, rows, host)?;
     let sets = set_rows(alloc, rows, filters.as_slice())?;

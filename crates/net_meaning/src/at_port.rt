@@ -49,7 +49,7 @@ pub(crate) struct AtPort<'r> {
 }
 
 // An instance's or DHCP port filters the packet, and then has it.
-fn received<'r>(
+fn receive<'r>(
     rows: &Rows,
     entries: &[Entry],
     fresh: &[Entry],
@@ -112,7 +112,7 @@ fn handed_out<'r>(rows: &'r Rows, router: &RouterRow, out: &PortRow, sent: &Sent
 }
 
 // The port by which it leaves is one of the router's.
-fn handed<'r>(rows: &'r Rows, router: &RouterRow, sent: &Sent<'r>) -> AtPort<'r>
+fn hand_on<'r>(rows: &'r Rows, router: &RouterRow, sent: &Sent<'r>) -> AtPort<'r>
     ensures { (on : Onward) (t : TheTrace)
         → at_port_fate on t result
         ≡ handed_by rows.now on router.now t
@@ -129,7 +129,7 @@ fn handed<'r>(rows: &'r Rows, router: &RouterRow, sent: &Sent<'r>) -> AtPort<'r>
     }
 }
 
-fn ended<'r>(outcome: Outcome) -> AtPort<'r>
+fn end_here<'r>(outcome: Outcome) -> AtPort<'r>
     ensures { (on : Onward) (t : TheTrace) → at_port_fate on t result ≡ ended_with t outcome }
 {
     AtPort {
@@ -155,16 +155,16 @@ fn at_router<'r>(
         (router_by_rows rows.now port.now)) }
 {
     let Some(router) = router_of(rows, port) else {
-        return Ok(ended(Outcome::Dropped(DropCause::Unknown)));
+        return Ok(end_here(Outcome::Dropped(DropCause::Unknown)));
     };
     match route(alloc, rows, entries, fresh, router, port, packet)? {
-        Routed::Ends(outcome) => Ok(ended(outcome)),
-        Routed::Sends(sent) => Ok(handed(rows, router, &sent)),
+        Routed::Ends(outcome) => Ok(end_here(outcome)),
+        Routed::Sends(sent) => Ok(hand_on(rows, router, &sent)),
     }
 }
 
 // What becomes of a packet at a port.
-fn arrived<'r>(
+fn arrive<'r>(
     alloc: Global,
     rows: &'r Rows,
     entries: &[Entry],
@@ -180,7 +180,7 @@ fn arrived<'r>(
     if is_router_port(&port.owner) {
         at_router(alloc, rows, entries, fresh, port, packet)
     } else {
-        Ok(received(rows, entries, fresh, port, packet))
+        Ok(receive(rows, entries, fresh, port, packet))
     }
 }
 
@@ -203,7 +203,7 @@ fn note(trace: &mut Trace, made: Option<Entry>, passed: Option<(Id, Id)>) -> Res
 
 /// What becomes of a packet that a port gets, and that may pass so many routers. Its cost grows
 /// with the routers that it passes, for each with the rows and the entries.
-pub(crate) fn got<'r>(
+pub(crate) fn carry_packet<'r>(
     alloc: Global,
     rows: &'r Rows,
     entries: &[Entry],
@@ -219,7 +219,7 @@ pub(crate) fn got<'r>(
     let mut at = port;
     let mut packet = packet;
     for routers in 0..many {
-        let at_port = arrived(alloc, rows, entries, trace.fresh.as_slice(), at, &packet)?;
+        let at_port = arrive(alloc, rows, entries, trace.fresh.as_slice(), at, &packet)?;
         let AtPort { made, passed, next } = at_port;
         note(&mut trace, made, passed)?;
         match next {

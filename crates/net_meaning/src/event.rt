@@ -13,10 +13,10 @@ ghost use Rattle.plane_types.specs.declared.verdict.DropCause.TheVariants.{Unsup
 ghost use Rattle.plane_types.specs.Parts.{packet_of};
 ghost use Rattle.net_meaning.specs.Views.{fate_of, trace_of};
 
-use crate::ask::{asked, lease_asked, leased, out_of};
+use crate::ask::{answer_arp, lease_asked, answer_dhcp, out_of};
 use crate::guard::passes_guard;
 use crate::passage::passage_at;
-use crate::at_port::{Fate, Trace, got};
+use crate::at_port::{Fate, Trace, carry_packet};
 use api_types::{Direction, Id, NetworkRow, PortRow, Rows, is_router_port};
 use net_addr::{OutOfMemory, Seq, Text};
 use plane_rows::{dhcp_port, holder, is_live, joined_with, network_on, port_at};
@@ -43,7 +43,7 @@ fn on_network(alloc: Global, network: Id) -> Result<Trace, OutOfMemory>
     Ok(trace)
 }
 
-fn dropped(alloc: Global, cause: DropCause) -> Fate
+fn drop_event(alloc: Global, cause: DropCause) -> Fate
     ensures { fate_of result ≡ dropped_by nothing_so_far cause }
 {
     Fate {
@@ -77,7 +77,7 @@ fn sent_on(
     let network = sender.network;
     let found = port_at(rows, network, packet.dst);
     match joined_with(rows, &sender.host, found) {
-        Some(port) => { got(alloc, rows, entries, life(packet), port, *packet, trace) }
+        Some(port) => { carry_packet(alloc, rows, entries, life(packet), port, *packet, trace) }
         None => Ok(Fate {
             outcome: out_of(
                 rows,
@@ -145,7 +145,7 @@ fn from_sender(
     }
     let network = sender.network;
     let outcome = match frame {
-        Frame::NeighbourAsk { src, ends } => asked(rows, network, &sender.host, src, &ends),
+        Frame::NeighbourAsk { src, ends } => answer_arp(rows, network, &sender.host, src, &ends),
         Frame::Dhcp { src, from } => lease_asked(alloc, rows, network, &sender.host, src, from)?,
         Frame::Ip { .. } | Frame::Other { .. } => Outcome::Dropped(DropCause::Unsupported),
     };
@@ -197,10 +197,10 @@ fn from_port(
             if is_live(rows, sender) && !is_router_port(&sender.owner) {
                 from_live(alloc, rows, entries, sender, frame)
             } else {
-                Ok(dropped(alloc, DropCause::Dead))
+                Ok(drop_event(alloc, DropCause::Dead))
             }
         }
-        None => Ok(dropped(alloc, DropCause::Dead)),
+        None => Ok(drop_event(alloc, DropCause::Dead)),
     }
 }
 
@@ -219,9 +219,9 @@ fn wire_packet(
     match port_at(rows, network.id, packet.dst) {
         Some(port) => {
             let trace = on_network(alloc, network.id)?;
-            got(alloc, rows, entries, life(packet), port, *packet, trace)
+            carry_packet(alloc, rows, entries, life(packet), port, *packet, trace)
         }
-        None => Ok(dropped(alloc, DropCause::Unknown)),
+        None => Ok(drop_event(alloc, DropCause::Unknown)),
     }
 }
 
@@ -244,14 +244,14 @@ fn from_network(
                 address: ends.destination(),
                 mac: port.mac,
             }),
-            None => return Ok(dropped(alloc, DropCause::Unknown)),
+            None => return Ok(drop_event(alloc, DropCause::Unknown)),
         },
         Frame::Dhcp { src, from } => match dhcp_port(rows, network.id) {
-            Some(dhcp) => leased(alloc, rows, network.id, src, from, dhcp)?,
-            None => return Ok(dropped(alloc, DropCause::Unknown)),
+            Some(dhcp) => answer_dhcp(alloc, rows, network.id, src, from, dhcp)?,
+            None => return Ok(drop_event(alloc, DropCause::Unknown)),
         },
         Frame::Ip { .. } | Frame::Other { .. } => {
-            return Ok(dropped(alloc, DropCause::Unsupported));
+            return Ok(drop_event(alloc, DropCause::Unsupported));
         }
     };
     Ok(Fate {
@@ -275,11 +275,11 @@ fn from_wire(
         (network_on_wire rows.now (record { physical = physical.now; tag = tag })))) }
 {
     if is_unsupported(&frame) {
-        return Ok(dropped(alloc, DropCause::Unsupported));
+        return Ok(drop_event(alloc, DropCause::Unsupported));
     }
     match network_on(rows, physical, tag) {
         Some(network) => from_network(alloc, rows, entries, network, frame),
-        None => Ok(dropped(alloc, DropCause::Unknown)),
+        None => Ok(drop_event(alloc, DropCause::Unknown)),
     }
 }
 
@@ -303,7 +303,7 @@ fn fate_of_event(
 }
 
 // As it is told: no entry names a host that made it.
-fn told(alloc: Global, fresh: &[Entry]) -> Result<Seq<Made>, OutOfMemory>
+fn list_made(alloc: Global, fresh: &[Entry]) -> Result<Seq<Made>, OutOfMemory>
     ensures { IfOk result (λ m. m ≡ map of_nobody fresh.now) }
 {
     let mut made = Seq::new(alloc);
@@ -328,7 +328,7 @@ pub fn explain(
     ensures { IfOk result (λ v. v ≡ rows_verdict rows.now entries.now.items event.now) }
 {
     let fate = fate_of_event(alloc, rows, entries.as_slice(), event)?;
-    let fresh = told(alloc, fate.trace.fresh.as_slice())?;
+    let fresh = list_made(alloc, fate.trace.fresh.as_slice())?;
     Ok(Verdict {
         outcome: fate.outcome,
         path: fate.trace.path,

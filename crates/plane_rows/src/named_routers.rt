@@ -86,7 +86,7 @@ impl<'r> NamedRouters<'r> {
     }
 
     // The first router whose id is printed so.
-    fn named(&self, text: &str) -> Option<&'r RouterRow>
+    fn find_router(&self, text: &str) -> Option<&'r RouterRow>
         ensures { option_copied result
             ≡ find (is_named text.now) self.now.routers }
     {
@@ -102,6 +102,6 @@ impl<'r> NamedRouters<'r> {
     pub fn router_of(&self, port: &PortRow) -> Option<&'r RouterRow>
         ensures { option_copied result ≡ router_by_rows self.now port.now }
     {
-        self.named(port.device.as_str())
+        self.find_router(port.device.as_str())
     }
 }

@@ -15,5 +15,5 @@ returns-in-Some-clause-begun g c =
 pub returns-in-None-clause-begun : goal.returns-in-None-clause-begun
 returns-in-None-clause-begun g c =
     no_tap (g.F.Fleet.hosts c.args.fleet.now) c.args.port c.args.frame.now _
-    (dropped_at (g.F.Fleet.hosts c.args.fleet.now) (walk (g.F.Fleet.hosts c.args.fleet.now) (suc (steps_for (life_of c.args.frame.now)))) c.dropped.result.at (view_of_step c.dropped.result.step) Dead c.dropped.ensures)
+    (dropped_at (g.F.Fleet.hosts c.args.fleet.now) (walk (g.F.Fleet.hosts c.args.fleet.now) (suc (steps_for (life_of c.args.frame.now)))) c.drop_at_start.result.at (view_of_step c.drop_at_start.result.step) Dead c.drop_at_start.ensures)
     c.in-None.ensures

@@ -29,5 +29,5 @@ returns-clause-walked g c = λ many r tells.
           (c.step-step.ensures.made ∙ ap (λ es. c.args.run.now.fresh.items ++ (table_step h.tables (h.entries ++ es) place).made) tells.fresh)
           (ap (λ f. f.items) c.in_ok-note.ensures.fresh) c.in_ok-note.ensures.made c.added_by-added.ensures.trail c.in_ok-note.ensures.trail;
       same = step_to hosts many c.args.position.now.at (view_of_step c.args.position.now.step) place h r (ap view_of_step c.in-Next.is) c.host_at-host.ensures
-          ∙ ap (moved_by hosts (walk hosts many) h (after_step h place made r)) (sym step_is) ∙ sym (c.moved.ensures.led (walk hosts many) (after_step h place made r));
+          ∙ ap (moved_by hosts (walk hosts many) h (after_step h place made r)) (sym step_is) ∙ sym (c.follow_step.ensures.led (walk hosts many) (after_step h place made r));
     }

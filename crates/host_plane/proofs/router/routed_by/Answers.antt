@@ -24,6 +24,6 @@ returns-in-None c =
     let r = c.args.router.now in
     let v = table_view c.args.tables.now.lists r in
     let uses = uses_by r.snat r.gateway r.router (c.args.entries.now ++ c.args.fresh.now) in
-    c.dropped.ensures
+    c.drop_frame.ensures
     ∙ ap (table_routed c.args.tables.now.lists r)
     (sym (ap (routed_out v uses (leg_at c.args.port.now) (changed_of c.args.destined.now.by) (packet_of c.args.destined.now.packet) (unwrap_or c.args.row.now.next (destination c.args.destined.now.packet.ends))) (leg_among c.args.row.now.port r.ports ∙ ap (option_map leg_at) (sym c.port_of.ensures ∙ ap option_copied c.in-None.is))))

@@ -1,7 +1,7 @@
 use Rattle.std.proofs.Common.{◌∙◌}
 use Rattle.plane_types.specs.NewTags.{free_tags, in_turn, kept_tags, new_tags}
 use Rattle.l2_agent.proofs.FreeLemmas.{free_alike}
-use Rattle.l2_agent.proofs.tags.retagged.Goals as goal
+use Rattle.l2_agent.proofs.tags.assign_tags.Goals as goal
 
 pub returns : goal.returns
 unfolding new_tags

@@ -2,7 +2,7 @@ use Rattle.std.proofs.Common.{◌≡◌, ◌-◌}
 use Rattle.plane_types.specs.Meaning.{port_fate as got_by}
 use Rattle.plane_types.specs.Parts.{packet_of}
 use Rattle.net_meaning.specs.Views.{trace_of}
-use Rattle.net_meaning.proofs.at_port.got.Given as goal
+use Rattle.net_meaning.proofs.at_port.carry_packet.Given as goal
 
 -- what becomes of the packet from here on is what becomes of it
 abbrev pub invariant-loop-routers : goal.invariant-loop-routers

@@ -3,7 +3,7 @@ use Rattle.std.specs.List.Sorted.{IsSortedBy}
 use Rattle.std.proofs.lemmas.List.Sorted.{IsPartitionPoint-from_clause}
 use Rattle.api_types.specs.Ascending.{put_in}
 use Rattle.plane_types.proofs.PutLemmas.{IsPlace, insert_is_put, partitioned, put_sorted}
-use Rattle.plane_types.proofs.ascending.Ascending.put.Goals as goal
+use Rattle.plane_types.proofs.ascending.Ascending.insert.Goals as goal
 
 pub returns-clause-ok : goal.returns-clause-ok
 returns-clause-ok g c =

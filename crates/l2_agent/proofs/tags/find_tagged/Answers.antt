@@ -2,7 +2,7 @@ use Rattle.std.proofs.Common.{◌∙◌, map}
 use Rattle.std.specs.List.{filter}
 use Rattle.api_types.specs.declared.network.NetworkRow.{NetworkRow}
 use Rattle.plane_types.specs.NewTags.{tagged_networks}
-use Rattle.l2_agent.proofs.tags.tagged.Goals as goal
+use Rattle.l2_agent.proofs.tags.find_tagged.Goals as goal
 
 pub returns : goal.returns
 unfolding tagged_networks
