@@ -33,7 +33,8 @@ use Rattle.plane_types.specs.Fabric.{Run, after_step, meant, next_position, take
 use Rattle.plane_types.specs.Guard.{guards, has_pair_mac, may_ask_lease, may_send}
 use Rattle.api_types.specs.Holders.{has_mac, holder}
 use Rattle.plane_types.specs.Hosts.{Host, is_named}
-use Rattle.api_types.specs.Live.{is_joined, is_live, is_local, joined_with, network_of, segment}
+use Rattle.api_types.specs.Live.{is_joined, is_live, is_local, joined_with, segment}
+use Rattle.api_types.specs.RowsWith.{network_with}
 use Rattle.api_types.specs.Wires.{wire_of}
 use Rattle.plane_types.specs.Meaning.{address_outcome, asked_by, end_fate, out_or}
 use Rattle.plane_types.specs.Packets.{AddressAsk, address_ask, ask_frame, lease_ask, packet}
@@ -74,7 +75,7 @@ guards-same p tag (NeighbourAsk src ends) = may-send-same p (address_ask src end
 guards-same p tag (Dhcp src from) = ap (λ b. if (lease_ask src from).from == 0 then b else may_send_as (allowed_of p) (lease_ask src from).src (V4 (lease_ask src from).from)) (may-lease-same p (lease_ask src from).src) ∙ ap (λ b. if (lease_ask src from).from == 0 then may_ask_lease p (lease_ask src from).src else b) (may-send-same p (lease_ask src from).src (V4 (lease_ask src from).from))
 guards-same p tag (Other s d y) = refl
 
-module _ (rows : RowLists) (hosts : List Host) (good : FrameFacts rows) (synced : SyncedFacts rows hosts) (steps : ℕ) (h : Host) (n : Ident) (net : NetworkRow) (tag : ℕ) (a : AddressAsk) (run : Run) (enough : 0 < steps) (named : find (is_named h.name) hosts ≡ Some h) (there : network_of rows n ≡ Some net) (is_tagged : tag_of h.tables.tags n ≡ Some tag) where
+module _ (rows : RowLists) (hosts : List Host) (good : FrameFacts rows) (synced : SyncedFacts rows hosts) (steps : ℕ) (h : Host) (n : Ident) (net : NetworkRow) (tag : ℕ) (a : AddressAsk) (run : Run) (enough : 0 < steps) (named : find (is_named h.name) hosts ≡ Some h) (there : network_with rows n ≡ Some net) (is_tagged : tag_of h.tables.tags n ≡ Some tag) where
   real : HostFacts rows h.name h.tables
   real = find-each (λ (y : Host). HostFacts rows y.name y.tables) (is_named h.name) hosts h synced.realise named
 

@@ -5,9 +5,10 @@ use Rattle.std.proofs.lemmas.List.{length-append}
 use Rattle.plane_laws.proofs.RouterTables.{Lives, routed-lives}
 use Rattle.plane_laws.proofs.MadeLaw.{GivesRouted, routed-gives, gives-one, passage-one}
 use Rattle.api_types.specs.Ident.{Ident}
+use Rattle.api_types.specs.RowsWith.{port_with}
 use Rattle.api_types.specs.Owners.{is_router_port}
 use Rattle.api_types.specs.RowLists.{RowLists}
-use Rattle.api_types.specs.Table.{ident_eq, row_of}
+use Rattle.api_types.specs.Table.{ident_eq}
 use Rattle.api_types.specs.declared.group.Direction.TheVariants.{Egress, Ingress}
 use Rattle.api_types.specs.declared.network.NetworkRow.{NetworkRow}
 use Rattle.api_types.specs.declared.port.PortRow.{PortRow}
@@ -160,7 +161,7 @@ module _ (rows : RowLists) (entries : List Entry) where
 
   pub rows-small : (event : Event) → HasEightBits event → (length (rows_fate rows entries event).path ≤ 509) × (length (rows_fate rows entries event).fresh ≤ 256)
   unfolding rows_fate
-  rows-small (FromPort port frame) fits = port-small frame fits (row_of (λ (p : PortRow). p.id) port rows.ports)
+  rows-small (FromPort port frame) fits = port-small frame fits (port_with rows port)
   rows-small (FromWire physical tag frame) fits = go (is_unsupported frame)
     where
       go : (b : Bool) → Small (if b then drop_fate none_so_far Unsupported else from_wire rows entries (life_of frame) frame (network_on rows (record { physical = physical; tag = tag })))

@@ -4,6 +4,7 @@ use Rattle.std.specs.Prelude.{find, is_some, ◌&&◌, ◌==◌, if◌then◌els
 use Rattle.std.proofs.lemmas.Bool.{and_parts, and_from}
 use Rattle.std.proofs.lemmas.List.{append-nil}
 use Rattle.api_types.proofs.NameLemmas.{ident_same, ident_itself}
+use Rattle.api_types.specs.RowsWith.{port_with, router_with, network_with}
 use Rattle.plane_laws.proofs.ListLemmas.{find-passes, find-only, list_any-found}
 use Rattle.plane_laws.proofs.Neighbours.{holder-at}
 use Rattle.plane_laws.proofs.RouterTables.{Lower, routed-lower}
@@ -12,15 +13,15 @@ use Rattle.net_addr.specs.declared.address.Addr.{Addr}
 use Rattle.api_types.specs.Ident.{Ident}
 use Rattle.api_types.specs.Owners.{device_is, is_router_port}
 use Rattle.api_types.specs.RowLists.{RowLists}
-use Rattle.api_types.specs.Table.{ident_eq, row_of}
+use Rattle.api_types.specs.Table.{ident_eq}
 use Rattle.api_types.specs.declared.group.Direction.TheVariants.{Ingress}
 use Rattle.api_types.specs.declared.network.NetworkRow.{NetworkRow}
 use Rattle.api_types.specs.declared.port.PortRow.{PortRow}
 use Rattle.api_types.specs.declared.router.RouterRow.{RouterRow}
 use Rattle.plane_types.specs.Crossing.{CrossesFrom, EndsOn, PathCrosses, is_network, is_on, joins_networks, last_from, leg_on, not_delivered}
-use Rattle.api_types.specs.Holders.{has_mac, holder, router_named, router_of}
+use Rattle.api_types.specs.Holders.{has_mac, holder, router_of}
 use Rattle.api_types.specs.Consistent.Carried.{is_bound}
-use Rattle.api_types.specs.Live.{is_live, joined_with, network_of, network_up, segment}
+use Rattle.api_types.specs.Live.{is_live, joined_with, network_up, segment}
 use Rattle.api_types.specs.Wires.{wire_of}
 use Rattle.plane_types.specs.Meaning.{Fate, Trace, at_router, delivered_by, end_fate, port_fate, after_router, handed_out, handed_to, out_or, at_receiver, rows_passage, with_fresh, with_path}
 use Rattle.plane_types.specs.Packets.{Packet, ip_frame}
@@ -41,7 +42,7 @@ FateCrosses rows v = PathCrosses rows v.path v.outcome
 -- a live port's network is there
 pub live-network : (rows : RowLists) (p : PortRow) → is_live rows p ≡ true → is_network rows p.network ≡ true
 unfolding is_live
-live-network rows p live = go (network_of rows p.network) (and_parts (p.up && is_bound p.vif) (network_up (network_of rows p.network)) live).1
+live-network rows p live = go (network_with rows p.network) (and_parts (p.up && is_bound p.vif) (network_up (network_with rows p.network)) live).1
   where
     go : (o : Option NetworkRow) → network_up o ≡ true → is_some o ≡ true
     go None e = cc
@@ -69,7 +70,7 @@ module _ (rows : RowLists) (good : FrameFacts rows) (entries : List Entry) where
     arrives : (p : Packet) (t : Trace) → Goes rows q.network t (at_receiver rows entries q p t)
     arrives p t = go (rows_passage rows (entries ++ t.fresh) q Ingress p)
       where
-        is : is_on q.network (row_of (λ (z : PortRow). z.id) q.id rows.ports) ≡ true
+        is : is_on q.network (port_with rows q.id) ≡ true
         is = ap (is_on q.network) (find-only test (has_id q.id) rows.ports q (good.port_ids q.id) found (ident_itself q.id)) ∙ ident_itself q.network
 
         by : (b : Bool) (made : List Entry) → Goes rows q.network t (if b then end_fate (with_fresh t made) (Delivered q.id (ip_frame p)) else end_fate t (Dropped IngressFilter))
@@ -80,7 +81,7 @@ module _ (rows : RowLists) (good : FrameFacts rows) (entries : List Entry) where
         go y = by y.passes y.made
 
     module _ (router : is_router_port q.owner ≡ true) (r : RouterRow) (router_is : router_of rows q ≡ Some r) where
-      named : router_named rows r.id ≡ Some r
+      named : router_with rows r.id ≡ Some r
       named = find-only (λ (z : RouterRow). device_is q.device z.id) (λ (z : RouterRow). ident_eq r.id z.id) rows.routers r (good.router_ids r.id) router_is (ident_itself r.id)
 
       mine : is_leg_of rows r q ≡ true
@@ -106,7 +107,7 @@ module _ (rows : RowLists) (good : FrameFacts rows) (entries : List Entry) where
             second : leg_on rows r o.network ≡ true
             second = list_any-found (has_id o.id) (λ (p : PortRow). is_leg_of rows r p && ident_eq o.network p.network) rows.ports o by_id (and_from (is_leg_of rows r o) (ident_eq o.network o.network) is_leg (ident_itself o.network))
 
-            crossing : joins_networks rows q.network o.network (router_named rows r.id) ≡ true
+            crossing : joins_networks rows q.network o.network (router_with rows r.id) ≡ true
             crossing = ap (joins_networks rows q.network o.network) named ∙ and_from (leg_on rows r q.network && leg_on rows r o.network) (is_network rows o.network)
                 (and_from (leg_on rows r q.network) (leg_on rows r o.network) first second) (live-network rows o live_too)
 

@@ -3,6 +3,7 @@ use Rattle.std.proofs.Common.{◌≡◌, ℕ, List, [], ◌∷◌, ◌++◌, Boo
 use Rattle.std.specs.Prelude.{is_some, ◌<◌, ◌^◌, length, option_and_then, ◌&&◌, ◌==◌, if◌then◌else◌}
 use Rattle.std.proofs.lemmas.Bool.{and_parts}
 use Rattle.api_types.proofs.NameLemmas.{ident_itself, ident_same}
+use Rattle.api_types.specs.RowsWith.{port_with}
 use Rattle.plane_laws.proofs.ListLemmas.{find-only, find-passes}
 use Rattle.plane_laws.proofs.FactsHold.{frame-facts}
 use Rattle.plane_laws.proofs.Theorem.{tables-mean-rows}
@@ -11,7 +12,7 @@ use Rattle.plane_laws.proofs.CrossingLaw.{FateCrosses, Goes, ends-on, got-goes, 
 use Rattle.api_types.specs.Consistent.{IsConsistent}
 use Rattle.api_types.specs.Ident.{Ident}
 use Rattle.api_types.specs.RowLists.{RowLists}
-use Rattle.api_types.specs.Table.{ident_eq, row_of}
+use Rattle.api_types.specs.Table.{ident_eq}
 use Rattle.api_types.specs.declared.group.Direction.TheVariants.{Egress}
 use Rattle.api_types.specs.declared.network.NetworkRow.{NetworkRow}
 use Rattle.api_types.specs.declared.network.Segment.{Segment}
@@ -129,7 +130,7 @@ module _ (rows : RowLists) (good : FrameFacts rows) (entries : List Entry) where
 
   pub crosses-law : (e : Event) → FateCrosses rows (rows_fate rows entries e)
   unfolding rows_fate
-  crosses-law (FromPort i frame) = port (life_of frame) frame (row_of (λ (p : PortRow). p.id) i rows.ports)
+  crosses-law (FromPort i frame) = port (life_of frame) frame (port_with rows i)
   crosses-law (FromWire physical tag frame) = go (is_unsupported frame)
     where
       wire_test : NetworkRow → Bool

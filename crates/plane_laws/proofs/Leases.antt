@@ -24,7 +24,8 @@ use Rattle.api_types.specs.declared.port.PortRow.{PortRow}
 use Rattle.plane_types.specs.Fabric.{Run, after_step, meant, next_position, step_path, fate_after, takes, takes_at, takes_to, over_tunnel, walk, over_wire}
 use Rattle.api_types.specs.Holders.{dhcp_port, has_mac, is_live_dhcp_of, port_at, router_of}
 use Rattle.plane_types.specs.Hosts.{Host, bridge_before, bridge_key_eq, is_named}
-use Rattle.api_types.specs.Live.{is_joined, is_live, is_local, joined_with, network_of, segment, is_at}
+use Rattle.api_types.specs.Live.{is_joined, is_live, is_local, joined_with, segment, is_at}
+use Rattle.api_types.specs.RowsWith.{network_with}
 use Rattle.api_types.specs.Wires.{wire_of}
 use Rattle.plane_types.specs.Meaning.{lease_outcome, end_fate, lease_asked, lease_asked_by, dhcp_outcome, out_of, out_or}
 use Rattle.api_types.specs.Leases.{lease_for}
@@ -198,7 +199,7 @@ module _ (rows : RowLists) (hosts : List Host) (good : FrameFacts rows) (synced 
         ∙ ap (λ t. end_fate t (dhcp_outcome rows n a d)) (trace-plain x place (Next (DhcpIn tag_there.0 (dhcp_frame a))) run (quiet (Next (DhcpIn tag_there.0 (dhcp_frame a)))))
 
   -- a host takes the ask from a wire where the DHCP port is there
-  pub lease-takes : (n : Ident) (net : NetworkRow) → network_of rows n ≡ Some net → (w : Wire) → wire_of (segment rows n) ≡ Some w → (a : LeaseAsk) (x : Host) → HostFacts rows x.name x.tables → takes w (dhcp_frame a) x ≡ at_opt x.name (dhcp_port rows n)
+  pub lease-takes : (n : Ident) (net : NetworkRow) → network_with rows n ≡ Some net → (w : Wire) → wire_of (segment rows n) ≡ Some w → (a : LeaseAsk) (x : Host) → HostFacts rows x.name x.tables → takes w (dhcp_frame a) x ≡ at_opt x.name (dhcp_port rows n)
   lease-takes n net there w f a x real = go (tag_of x.tables.tags n) refl
     where
       carrier : carrier_of (segment rows n) ≡ Some (ByWire w)
@@ -227,7 +228,7 @@ module _ (rows : RowLists) (hosts : List Host) (good : FrameFacts rows) (synced 
       go None e = ap (takes_at x.tables (dhcp_frame a)) (inward-none rows x.name x.tables real good n net (ByWire w) there e carrier (wire_self w)) ∙ untagged e (dhcp_port rows n) refl
       go (Some tag) e = ap (takes_at x.tables (dhcp_frame a)) (inward-located rows x.name x.tables real good n tag (ByWire w) e carrier (wire_self w)) ∙ with_tag tag e (dhcp_port rows n) refl
 
-  module _ (steps : ℕ) (h : Host) (n : Ident) (net : NetworkRow) (tag : ℕ) (a : LeaseAsk) (run : Run) (enough : 3 ≤ steps) (named : find (is_named h.name) hosts ≡ Some h) (there : network_of rows n ≡ Some net) (is_tagged : tag_of h.tables.tags n ≡ Some tag) where
+  module _ (steps : ℕ) (h : Host) (n : Ident) (net : NetworkRow) (tag : ℕ) (a : LeaseAsk) (run : Run) (enough : 3 ≤ steps) (named : find (is_named h.name) hosts ≡ Some h) (there : network_with rows n ≡ Some net) (is_tagged : tag_of h.tables.tags n ≡ Some tag) where
     real : HostFacts rows h.name h.tables
     real = find-each (λ (y : Host). HostFacts rows y.name y.tables) (is_named h.name) hosts h synced.realise named
 

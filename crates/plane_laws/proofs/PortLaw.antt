@@ -21,7 +21,8 @@ use Rattle.api_types.specs.declared.port.PortRow.{PortRow}
 use Rattle.plane_types.specs.Fabric.{Run, after_step, at_tap, run_from, fabric_fate, from_tap, meant, network_at, steps_for, fate_after, walk}
 use Rattle.plane_types.specs.Guard.{passes_guard}
 use Rattle.plane_types.specs.Hosts.{Host, all_entries, is_named}
-use Rattle.api_types.specs.Live.{is_live, network_of, is_at}
+use Rattle.api_types.specs.Live.{is_live, is_at}
+use Rattle.api_types.specs.RowsWith.{network_with}
 use Rattle.plane_types.specs.Meaning.{address_outcome, drop_fate, end_fate, from_live, from_port, from_sender, port_fate, lease_asked, life_of, may_begin, none_so_far, rows_fate, rows_passage, sent_on, sent_out, with_fresh}
 use Rattle.plane_types.specs.Packets.{LeaseAsk, Packet, address_ask, ask_frame, dhcp_frame, ip_frame, is_unsupported, lease_ask, packet}
 use Rattle.plane_types.specs.Passage.{Passage}
@@ -38,7 +39,7 @@ use Rattle.plane_laws.proofs.Facts.{AllOf, FrameFacts, HostFacts, SyncedFacts, h
 
 -- an ask for a lease on a bridge comes to what the rows say
 abbrev pub LeaseLaw : RowLists → List Host → Type 0
-LeaseLaw rows hosts = (steps : ℕ) (h : Host) (n : Ident) (net : NetworkRow) (tag : ℕ) (a : LeaseAsk) (run : Run) → 3 ≤ steps → find (is_named h.name) hosts ≡ Some h → network_of rows n ≡ Some net → tag_of h.tables.tags n ≡ Some tag → meant (walk hosts steps h (Bridge tag (dhcp_frame a)) run) ≡ end_fate (trace_of run) (lease_asked rows n h.name a)
+LeaseLaw rows hosts = (steps : ℕ) (h : Host) (n : Ident) (net : NetworkRow) (tag : ℕ) (a : LeaseAsk) (run : Run) → 3 ≤ steps → find (is_named h.name) hosts ≡ Some h → network_with rows n ≡ Some net → tag_of h.tables.tags n ≡ Some tag → meant (walk hosts steps h (Bridge tag (dhcp_frame a)) run) ≡ end_fate (trace_of run) (lease_asked rows n h.name a)
 
 module _ (rows : RowLists) (hosts : List Host) (good : FrameFacts rows) (synced : SyncedFacts rows hosts) (leases : LeaseLaw rows hosts) where
   module _ (h : Host) (test : PortRow → Bool) (q : PortRow) (found : find test rows.ports ≡ Some q) (live : is_live rows q ≡ true) (plain_port : is_router_port q.owner ≡ false) (named : find (is_named q.host) hosts ≡ Some h) where
@@ -48,8 +49,8 @@ module _ (rows : RowLists) (hosts : List Host) (good : FrameFacts rows) (synced 
     self : find (is_named h.name) hosts ≡ Some h
     self = ap (λ m. find (is_named m) hosts) (sym host_is) ∙ named
 
-    net : (net : NetworkRow) × (network_of rows q.network ≡ Some net)
-    net = some_of (network_of rows q.network) (find-each (λ (y : PortRow). is_some (network_of rows y.network) ≡ true) test rows.ports q good.networks_stand found)
+    net : (net : NetworkRow) × (network_with rows q.network ≡ Some net)
+    net = some_of (network_with rows q.network) (find-each (λ (y : PortRow). is_some (network_with rows y.network) ≡ true) test rows.ports q good.networks_stand found)
 
     abbrev tag : (tag : ℕ) × (tag_of h.tables.tags q.network ≡ Some tag)
     tag = tag-here rows hosts good synced h test q found live plain_port named

@@ -23,7 +23,8 @@ use Rattle.api_types.specs.declared.router.RouterRow.{RouterRow}
 use Rattle.plane_types.specs.Fabric.{Run, after_step, meant, network_at, step_path, fate_after, walk}
 use Rattle.api_types.specs.Holders.{holder, port_at, router_of}
 use Rattle.plane_types.specs.Hosts.{Host, all_entries, is_named}
-use Rattle.api_types.specs.Live.{is_joined, is_live, joined_with, network_of, segment}
+use Rattle.api_types.specs.Live.{is_joined, is_live, joined_with, segment}
+use Rattle.api_types.specs.RowsWith.{network_with}
 use Rattle.api_types.specs.Wires.{wire_of}
 use Rattle.plane_types.specs.Meaning.{Trace, end_fate, port_fate, after_router, handed_out, handed_to, out_or, sent_to, with_fresh, with_path}
 use Rattle.plane_types.specs.Packets.{Packet, ip_frame}
@@ -141,8 +142,8 @@ module _ (rows : RowLists) (hosts : List Host) (good : FrameFacts rows) (synced 
         host2 : o.host ≡ h.name
         host2 = leg-here rows h.name h.tables real good of_device r router_is here o by_id2 is_leg2
 
-        net2 : (net : NetworkRow) × (network_of rows o.network ≡ Some net)
-        net2 = some_of (network_of rows o.network) (find-each (λ (y : PortRow). is_some (network_of rows y.network) ≡ true) (has_id o.id) rows.ports o good.networks_stand by_id2)
+        net2 : (net : NetworkRow) × (network_with rows o.network ≡ Some net)
+        net2 = some_of (network_with rows o.network) (find-each (λ (y : PortRow). is_some (network_with rows y.network) ≡ true) (has_id o.id) rows.ports o good.networks_stand by_id2)
 
         row2 : tag_row h.tables tag2.0 ≡ Some (record { network = o.network; tag = tag2.0; wire = wire_of (segment rows o.network) })
         row2 = tag-row rows h.name h.tables.tags real.tags o.network tag2.0 tag2.1

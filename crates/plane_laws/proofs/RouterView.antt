@@ -15,7 +15,8 @@ use Rattle.api_types.specs.declared.floating.FloatingRow.{FloatingRow}
 use Rattle.api_types.specs.declared.floating.Target.{Target}
 use Rattle.api_types.specs.declared.port.PortRow.{PortRow}
 use Rattle.api_types.specs.declared.router.RouterRow.{RouterRow}
-use Rattle.api_types.specs.Holders.{router_named, router_of}
+use Rattle.api_types.specs.Holders.{router_of}
+use Rattle.api_types.specs.RowsWith.{router_with}
 use Rattle.api_types.specs.Live.{is_live, is_at}
 use Rattle.api_types.specs.RouterRows.{float_by, floats_of, gateway_address, has_snat, is_leg_of, leg_of, legs_of, router_view, ways_of}
 use Rattle.api_types.specs.RouterViews.{Way}
@@ -107,14 +108,14 @@ module _ (rows : RowLists) (host : List ℕ) (t : TableLists) (real : HostFacts 
 
       go : (o : Option Target) → floats_at_router r.id (filter_map (λ (f : FloatingRow). float_row_by rows host f f.target) fs) ≡ filter_map (λ (f : FloatingRow). float_by r.id f f.target) fs → floats_at_router r.id (cons_option (float_row_by rows host f o) (filter_map (λ (f : FloatingRow). float_row_by rows host f f.target) fs)) ≡ cons_option (float_by r.id f o) (filter_map (λ (f : FloatingRow). float_by r.id f f.target) fs)
       go None h = h
-      go (Some x) h = by (ident_eq r.id x.router) (is_hosted host (router_named rows x.router)) refl refl
+      go (Some x) h = by (ident_eq r.id x.router) (is_hosted host (router_with rows x.router)) refl refl
         where
-          by : (b c : Bool) → ident_eq r.id x.router ≡ b → is_hosted host (router_named rows x.router) ≡ c → floats_at_router r.id (cons_option (if c then Some (record { router = x.router; floating = f.address; fixed = x.fixed }) else None) (filter_map (λ (f : FloatingRow). float_row_by rows host f f.target) fs)) ≡ cons_option (if b then Some (record { floating = f.address; fixed = x.fixed }) else None) (filter_map (λ (f : FloatingRow). float_by r.id f f.target) fs)
+          by : (b c : Bool) → ident_eq r.id x.router ≡ b → is_hosted host (router_with rows x.router) ≡ c → floats_at_router r.id (cons_option (if c then Some (record { router = x.router; floating = f.address; fixed = x.fixed }) else None) (filter_map (λ (f : FloatingRow). float_row_by rows host f f.target) fs)) ≡ cons_option (if b then Some (record { floating = f.address; fixed = x.fixed }) else None) (filter_map (λ (f : FloatingRow). float_by r.id f f.target) fs)
           by true true e k = ap (λ b. cons_option (if b then Some (record { floating = f.address; fixed = x.fixed }) else None) (floats_at_router r.id (filter_map (λ (f : FloatingRow). float_row_by rows host f f.target) fs))) e ∙ ap (λ l. record { floating = f.address; fixed = x.fixed } ∷ l) h
           by false true e k = ap (λ b. cons_option (if b then Some (record { floating = f.address; fixed = x.fixed }) else None) (floats_at_router r.id (filter_map (λ (f : FloatingRow). float_row_by rows host f f.target) fs))) e ∙ h
           by false false e k = h
           by true false e k =
-              let named : router_named rows x.router ≡ Some r = ap (λ i. router_named rows i) (sym (ident_same r.id x.router e)) ∙ by-id in
+              let named : router_with rows x.router ≡ Some r = ap (λ i. router_with rows i) (sym (ident_same r.id x.router e)) ∙ by-id in
               let bad : true ≡ false = sym here ∙ ap (is_hosted host) (sym named) ∙ k in
               cc
 

@@ -7,9 +7,9 @@ use Rattle.plane_laws.proofs.EntriesLaw.{uses-append}
 use Rattle.plane_laws.proofs.LandsLaw.{passage-same}
 use Rattle.plane_laws.proofs.RouterTables.{routed-same}
 use Rattle.api_types.specs.Ident.{Ident}
+use Rattle.api_types.specs.RowsWith.{port_with}
 use Rattle.api_types.specs.Owners.{is_router_port}
 use Rattle.api_types.specs.RowLists.{RowLists}
-use Rattle.api_types.specs.Table.{row_of}
 use Rattle.api_types.specs.declared.group.Direction.{Direction}
 use Rattle.api_types.specs.declared.group.Direction.TheVariants.{Egress, Ingress}
 use Rattle.api_types.specs.declared.network.NetworkRow.{NetworkRow}
@@ -90,5 +90,5 @@ module _ (rows : RowLists) (a b : List Entry) (same : SameEntries a b) where
 
   pub verdict-same : (e : Event) → rows_fate rows a e ≡ rows_fate rows b e
   unfolding rows_fate
-  verdict-same (FromPort port frame) = port-same (life_of frame) frame (row_of (λ (p : PortRow). p.id) port rows.ports)
+  verdict-same (FromPort port frame) = port-same (life_of frame) frame (port_with rows port)
   verdict-same (FromWire physical tag frame) = ap (λ v. if is_unsupported frame then drop_fate none_so_far Unsupported else v) (wire-same (life_of frame) frame (network_on rows (record { physical = physical; tag = tag })))

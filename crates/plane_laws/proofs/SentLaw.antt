@@ -18,7 +18,8 @@ use Rattle.api_types.specs.declared.port.PortRow.{PortRow}
 use Rattle.plane_types.specs.Fabric.{Run, after_step, fate_of_run, meant, next_position, step_path, fate_after, takes, takes_at, takes_to, over_tunnel, walk, over_wire}
 use Rattle.api_types.specs.Holders.{has_mac, port_at}
 use Rattle.plane_types.specs.Hosts.{Host, all_entries, is_named}
-use Rattle.api_types.specs.Live.{is_joined, is_live, is_local, joined_with, network_of, segment, is_at}
+use Rattle.api_types.specs.Live.{is_joined, is_live, is_local, joined_with, segment, is_at}
+use Rattle.api_types.specs.RowsWith.{network_with}
 use Rattle.api_types.specs.Wires.{tag_eq, wire_eq, wire_of}
 use Rattle.plane_types.specs.Meaning.{end_fate, port_fate, out_of, out_or, sent_on, sent_to}
 use Rattle.plane_types.specs.Packets.{Packet, ip_frame}
@@ -68,7 +69,7 @@ takes_here p rows q (ToRouter r i) e tag = refl
 takes_here p rows q (ToHost h m) e tag = let l = led-here rows q (ToHost h m) e true tag p in cc
 
 -- a host takes a packet from a wire where the port with its MAC is there
-module _ (rows : RowLists) (good : FrameFacts rows) (n : Ident) (net : NetworkRow) (there : network_of rows n ≡ Some net) (w : Wire) (wired_by : wire_of (segment rows n) ≡ Some w) (p : Packet) where
+module _ (rows : RowLists) (good : FrameFacts rows) (n : Ident) (net : NetworkRow) (there : network_with rows n ≡ Some net) (w : Wire) (wired_by : wire_of (segment rows n) ≡ Some w) (p : Packet) where
   pub takes-law : (x : Host) → HostFacts rows x.name x.tables → takes w (ip_frame p) x ≡ at_opt x.name (port_at rows n p.dst)
   takes-law x real = go (tag_of x.tables.tags n) refl
     where
@@ -125,7 +126,7 @@ module _ (rows : RowLists) (hosts : List Host) (good : FrameFacts rows) (synced 
       ∙ lands (steps - 1) (has_mac rows n p.dst) q x to.0 p (after_step x place (plain (Next (place_of to.0 p))) run) (omega arith) found live named to.1 lives
       ∙ ap (port_fate rows (all_entries hosts) many q p) (trace-plain x place (Next (place_of to.0 p)) run (quiet (Next (place_of to.0 p))))
 
-  module _ (steps : ℕ) (h : Host) (n : Ident) (net : NetworkRow) (tag : ℕ) (p : Packet) (run : Run) (enough : 3 * many + 3 ≤ steps) (named : find (is_named h.name) hosts ≡ Some h) (there : network_of rows n ≡ Some net) (is_tagged : tag_of h.tables.tags n ≡ Some tag) (lives : p.ttl < many) where
+  module _ (steps : ℕ) (h : Host) (n : Ident) (net : NetworkRow) (tag : ℕ) (p : Packet) (run : Run) (enough : 3 * many + 3 ≤ steps) (named : find (is_named h.name) hosts ≡ Some h) (there : network_with rows n ≡ Some net) (is_tagged : tag_of h.tables.tags n ≡ Some tag) (lives : p.ttl < many) where
     real : HostFacts rows h.name h.tables
     real = find-each (λ (y : Host). HostFacts rows y.name y.tables) (is_named h.name) hosts h synced.realise named
 

@@ -16,7 +16,8 @@ use Rattle.api_types.specs.declared.network.Segment.{Segment}
 use Rattle.api_types.specs.declared.port.PortRow.{PortRow}
 use Rattle.api_types.specs.declared.router.RouterRow.{RouterRow}
 use Rattle.plane_types.specs.Hosts.{Host, is_named}
-use Rattle.api_types.specs.Live.{is_live, network_of, network_up}
+use Rattle.api_types.specs.Live.{is_live, network_up}
+use Rattle.api_types.specs.RowsWith.{network_with}
 use Rattle.plane_types.specs.Attached.{is_attached}
 use Rattle.plane_types.specs.Realises.{Realises, TagStands}
 use Rattle.plane_types.specs.Synced.{AreSynced}
@@ -82,7 +83,7 @@ module _ (carry : List ℕ → Segment → Bool) (rows : RowLists) (hosts : List
   has-host : (p : PortRow) → IsCarried p → is_live rows p ≡ true → is_some (find (λ (h : Host). bytes_eq p.host h.name) hosts) ≡ true
   unfolding is_live
   has-host p is live =
-      let bound = (and_both p.up (is_bound p.vif) (and_both (p.up && is_bound p.vif) (network_up (network_of rows p.network)) live).0).1 in
+      let bound = (and_both p.up (is_bound p.vif) (and_both (p.up && is_bound p.vif) (network_up (network_with rows p.network)) live).0).1 in
       let at = any-at (λ (n : NetworkRow). ident_eq p.network n.id && carry p.host n.segment) rows.networks
       (unless-passes (is_bound p.vif) (list_any (λ (n : NetworkRow). ident_eq p.network n.id && carry p.host n.segment) rows.networks) is bound) in
       let n : NetworkRow = at.1 in

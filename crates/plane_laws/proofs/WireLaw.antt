@@ -24,7 +24,8 @@ use Rattle.plane_types.specs.Ends.{destination}
 use Rattle.plane_types.specs.Fabric.{at_inward, run_from, fabric_fate, fate_of_run, from_outside, meant, network_at, steps_for, fate_after, takes, takes_at, walk}
 use Rattle.api_types.specs.Holders.{dhcp_port, has_mac, holder, is_live_dhcp_of, port_at}
 use Rattle.plane_types.specs.Hosts.{Host, all_entries, is_named}
-use Rattle.api_types.specs.Live.{is_live, is_local, joined_with, network_of, segment, segment_of, is_at}
+use Rattle.api_types.specs.Live.{is_live, is_local, joined_with, segment, segment_of, is_at}
+use Rattle.api_types.specs.RowsWith.{network_with}
 use Rattle.api_types.specs.Wires.{tag_eq, wire_eq, wire_of, is_wire, network_on}
 use Rattle.plane_types.specs.Meaning.{drop_fate, end_fate, from_network, from_wire, life_of, none_so_far, on_path, rows_fate, wire_ask, wire_lease, wire_packet}
 use Rattle.plane_types.specs.Packets.{AddressAsk, LeaseAsk, Packet, address_ask, ask_frame, dhcp_frame, ip_frame, is_unsupported, lease_ask, packet}
@@ -63,10 +64,10 @@ carrier_wire (Vlan p t) w = refl
 carrier_wire (Vxlan m) w = refl
 
 module _ (rows : RowLists) (hosts : List Host) (good : FrameFacts rows) (synced : SyncedFacts rows hosts) (w : Wire) where
-  segment-own : (test : NetworkRow → Bool) (net : NetworkRow) → find test rows.networks ≡ Some net → (network_of rows net.id ≡ Some net) × (segment rows net.id ≡ net.segment)
+  segment-own : (test : NetworkRow → Bool) (net : NetworkRow) → find test rows.networks ≡ Some net → (network_with rows net.id ≡ Some net) × (segment rows net.id ≡ net.segment)
   unfolding segment
   segment-own test net e =
-      let own : network_of rows net.id ≡ Some net = find-only test (λ (m : NetworkRow). ident_eq net.id m.id) rows.networks net (good.network_ids net.id) e (ident_itself net.id) in
+      let own : network_with rows net.id ≡ Some net = find-only test (λ (m : NetworkRow). ident_eq net.id m.id) rows.networks net (good.network_ids net.id) e (ident_itself net.id) in
       (own, ap segment_of own)
 
   -- no network on the wire: no host takes
@@ -95,7 +96,7 @@ module _ (rows : RowLists) (hosts : List Host) (good : FrameFacts rows) (synced 
   takes-nothing frame x e = ap (takes_at x.tables frame) e
 
   module _ (net : NetworkRow) (on : network_on rows w ≡ Some net) where
-    own : (network_of rows net.id ≡ Some net) × (segment rows net.id ≡ net.segment)
+    own : (network_with rows net.id ≡ Some net) × (segment rows net.id ≡ net.segment)
     own = segment-own (λ (m : NetworkRow). is_wire w (wire_of m.segment)) net on
 
     wire-is : wire_of (segment rows net.id) ≡ Some w

@@ -2,7 +2,8 @@
 
 ghost use Rattle.std.specs.Prelude.{◌≡◌, is_some, option_copied, option_map};
 ghost use Rattle.api_types.specs.declared.network.NetworkRow.{NetworkRow as TheNetwork};
-ghost use Rattle.api_types.specs.Live.{is_joined as joined_by_rows, is_live as live_by_rows, is_local as local_of, joined_with as joined_of, network_of, segment as segment_by_rows};
+ghost use Rattle.api_types.specs.Live.{is_joined as joined_by_rows, is_live as live_by_rows, is_local as local_of, joined_with as joined_of, segment as segment_by_rows};
+ghost use Rattle.api_types.specs.RowsWith.{network_with};
 ghost use Rattle.api_types.specs.Wires.{wire_of as wire_by_segment, is_wire, network_on as network_on_wire};
 
 use api_types::{Id, NetworkRow, PortRow, Rows, Segment, Vif};
@@ -27,7 +28,7 @@ pub fn is_live(rows: &Rows, port: &PortRow) -> bool
 /// The segment of the network with this id.
 pub fn segment_of(rows: &Rows, network: Id) -> Option<&Segment>
     ensures { option_copied result
-        ≡ option_map (λ (n : TheNetwork). n.segment) (network_of rows.now network) }
+        ≡ option_map (λ (n : TheNetwork). n.segment) (network_with rows.now network) }
 {
     let networks = rows.networks();
     let _own_ids = networks.rows();

@@ -3,9 +3,10 @@
 use Rattle.std.specs.Prelude.{ℕ, zero, suc, Bool, not, ◌&&◌, List, [], ◌∷◌, ◌++◌, Option, Some, None, find, option_and_then, if◌then◌else◌}
 use Rattle.net_addr.specs.declared.address.Addr.{Addr}
 use Rattle.api_types.specs.Ident.{Ident}
+use Rattle.api_types.specs.RowsWith.{port_with}
 use Rattle.api_types.specs.Owners.{is_router_port}
 use Rattle.api_types.specs.RowLists.{RowLists}
-use Rattle.api_types.specs.Table.{ident_eq, row_of}
+use Rattle.api_types.specs.Table.{ident_eq}
 use Rattle.api_types.specs.declared.group.Direction.{Direction}
 use Rattle.api_types.specs.declared.group.Direction.TheVariants.{Egress, Ingress}
 use Rattle.api_types.specs.declared.network.NetworkRow.{NetworkRow}
@@ -199,7 +200,7 @@ life_of (Dhcp src from) = zero
 life_of (Other s d y) = zero
 
 unfoldable pub rows_fate : RowLists → List Entry → Event → Fate
-rows_fate rows entries (FromPort port frame) = from_port rows entries (life_of frame) frame (row_of (λ (p : PortRow). p.id) port rows.ports)
+rows_fate rows entries (FromPort port frame) = from_port rows entries (life_of frame) frame (port_with rows port)
 rows_fate rows entries (FromWire physical tag frame) = if is_unsupported frame then drop_fate none_so_far Unsupported else from_wire rows entries (life_of frame) frame (network_on rows (record { physical = physical; tag = tag }))
 
 -- events one after the other: each sees the entries that the earlier ones made

@@ -23,11 +23,12 @@ use Rattle.api_types.specs.declared.router.RouterRow.{RouterRow}
 use Rattle.api_types.specs.declared.subnet.SubnetRow.{SubnetRow}
 use Rattle.api_types.specs.Ascending.{ascending}
 use Rattle.api_types.specs.Members.{names_group, members}
-use Rattle.api_types.specs.Holders.{dhcp_port, floating_holder, router_named, router_of}
+use Rattle.api_types.specs.Holders.{dhcp_port, floating_holder, router_of}
+use Rattle.api_types.specs.RowsWith.{router_with, subnet_with}
 use Rattle.plane_types.specs.Hosts.{bridge_before, neighbour_before}
 use Rattle.api_types.specs.Live.{is_joined, is_live, segment, is_at, is_here}
 use Rattle.api_types.specs.Leases.{lease_for}
-use Rattle.api_types.specs.RouterRows.{gateway_address, has_snat, legs_of, subnet_named, ways_of}
+use Rattle.api_types.specs.RouterRows.{gateway_address, has_snat, legs_of, ways_of}
 use Rattle.api_types.specs.RouterViews.{Way}
 use Rattle.plane_types.specs.declared.table.BridgeKey.{BridgeKey}
 use Rattle.plane_types.specs.declared.table.BridgeKey.TheVariants.{Dhcp as AtDhcp, Mac as AtMac}
@@ -174,7 +175,7 @@ is_on_host host r = is_host_of host r.host
 
 -- the prefix of the subnet of each address
 abbrev pub prefixes_for : RowLists → PortRow → List Prefix
-prefixes_for rows p = filter_map (λ (f : Fixed). option_map (λ (s : SubnetRow). s.prefix) (subnet_named rows f.subnet)) p.fixed
+prefixes_for rows p = filter_map (λ (f : Fixed). option_map (λ (s : SubnetRow). s.prefix) (subnet_with rows f.subnet)) p.fixed
 
 abbrev pub router_port : RowLists → PortRow → ℕ → RouterPort
 router_port rows p tag = record { port = p.id; tag = tag; mac = p.mac; addresses = map (λ (f : Fixed). f.address) p.fixed; prefixes = prefixes_for rows p; inside = is_interface p.owner }
@@ -200,7 +201,7 @@ is_hosted host (Some r) = is_on_host host r
 
 abbrev pub float_row_by : RowLists → List ℕ → FloatingRow → Option Target → Option FloatRow
 float_row_by rows host f None = None
-float_row_by rows host f (Some t) = if is_hosted host (router_named rows t.router) then Some (record { router = t.router; floating = f.address; fixed = t.fixed }) else None
+float_row_by rows host f (Some t) = if is_hosted host (router_with rows t.router) then Some (record { router = t.router; floating = f.address; fixed = t.fixed }) else None
 
 unfoldable pub float_rows : RowLists → List ℕ → List FloatRow
 float_rows rows host = filter_map (λ (f : FloatingRow). float_row_by rows host f f.target) rows.floatings
