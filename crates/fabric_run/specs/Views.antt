@@ -1,6 +1,7 @@
 -- Hosts, what is sought among them, and where an event is, as code has them.
 use Rattle.std.specs.Prelude.{ℕ, suc, [], ◌&&◌, ◌≡◌, ◌<◌, Bool, List, Option, Some, None, find, is_some, length, not, option_copied, slice_get, true}
 use Rattle.std.specs.Str.{bytes_eq}
+use Rattle.net_addr.specs.Words.{Text}
 use Rattle.api_types.specs.Ident.{Ident}
 use Rattle.host_plane.specs.Views.{view_of_step}
 use Rattle.plane_types.specs.Fabric.{FabricFate, Going, Run as TheRun, at_inward, at_tap, fate_of_run, steps_for, takes}
@@ -25,7 +26,7 @@ abbrev pub view_of_host : HostAt → Host
 view_of_host h = record { name = h.name.now; tables = h.tables.now.lists; entries = h.entries.now.items }
 
 -- any host, or one with another name
-abbrev pub is_other_than : Option (List ℕ) → Host → Bool
+abbrev pub is_other_than : Option Text → Host → Bool
 is_other_than None h = true
 is_other_than (Some name) h = not (bytes_eq h.name name)
 

@@ -1,6 +1,7 @@
 -- The run of a frame through the tables of all hosts.
 use Rattle.std.specs.Prelude.{ℕ, zero, suc, ◌+◌, ◌*◌, Bool, true, false, not, ◌&&◌, List, [], ◌∷◌, ◌++◌, map, Option, Some, None, find, is_some, if◌then◌else◌}
 use Rattle.std.specs.Str.{bytes_eq}
+use Rattle.net_addr.specs.Words.{Text}
 use Rattle.api_types.specs.Ident.{Ident}
 use Rattle.plane_types.specs.Ends.{destination}
 use Rattle.plane_types.specs.Hosts.{Host, is_named}
@@ -31,8 +32,8 @@ use Rattle.plane_types.specs.declared.verdict.Toward.{Toward}
 pub record Run : Type 0 where
   pub path : List Ident
   pub fresh : List Entry
-  pub makers : List (List ℕ)
-  pub trail : List (List ℕ × ℕ)
+  pub makers : List Text
+  pub trail : List (Text × ℕ)
 
 pub record FabricFate : Type 0 where
   pub outcome : Outcome
@@ -99,11 +100,11 @@ step_path h (WireIn w f) step = []
 step_path h (DhcpIn t f) step = []
 step_path h (TapOut p f) step = []
 
-abbrev pub inward_trail : Host → Option InwardRow → List (List ℕ × ℕ)
+abbrev pub inward_trail : Host → Option InwardRow → List (Text × ℕ)
 inward_trail h None = []
 inward_trail h (Some r) = (h.name, r.tag) ∷ []
 
-abbrev pub place_trail : Host → Place → List (List ℕ × ℕ)
+abbrev pub place_trail : Host → Place → List (Text × ℕ)
 place_trail h (Bridge tag f) = (h.name, tag) ∷ []
 place_trail h (TunnelIn n f) = inward_trail h (inward_at h.tables (ByTunnel n))
 place_trail h (WireIn w f) = inward_trail h (inward_at h.tables (ByWire w))

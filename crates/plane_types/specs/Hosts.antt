@@ -1,6 +1,7 @@
 -- Hosts with their tables and tracked entries, and the order of the keys of the two maps.
 use Rattle.std.specs.Prelude.{ℕ, ◌+◌, ◌&&◌, ◌||◌, ◌==◌, nat_lt, Bool, true, false, List, flat_map}
 use Rattle.std.specs.Str.{bytes_eq}
+use Rattle.net_addr.specs.Words.{Text}
 use Rattle.net_addr.specs.Ordered.{addr_before}
 use Rattle.plane_types.specs.declared.entry.Entry.{Entry}
 use Rattle.plane_types.specs.declared.table.BridgeKey.{BridgeKey}
@@ -10,11 +11,11 @@ use Rattle.plane_types.specs.declared.table.NeighbourRow.{NeighbourRow}
 use Rattle.plane_types.specs.declared.lists.TableLists.{TableLists}
 
 pub record Host : Type 0 where
-  pub name : List ℕ
+  pub name : Text
   pub tables : TableLists
   pub entries : List Entry
 
-abbrev pub is_named : List ℕ → Host → Bool
+abbrev pub is_named : Text → Host → Bool
 is_named name h = bytes_eq name h.name
 
 -- the entries of all hosts, joined in the order of the hosts

@@ -1,6 +1,7 @@
 -- What a frame does, by the rows of the API alone: one function by cases, in which each find is a search over all rows. A host is
 -- asked only as an attribute of a port, to tell which ports of a local network hear each other.
 use Rattle.std.specs.Prelude.{ℕ, zero, suc, Bool, not, ◌&&◌, List, [], ◌∷◌, ◌++◌, Option, Some, None, find, option_and_then, if◌then◌else◌}
+use Rattle.net_addr.specs.Words.{Text}
 use Rattle.net_addr.specs.declared.address.Addr.{Addr}
 use Rattle.api_types.specs.Ident.{Ident}
 use Rattle.api_types.specs.RowsWith.{port_with}
@@ -114,7 +115,7 @@ abbrev pub sent_to : RowLists → Onward → Ident → Packet → Trace → Opti
 sent_to rows on n p t (Some q) = on q p t
 sent_to rows on n p t None = end_fate t (out_of rows n (TowardMac p.dst) (ip_frame p) Unknown)
 
-abbrev pub sent_on : RowLists → Onward → Ident → List ℕ → Packet → Trace → Fate
+abbrev pub sent_on : RowLists → Onward → Ident → Text → Packet → Trace → Fate
 sent_on rows on n host p t = sent_to rows on n p t (joined_with rows host (port_at rows n p.dst))
 
 -- an ask for an address (RFC 826; RFC 4861) is answered by its holder, where that is joined with the asker
@@ -122,7 +123,7 @@ abbrev pub asked_by : RowLists → Ident → AddressAsk → Option PortRow → O
 asked_by rows n a (Some q) = Answered (ArpAnswer (destination a.ends) q.mac)
 asked_by rows n a None = out_of rows n (TowardAddress (destination a.ends)) (ask_frame a) NoHolder
 
-abbrev pub address_outcome : RowLists → Ident → List ℕ → AddressAsk → Outcome
+abbrev pub address_outcome : RowLists → Ident → Text → AddressAsk → Outcome
 address_outcome rows n host a = asked_by rows n a (joined_with rows host (holder rows n (destination a.ends)))
 
 abbrev pub lease_outcome : Option Lease → Outcome
@@ -136,7 +137,7 @@ abbrev pub lease_asked_by : RowLists → Ident → LeaseAsk → Option PortRow �
 lease_asked_by rows n a (Some d) = dhcp_outcome rows n a d
 lease_asked_by rows n a None = out_of rows n TowardDhcp (dhcp_frame a) NoLease
 
-abbrev pub lease_asked : RowLists → Ident → List ℕ → LeaseAsk → Outcome
+abbrev pub lease_asked : RowLists → Ident → Text → LeaseAsk → Outcome
 lease_asked rows n host a = lease_asked_by rows n a (joined_with rows host (dhcp_port rows n))
 
 -- from a port

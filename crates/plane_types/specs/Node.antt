@@ -1,6 +1,7 @@
 -- One host's agents: the rows that they were last given, the tables wired from these, and the host's tracked entries.
 use Rattle.std.specs.Prelude.{◌≡◌, ℕ, ◌+◌, ◌==◌, nat_lt, Bool, false, true, List, [], Option, None, Some, if◌then◌else◌}
 use Rattle.std.specs.List.{filter}
+use Rattle.net_addr.specs.Words.{Text}
 use Rattle.api_types.specs.Consistent.{IsConsistent}
 use Rattle.api_types.specs.RowLists.{RowLists}
 use Rattle.api_types.specs.Rows.{Fits, after}
@@ -16,7 +17,7 @@ use Rattle.plane_types.specs.declared.lists.TableLists.{TableLists}
 use Rattle.plane_types.specs.TablesOfRows.{tables_of_rows}
 
 pub record Node : Type 0 where
-  pub name : List ℕ
+  pub name : Text
   -- the version that is held, if any
   pub held : Option ℕ
   -- the version of the wired rows
@@ -41,7 +42,7 @@ pub record Stands (n : Node) : Type 0 where
   pub placed : IsAttached (host_of n)
 
 -- a host that was given its first rows
-abbrev pub first_node : List ℕ → ℕ → RowLists → ℕ → Node
+abbrev pub first_node : Text → ℕ → RowLists → ℕ → Node
 first_node name version rows spare = record { name = name; held = Some version; version = version; rows = rows; tables = tables_of_rows rows name []; entries = []; spare = spare }
 
 -- given rows and tables: entries without a tap or router in these go
@@ -75,7 +76,7 @@ with_entries n entries spare = record { name = n.name; held = n.held; version = 
 
 -- what a host would be given: rows, and the tables that it makes of them where its tags were these
 pub record Ready : Type 0 where
-  pub name : List ℕ
+  pub name : Text
   pub version : ℕ
   pub rows : RowLists
   pub tables : TableLists

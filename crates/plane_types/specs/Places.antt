@@ -1,5 +1,6 @@
 -- Where a frame is at a host, and where a look-up leads.
-use Rattle.std.specs.Prelude.{ℕ, List, Option}
+use Rattle.std.specs.Prelude.{ℕ, Option}
+use Rattle.net_addr.specs.Words.{Text}
 use Rattle.api_types.specs.Ident.{Ident}
 use Rattle.plane_types.specs.declared.event.Place.{Place as TheirPlace}
 use Rattle.plane_types.specs.declared.event.Place.TheVariants.{Bridge as TheirBridge, DhcpIn as TheirDhcpIn, RouterIn as TheirRouterIn, TapIn as TheirTapIn, TapOut as TheirTapOut, TunnelIn as TheirTunnelIn, WireIn as TheirWireIn}
@@ -22,7 +23,7 @@ pub data Place : Type 0 where
 -- this network
 pub data Step : Type 0 where
   Next : Place → Step
-  ToTunnel : List ℕ → ℕ → Frame → Step
+  ToTunnel : Text → ℕ → Frame → Step
   ToWire : Wire → Ident → Toward → Frame → Step
   End : Outcome → Option Ident → Step
 

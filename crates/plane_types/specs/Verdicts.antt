@@ -2,6 +2,7 @@
 use Rattle.std.specs.Prelude.{ℕ, zero, suc, ◌==◌, List, [], ◌∷◌, ◌++◌, map, Option, Some, None, option_map, if◌then◌else◌}
 use Rattle.std.specs.List.{filter_map}
 use Rattle.std.specs.Option.{option_eq}
+use Rattle.net_addr.specs.Words.{Text}
 use Rattle.api_types.specs.RowLists.{RowLists}
 use Rattle.plane_types.specs.Fabric.{FabricFate, fabric_fate}
 use Rattle.plane_types.specs.Hosts.{Host, is_named}
@@ -32,17 +33,17 @@ rows_verdicts rows entries [] = []
 rows_verdicts rows entries (e ∷ events) = rows_verdict rows entries e ∷ rows_verdicts rows (entries ++ entries_made (rows_verdict rows entries e).fresh) events
 
 -- by the hosts' tables: each entry with the place of its maker among the hosts
-abbrev pub index_among : List ℕ → List Host → Option ℕ
+abbrev pub index_among : Text → List Host → Option ℕ
 index_among name [] = None
 index_among name (h ∷ hosts) = if is_named name h then Some zero else option_map suc (index_among name hosts)
 
-abbrev pub made_entries : List Host → List Entry → List (List ℕ) → List Made
+abbrev pub made_entries : List Host → List Entry → List Text → List Made
 made_entries hosts [] names = []
 made_entries hosts (e ∷ es) [] = of_nobody e ∷ made_entries hosts es []
 made_entries hosts (e ∷ es) (name ∷ names) = record { entry = e; host = index_among name hosts } ∷ made_entries hosts es names
 
-abbrev pub trail_items : List (List ℕ × ℕ) → List TrailItem
-trail_items trail = map (λ (x : List ℕ × ℕ). record { host = x.0; tag = x.1 }) trail
+abbrev pub trail_items : List (Text × ℕ) → List TrailItem
+trail_items trail = map (λ (x : Text × ℕ). record { host = x.0; tag = x.1 }) trail
 
 abbrev pub verdict_of_run : List Host → FabricFate → ToldVerdict
 verdict_of_run hosts f = record { outcome = f.outcome; path = f.run.path; fresh = made_entries hosts f.run.fresh f.run.makers; trail = trail_items f.run.trail }
