@@ -67,10 +67,6 @@ network_at (Some r) = r.network ∷ []
 abbrev pub path_at : Host → ℕ → List Ident
 path_at h tag = network_at (tag_row h.tables tag)
 
-abbrev pub way_path : Option Ident → List Ident
-way_path None = []
-way_path (Some n) = n ∷ []
-
 -- what a step adds to the path: a router that sent the packet on, and the network
 abbrev pub next_path : Host → Place → List Ident
 next_path h (Bridge tag frame) = path_at h tag
@@ -81,13 +77,9 @@ next_path h (RouterIn p r f) = []
 next_path h (DhcpIn t f) = []
 next_path h (TapOut p f) = []
 
-abbrev pub on_way : Ident → Option Ident → List Ident
-on_way router None = []
-on_way router (Some n) = router ∷ n ∷ []
-
 abbrev pub sent_path : Host → Ident → Step → List Ident
 sent_path h router (Next place) = router ∷ next_path h place
-sent_path h router (End o way) = on_way router way
+sent_path h router (End o way) = elim way [ None ↦ [] | Some n ↦ router ∷ n ∷ [] ]
 sent_path h router (ToTunnel a b c) = []
 sent_path h router (ToWire a b c d) = []
 

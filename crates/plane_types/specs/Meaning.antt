@@ -145,7 +145,10 @@ abbrev pub sent_out : RowLists → Onward → PortRow → Packet → Trace → P
 sent_out rows on p x t y = if y.passes then sent_on rows on p.network p.host x (with_fresh t y.made) else drop_fate t EgressFilter
 
 abbrev pub from_sender : RowLists → List Entry → ℕ → PortRow → Trace → Frame → Fate
-from_sender rows entries many p t (Ip src dst ends ttl part) = sent_out rows (port_fate rows entries many) p (packet src dst ends ttl part) t (rows_passage rows (entries ++ t.fresh) p Egress (packet src dst ends ttl part))
+from_sender rows entries many p t (Ip src dst ends ttl part) =
+    let x = packet src dst ends ttl part in
+    sent_out rows (port_fate rows entries many) p x t
+    (rows_passage rows (entries ++ t.fresh) p Egress x)
 from_sender rows entries many p t (NeighbourAsk src ends) = end_fate t (address_outcome rows p.network p.host (address_ask src ends))
 from_sender rows entries many p t (Dhcp src from) = end_fate t (lease_asked rows p.network p.host (lease_ask src from))
 from_sender rows entries many p t (Other s d y) = drop_fate t Unsupported

@@ -2,6 +2,7 @@
 -- had; the others take the least free ones, in order of creation, after the tags that are no longer needed are free.
 use Rattle.std.specs.Prelude.{ℕ, zero, suc, ◌+◌, ◌<◌, ◌≤◌, ◌==◌, Bool, not, List, [], ◌∷◌, map, Option, Some, None, count_by}
 use Rattle.std.specs.List.{list_any, filter, filter_map}
+use Rattle.net_addr.specs.Words.{Text}
 use Rattle.api_types.specs.Ident.{Ident}
 use Rattle.api_types.specs.Lists.{Each}
 use Rattle.api_types.specs.RowLists.{RowLists}
@@ -18,7 +19,7 @@ pub record AreTags (tags : List TagRow) : Type 0 where
   pub differ : (tag : ℕ) → count_by (λ (t : TagRow). t.tag == tag) tags ≤ 1
 
 -- the networks that have a tag on the host
-unfoldable pub tagged_networks : RowLists → List ℕ → List Ident
+unfoldable pub tagged_networks : RowLists → Text → List Ident
 tagged_networks rows host = map (λ (n : NetworkRow). n.id) (filter (is_tagged rows host) rows.networks)
 
 -- the tags that these networks had
@@ -56,5 +57,5 @@ unfoldable pub in_turn : RowLists → List TagRow → List ℕ → List Ident �
 in_turn rows old free [] = []
 in_turn rows old free (n ∷ ns) = with_tag rows n free (λ left. in_turn rows old left ns) (next_tag (tag_of old n) free)
 
-unfoldable pub new_tags : RowLists → List ℕ → List TagRow → List TagRow
+unfoldable pub new_tags : RowLists → Text → List TagRow → List TagRow
 new_tags rows host old = in_turn rows old (free_tags (kept_tags old (tagged_networks rows host))) (tagged_networks rows host)

@@ -2,6 +2,7 @@
 use Rattle.std.specs.Prelude.{ℕ, Bool, true, false, not, ◌&&◌, ◌||◌, ◌==◌, List, [], map, Option, Some, None, find, if◌then◌else◌}
 use Rattle.std.specs.List.{list_any, filter_map}
 use Rattle.net_addr.specs.Addresses.{addr_eq}
+use Rattle.net_addr.specs.Words.{MacAddress}
 use Rattle.net_addr.specs.declared.address.Addr.{Addr}
 use Rattle.net_addr.specs.declared.address.Addr.TheVariants.{V4}
 use Rattle.net_addr.specs.Prefixes.{contains}
@@ -101,7 +102,7 @@ abbrev pub tap_passage : TableLists → List Entry → TapRow → Direction → 
 tap_passage t entries tap direction p = passage tap.secured (tables_allow t tap.port) entries tap.port direction (key_of p)
 
 -- tap in
-abbrev pub may_send_as : List Pair → ℕ → Addr → Bool
+abbrev pub may_send_as : List Pair → MacAddress → Addr → Bool
 may_send_as allowed mac from = list_any (λ (x : Pair). (x.mac == mac) && contains x.prefix from) allowed
 
 abbrev pub tap_guards : TapRow → Frame → Bool
@@ -114,7 +115,9 @@ abbrev pub tap_filtered : Frame → TapRow → Passage → Stepped
 tap_filtered frame tap y = if y.passes then record { step = Next (Bridge tap.tag frame); made = y.made } else plain (drops EgressFilter)
 
 abbrev pub tap_sends : TableLists → List Entry → TapRow → Frame → Stepped
-tap_sends t entries tap (Ip src dst ends ttl part) = tap_filtered (Ip src dst ends ttl part) tap (tap_passage t entries tap Egress (packet src dst ends ttl part))
+tap_sends t entries tap (Ip src dst ends ttl part) =
+    let p = packet src dst ends ttl part in
+    tap_filtered (ip_frame p) tap (tap_passage t entries tap Egress p)
 tap_sends t entries tap (NeighbourAsk src ends) = plain (Next (Bridge tap.tag (NeighbourAsk src ends)))
 tap_sends t entries tap (Dhcp src from) = plain (Next (Bridge tap.tag (Dhcp src from)))
 tap_sends t entries tap (Other s d y) = plain (Next (Bridge tap.tag (Other s d y)))
@@ -241,20 +244,22 @@ abbrev pub lease_answer : Option LeaseRow → Step
 lease_answer None = drops NoLease
 lease_answer (Some r) = stops (Answered (LeaseAnswer r.lease))
 
-abbrev pub source_of : Frame → ℕ
+abbrev pub source_of : Frame → MacAddress
 source_of (Ip src dst ends ttl part) = src
 source_of (NeighbourAsk src ends) = src
 source_of (Dhcp src from) = src
 source_of (Other s d y) = s
 
-abbrev pub lease_at : TableLists → ℕ → ℕ → Option LeaseRow
+abbrev pub lease_at : TableLists → ℕ → MacAddress → Option LeaseRow
 lease_at t tag mac = find (λ (r : LeaseRow). (r.tag == tag) && (r.mac == mac)) t.leases
 
 abbrev pub tap_delivers : Ident → Frame → Passage → Stepped
 tap_delivers port frame y = if y.passes then record { step = stops (Delivered port frame); made = y.made } else plain (drops IngressFilter)
 
 abbrev pub tap_out_by : TableLists → List Entry → Frame → TapRow → Stepped
-tap_out_by t entries (Ip src dst ends ttl part) tap = tap_delivers tap.port (Ip src dst ends ttl part) (tap_passage t entries tap Ingress (packet src dst ends ttl part))
+tap_out_by t entries (Ip src dst ends ttl part) tap =
+    let p = packet src dst ends ttl part in
+    tap_delivers tap.port (ip_frame p) (tap_passage t entries tap Ingress p)
 tap_out_by t entries (NeighbourAsk src ends) tap = plain (stops (Delivered tap.port (NeighbourAsk src ends)))
 tap_out_by t entries (Dhcp src from) tap = plain (stops (Delivered tap.port (Dhcp src from)))
 tap_out_by t entries (Other s d y) tap = plain (stops (Delivered tap.port (Other s d y)))
