@@ -23,7 +23,11 @@ use Rattle.fabric_run.specs.declared.taker.Sought.TheVariants.{Named, Taker, Wit
 use Rattle.fabric_run.specs.declared.position.Position.{Position}
 
 abbrev pub view_of_host : HostAt → Host
-view_of_host h = record { name = h.name.now; tables = h.tables.now.lists; entries = h.entries.now.items }
+view_of_host h = record {
+  name = h.name.now;
+  tables = h.tables.now.lists;
+  entries = h.entries.now.items;
+}
 
 -- any host, or one with another name
 abbrev pub is_other_than : Option Text → Host → Bool
@@ -33,7 +37,9 @@ is_other_than (Some name) h = not (bytes_eq h.name name)
 abbrev pub is_sought_in : Sought → Host → Bool
 is_sought_in (Named name) h = is_named name.now h
 is_sought_in (WithTap port) h = is_some (tap_at h.tables port)
-is_sought_in (Taker but physical tag frame) h = is_other_than (option_copied but) h && takes (record { physical = physical.now; tag = tag }) frame h
+is_sought_in (Taker but physical tag frame) h =
+    is_other_than (option_copied but) h
+    && takes (record { physical = physical.now; tag = tag }) frame h
 
 -- the place of the first host that passes a test
 abbrev pub IsFirst : (Host → Bool) → List Host → Option ℕ → Type 0
@@ -73,7 +79,8 @@ abbrev pub IsWithin : List Host → Position → Type 0
 IsWithin hosts t = is_within hosts t.at (view_of_step t.step)
 
 -- from a run that is told on, this fate is that of the rest
-pub record Walks (hosts : List Host) (run : Run) (v : FabricFate) (rest : TheRun → FabricFate) : Type 0 where
+pub record Walks (hosts : List Host) (run : Run) (v : FabricFate) (rest : TheRun → FabricFate)
+    : Type 0 where
   pub next : TheRun
   pub told : Tells hosts run next
   pub same : v ≡ rest next
@@ -89,7 +96,8 @@ abbrev pub ended_by : Position → Outcome
 ended_by t = ended_with (view_of_step t.step)
 
 -- the fate that code tells
-pub record IsFate (hosts : List Host) (position : Position) (run : Run) (v : FabricFate) : Type 0 where
+pub record IsFate (hosts : List Host) (position : Position) (run : Run) (v : FabricFate)
+    : Type 0 where
   pub ended : ended_by position ≡ v.outcome
   pub told : Tells hosts run v.run
 

@@ -22,7 +22,8 @@ outcome_of (TheirDropped cause) = Dropped cause
 abbrev pub view_of_step : TheirStep → Step
 view_of_step (TheirNext place) = Next (view_of_place place)
 view_of_step (TheirToTunnel host number frame) = ToTunnel host.now number frame
-view_of_step (TheirToWire physical tag network toward frame) = ToWire (record { physical = physical.now; tag = tag }) network toward frame
+view_of_step (TheirToWire physical tag network toward frame) =
+    ToWire (record { physical = physical.now; tag = tag }) network toward frame
 view_of_step (TheirEnd e) = End (outcome_of e.ended) e.way
 
 abbrev pub view_of_stepped : TheirStepped → Stepped

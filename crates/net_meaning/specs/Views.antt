@@ -15,7 +15,8 @@ use Rattle.net_meaning.specs.declared.at_port.AtPort.{AtPort}
 
 abbrev pub routed_of : Routed → TheRouted
 routed_of (EndsThere o) = RouteEnds o
-routed_of (Sends s) = RouteSends (option_to_list s.made) (leg_of s.out.now) s.hop (packet_of s.packet)
+routed_of (Sends s) =
+    RouteSends (option_to_list s.made) (leg_of s.out.now) s.hop (packet_of s.packet)
 
 abbrev pub trace_of : Trace → TheTrace
 trace_of t = record { path = t.path; fresh = t.fresh }
@@ -35,7 +36,8 @@ next_by on (To q p) t = on q.now (packet_of p) t
 
 -- with what the turn made and passed
 abbrev pub trace_after : TheTrace → AtPort → TheTrace
-trace_after t at_port = with_path (with_fresh t (option_to_list at_port.made)) (passed_list at_port.passed)
+trace_after t at_port =
+    with_path (with_fresh t (option_to_list at_port.made)) (passed_list at_port.passed)
 
 abbrev pub at_port_fate : Onward → TheTrace → AtPort → TheFate
 at_port_fate on t at_port = next_by on at_port.next (trace_after t at_port)

@@ -9,7 +9,8 @@ use Rattle.plane_types.specs.Hosts.{Host}
 use Rattle.plane_types.specs.Synced.{AreSynced}
 
 -- `carries` tells which segments a host, by its name, can carry
-pub record HoldRows (carries : Text → Segment → Bool) (rows : RowLists) (hosts : List Host) : Type 0 where
+pub record HoldRows (carries : Text → Segment → Bool) (rows : RowLists) (hosts : List Host)
+    : Type 0 where
   pub consistent : IsConsistent rows
   pub carried : AreCarried carries rows.networks rows.ports
   pub synced : AreSynced carries rows hosts

@@ -17,8 +17,12 @@ way_of w = record { prefix = w.prefix; rank = w.rank; next = w.next; port = w.po
 -- the default routes by a gateway port, where there is one that is live
 abbrev pub defaults_of_port : RowLists → List PortRow → Option PortRow → List TheWay
 defaults_of_port rows legs None = []
-defaults_of_port rows legs (Some p) = flat_map (λ (f : Fixed). default_by legs (subnet_with rows f.subnet)) (ascending by_address p.fixed)
+defaults_of_port rows legs (Some p) =
+    flat_map (λ (f : Fixed). default_by legs (subnet_with rows f.subnet))
+    (ascending by_address p.fixed)
 
 -- the routes of a router whose live ports are these
 abbrev pub ways_by : RowLists → List PortRow → RouterRow → List TheWay
-ways_by rows legs r = connected_ways rows legs ++ extra_ways rows legs r.routes ++ default_of rows legs (gateway_port rows r)
+ways_by rows legs r =
+    connected_ways rows legs ++ extra_ways rows legs r.routes
+    ++ default_of rows legs (gateway_port rows r)

@@ -127,8 +127,11 @@ over_wire on w n toward frame run (Some h) = on h (WireIn w frame) run
 abbrev pub next_position : List Host → Going → Host → Run → Step → FabricFate
 next_position hosts on h run (Next place) = on h place run
 next_position hosts on h run (End o way) = fate_of_run run o
-next_position hosts on h run (ToTunnel name number frame) = over_tunnel on number frame run (find (is_named name) hosts)
-next_position hosts on h run (ToWire w n toward frame) = over_wire on w n toward frame run (find (λ (x : Host). not (bytes_eq x.name h.name) && takes w frame x) hosts)
+next_position hosts on h run (ToTunnel name number frame) =
+    over_tunnel on number frame run (find (is_named name) hosts)
+next_position hosts on h run (ToWire w n toward frame) =
+    over_wire on w n toward frame run
+    (find (λ (x : Host). not (bytes_eq x.name h.name) && takes w frame x) hosts)
 
 abbrev pub fate_after : List Host → Going → Host → Place → Run → Stepped → FabricFate
 fate_after hosts on h place run s = next_position hosts on h (after_step h place s run) s.step
@@ -136,7 +139,9 @@ fate_after hosts on h place run s = next_position hosts on h (after_step h place
 -- so many steps
 unfoldable pub walk : List Host → ℕ → Host → Place → Run → FabricFate
 walk hosts zero h place run = fate_of_run run (Dropped Unknown)
-walk hosts (suc many) h place run = fate_after hosts (walk hosts many) h place run (table_step h.tables (h.entries ++ run.fresh) place)
+walk hosts (suc many) h place run =
+    fate_after hosts (walk hosts many) h place run
+    (table_step h.tables (h.entries ++ run.fresh) place)
 
 -- the steps of a packet that passes so many routers: three for each, and three to the port
 unfoldable pub steps_for : ℕ → ℕ
@@ -151,7 +156,9 @@ at_tap h (Some tap) = path_at h tap.tag
 
 abbrev pub from_tap : List Host → Ident → Frame → Option Host → FabricFate
 from_tap hosts port frame None = fate_of_run (run_from []) (Dropped Dead)
-from_tap hosts port frame (Some h) = walk hosts (suc (steps_for (life_of frame))) h (TapIn port frame) (run_from (at_tap h (tap_at h.tables port)))
+from_tap hosts port frame (Some h) =
+    walk hosts (suc (steps_for (life_of frame))) h (TapIn port frame)
+    (run_from (at_tap h (tap_at h.tables port)))
 
 abbrev pub at_inward : Host → Option InwardRow → List Ident
 at_inward h None = []
@@ -159,12 +166,18 @@ at_inward h (Some r) = path_at h r.tag
 
 abbrev pub from_outside : List Host → Wire → Frame → Option Host → FabricFate
 from_outside hosts w frame None = fate_of_run (run_from []) (Dropped Unknown)
-from_outside hosts w frame (Some h) = walk hosts (steps_for (life_of frame)) h (WireIn w frame) (run_from (at_inward h (inward_at h.tables (ByWire w))))
+from_outside hosts w frame (Some h) =
+    walk hosts (steps_for (life_of frame)) h (WireIn w frame)
+    (run_from (at_inward h (inward_at h.tables (ByWire w))))
 
 abbrev pub outside : List Host → Wire → Frame → FabricFate
 outside hosts w frame = from_outside hosts w frame (find (takes w frame) hosts)
 
--- an event from a port begins at the first host with a tap of it, one from a wire at the first host that takes it
+-- an event from a port begins at the first host with a tap of it, one from a wire at the first
+-- host that takes it
 unfoldable pub fabric_fate : List Host → Event → FabricFate
-fabric_fate hosts (FromPort port frame) = from_tap hosts port frame (find (λ (h : Host). is_some (tap_at h.tables port)) hosts)
-fabric_fate hosts (FromWire physical tag frame) = if is_unsupported frame then fate_of_run (run_from []) (Dropped Unsupported) else outside hosts (record { physical = physical; tag = tag }) frame
+fabric_fate hosts (FromPort port frame) =
+    from_tap hosts port frame (find (λ (h : Host). is_some (tap_at h.tables port)) hosts)
+fabric_fate hosts (FromWire physical tag frame) =
+    if is_unsupported frame then fate_of_run (run_from []) (Dropped Unsupported)
+    else outside hosts (record { physical = physical; tag = tag }) frame

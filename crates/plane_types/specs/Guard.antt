@@ -15,9 +15,12 @@ use Rattle.plane_types.specs.declared.frame.Frame.TheVariants.{Dhcp, Ip, Neighbo
 abbrev pub has_pair_mac : List Pair → MacAddress → Bool
 has_pair_mac pairs mac = list_any (λ (x : Pair). x.mac == mac) pairs
 
--- with its own MAC and one of its addresses, or with a pair's MAC and an address in the pair's prefix
+-- with its own MAC and one of its addresses, or with a pair's MAC and an address in the pair's
+-- prefix
 abbrev pub may_send : PortRow → MacAddress → Addr → Bool
-may_send p mac from = ((p.mac == mac) && holds p from) || list_any (λ (x : Pair). (x.mac == mac) && contains x.prefix from) p.pairs
+may_send p mac from =
+    ((p.mac == mac) && holds p from)
+    || list_any (λ (x : Pair). (x.mac == mac) && contains x.prefix from) p.pairs
 
 -- without an address, as a client that has no lease yet: with its own MAC or a pair's
 abbrev pub may_ask_lease : PortRow → MacAddress → Bool

@@ -1,5 +1,6 @@
--- What a frame does, by the rows of the API alone: one function by cases, in which each find is a search over all rows. A host is
--- asked only as an attribute of a port, to tell which ports of a local network hear each other.
+-- What a frame does, by the rows of the API alone: one function by cases, in which each find is a
+-- search over all rows. A host is asked only as an attribute of a port, to tell which ports of a
+-- local network hear each other.
 use Rattle.std.specs.Prelude.{ℕ, zero, suc, Bool, not, ◌&&◌, List, [], ◌∷◌, ◌++◌, Option, Some, None, find, option_and_then, if◌then◌else◌}
 use Rattle.net_addr.specs.Words.{Text}
 use Rattle.net_addr.specs.declared.address.Addr.{Addr}
@@ -44,7 +45,8 @@ pub record Trace : Type 0 where
   pub path : List Ident
   pub fresh : List Entry
 
--- what an event comes to: its outcome, the networks and routers that it passed, the entries that it made
+-- what an event comes to: its outcome, the networks and routers that it passed, the entries that
+-- it made
 pub record Fate : Type 0 where
   pub outcome : Outcome
   pub path : List Ident
@@ -75,40 +77,55 @@ abbrev pub Onward : Type 0
 Onward = PortRow → Packet → Trace → Fate
 
 abbrev pub rows_passage : RowLists → List Entry → PortRow → Direction → Packet → Passage
-rows_passage rows entries q direction p = passage q.secured (rules_allow rows q) entries q.id direction (key_of p)
+rows_passage rows entries q direction p =
+    passage q.secured (rules_allow rows q) entries q.id direction (key_of p)
 
 -- an instance's or DHCP port filters the packet, and then has it
 abbrev pub delivered_by : PortRow → Packet → Trace → Passage → Fate
-delivered_by q p t x = if x.passes then end_fate (with_fresh t x.made) (Delivered q.id (ip_frame p)) else drop_fate t IngressFilter
+delivered_by q p t x =
+    if x.passes then end_fate (with_fresh t x.made) (Delivered q.id (ip_frame p))
+    else drop_fate t IngressFilter
 
 abbrev pub at_receiver : RowLists → List Entry → PortRow → Packet → Trace → Fate
-at_receiver rows entries q p t = delivered_by q p t (rows_passage rows (entries ++ t.fresh) q Ingress p)
+at_receiver rows entries q p t =
+    delivered_by q p t (rows_passage rows (entries ++ t.fresh) q Ingress p)
 
--- a router's port hands it to the router; router and network of the way out are added to the path, and the joined holder of the
--- next hop gets the packet
+-- a router's port hands it to the router; router and network of the way out are added to the path,
+-- and the joined holder of the next hop gets the packet
 abbrev pub handed_to : RowLists → Onward → Ident → Addr → Packet → Trace → Option PortRow → Fate
 handed_to rows on n hop p t (Some q) = on q (record p { dst = q.mac }) t
-handed_to rows on n hop p t None = end_fate t (out_of rows n (TowardAddress hop) (ip_frame (record p { dst = 0 })) NoHolder)
+handed_to rows on n hop p t None =
+    end_fate t (out_of rows n (TowardAddress hop) (ip_frame (record p { dst = 0 })) NoHolder)
 
-abbrev pub handed_out : RowLists → Onward → RouterRow → Addr → Packet → Trace → Option PortRow → Fate
+abbrev pub handed_out : RowLists → Onward → RouterRow → Addr → Packet → Trace → Option PortRow
+    → Fate
 handed_out rows on r hop p t None = drop_fate t Unknown
-handed_out rows on r hop p t (Some out) = handed_to rows on out.network hop p (with_path t (r.id ∷ out.network ∷ [])) (joined_with rows out.host (holder rows out.network hop))
+handed_out rows on r hop p t (Some out) =
+    handed_to rows on out.network hop p (with_path t (r.id ∷ out.network ∷ []))
+    (joined_with rows out.host (holder rows out.network hop))
 
 abbrev pub after_router : RowLists → Onward → RouterRow → Trace → Routed → Fate
 after_router rows on r t (RouteEnds o) = end_fate t o
-after_router rows on r t (RouteSends made out hop p) = handed_out rows on r hop p (with_fresh t made) (find (λ (x : PortRow). ident_eq out.port x.id) (legs_of rows r))
+after_router rows on r t (RouteSends made out hop p) =
+    handed_out rows on r hop p (with_fresh t made)
+    (find (λ (x : PortRow). ident_eq out.port x.id) (legs_of rows r))
 
-abbrev pub at_router : RowLists → List Entry → Onward → PortRow → Packet → Trace → Option RouterRow → Fate
+abbrev pub at_router : RowLists → List Entry → Onward → PortRow → Packet → Trace → Option RouterRow
+    → Fate
 at_router rows entries on q p t None = drop_fate t Unknown
-at_router rows entries on q p t (Some r) = after_router rows on r t (routing_of (router_view rows r) (entries ++ t.fresh) (leg_of q) p)
+at_router rows entries on q p t (Some r) =
+    after_router rows on r t (routing_of (router_view rows r) (entries ++ t.fresh) (leg_of q) p)
 
 abbrev pub fate_at_port : RowLists → List Entry → Onward → PortRow → Packet → Trace → Fate
-fate_at_port rows entries on q p t = if is_router_port q.owner then at_router rows entries on q p t (router_of rows q) else at_receiver rows entries q p t
+fate_at_port rows entries on q p t =
+    if is_router_port q.owner then at_router rows entries on q p t (router_of rows q)
+    else at_receiver rows entries q p t
 
 -- a port gets a packet, which may pass so many routers
 unfoldable pub port_fate : RowLists → List Entry → ℕ → PortRow → Packet → Trace → Fate
 port_fate rows entries zero q p t = drop_fate t Unknown
-port_fate rows entries (suc many) q p t = fate_at_port rows entries (port_fate rows entries many) q p t
+port_fate rows entries (suc many) q p t =
+    fate_at_port rows entries (port_fate rows entries many) q p t
 
 -- on a network, from a port of a host
 abbrev pub sent_to : RowLists → Onward → Ident → Packet → Trace → Option PortRow → Fate
@@ -118,13 +135,15 @@ sent_to rows on n p t None = end_fate t (out_of rows n (TowardMac p.dst) (ip_fra
 abbrev pub sent_on : RowLists → Onward → Ident → Text → Packet → Trace → Fate
 sent_on rows on n host p t = sent_to rows on n p t (joined_with rows host (port_at rows n p.dst))
 
--- an ask for an address (RFC 826; RFC 4861) is answered by its holder, where that is joined with the asker
+-- an ask for an address (RFC 826; RFC 4861) is answered by its holder, where that is joined with
+-- the asker
 abbrev pub asked_by : RowLists → Ident → AddressAsk → Option PortRow → Outcome
 asked_by rows n a (Some q) = Answered (ArpAnswer (destination a.ends) q.mac)
 asked_by rows n a None = out_of rows n (TowardAddress (destination a.ends)) (ask_frame a) NoHolder
 
 abbrev pub address_outcome : RowLists → Ident → Text → AddressAsk → Outcome
-address_outcome rows n host a = asked_by rows n a (joined_with rows host (holder rows n (destination a.ends)))
+address_outcome rows n host a =
+    asked_by rows n a (joined_with rows host (holder rows n (destination a.ends)))
 
 abbrev pub lease_outcome : Option Lease → Outcome
 lease_outcome None = Dropped NoLease
@@ -142,15 +161,19 @@ lease_asked rows n host a = lease_asked_by rows n a (joined_with rows host (dhcp
 
 -- from a port
 abbrev pub sent_out : RowLists → Onward → PortRow → Packet → Trace → Passage → Fate
-sent_out rows on p x t y = if y.passes then sent_on rows on p.network p.host x (with_fresh t y.made) else drop_fate t EgressFilter
+sent_out rows on p x t y =
+    if y.passes then sent_on rows on p.network p.host x (with_fresh t y.made)
+    else drop_fate t EgressFilter
 
 abbrev pub from_sender : RowLists → List Entry → ℕ → PortRow → Trace → Frame → Fate
 from_sender rows entries many p t (Ip src dst ends ttl part) =
     let x = packet src dst ends ttl part in
     sent_out rows (port_fate rows entries many) p x t
     (rows_passage rows (entries ++ t.fresh) p Egress x)
-from_sender rows entries many p t (NeighbourAsk src ends) = end_fate t (address_outcome rows p.network p.host (address_ask src ends))
-from_sender rows entries many p t (Dhcp src from) = end_fate t (lease_asked rows p.network p.host (lease_ask src from))
+from_sender rows entries many p t (NeighbourAsk src ends) =
+    end_fate t (address_outcome rows p.network p.host (address_ask src ends))
+from_sender rows entries many p t (Dhcp src from) =
+    end_fate t (lease_asked rows p.network p.host (lease_ask src from))
 from_sender rows entries many p t (Other s d y) = drop_fate t Unsupported
 
 abbrev pub from_live : RowLists → List Entry → ℕ → PortRow → Trace → Frame → Fate
@@ -168,7 +191,10 @@ may_begin rows p = is_live rows p && not (is_router_port p.owner)
 
 abbrev pub from_port : RowLists → List Entry → ℕ → Frame → Option PortRow → Fate
 from_port rows entries many frame None = drop_fate none_so_far Dead
-from_port rows entries many frame (Some p) = if may_begin rows p then from_live rows entries many p (record { path = p.network ∷ []; fresh = [] }) frame else drop_fate none_so_far Dead
+from_port rows entries many frame (Some p) =
+    if may_begin rows p
+    then from_live rows entries many p (record { path = p.network ∷ []; fresh = [] }) frame
+    else drop_fate none_so_far Dead
 
 -- from a wire
 abbrev pub on_path : NetworkRow → Trace
@@ -187,9 +213,12 @@ wire_lease rows n a None = drop_fate none_so_far Unknown
 wire_lease rows n a (Some d) = end_fate (on_path n) (dhcp_outcome rows n.id a d)
 
 abbrev pub from_network : RowLists → List Entry → ℕ → NetworkRow → Frame → Fate
-from_network rows entries many n (Ip src dst ends ttl part) = wire_packet rows entries many n (packet src dst ends ttl part) (port_at rows n.id dst)
-from_network rows entries many n (NeighbourAsk src ends) = wire_ask n (address_ask src ends) (holder rows n.id (destination ends))
-from_network rows entries many n (Dhcp src from) = wire_lease rows n (lease_ask src from) (dhcp_port rows n.id)
+from_network rows entries many n (Ip src dst ends ttl part) =
+    wire_packet rows entries many n (packet src dst ends ttl part) (port_at rows n.id dst)
+from_network rows entries many n (NeighbourAsk src ends) =
+    wire_ask n (address_ask src ends) (holder rows n.id (destination ends))
+from_network rows entries many n (Dhcp src from) =
+    wire_lease rows n (lease_ask src from) (dhcp_port rows n.id)
 from_network rows entries many n (Other s d y) = drop_fate none_so_far Unsupported
 
 abbrev pub from_wire : RowLists → List Entry → ℕ → Frame → Option NetworkRow → Fate
@@ -204,10 +233,15 @@ life_of (Dhcp src from) = zero
 life_of (Other s d y) = zero
 
 unfoldable pub rows_fate : RowLists → List Entry → Event → Fate
-rows_fate rows entries (FromPort port frame) = from_port rows entries (life_of frame) frame (port_with rows port)
-rows_fate rows entries (FromWire physical tag frame) = if is_unsupported frame then drop_fate none_so_far Unsupported else from_wire rows entries (life_of frame) frame (network_on rows (record { physical = physical; tag = tag }))
+rows_fate rows entries (FromPort port frame) =
+    from_port rows entries (life_of frame) frame (port_with rows port)
+rows_fate rows entries (FromWire physical tag frame) =
+    if is_unsupported frame then drop_fate none_so_far Unsupported
+    else from_wire rows entries (life_of frame) frame
+    (network_on rows (record { physical = physical; tag = tag }))
 
 -- events one after the other: each sees the entries that the earlier ones made
 unfoldable pub rows_fates : RowLists → List Entry → List Event → List Fate
 rows_fates rows entries [] = []
-rows_fates rows entries (e ∷ events) = rows_fate rows entries e ∷ rows_fates rows (entries ++ (rows_fate rows entries e).fresh) events
+rows_fates rows entries (e ∷ events) =
+    rows_fate rows entries e ∷ rows_fates rows (entries ++ (rows_fate rows entries e).fresh) events

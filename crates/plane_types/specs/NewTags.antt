@@ -1,5 +1,6 @@
--- The tags that a host gives to networks, as Neutron's Open vSwitch agent does (its local VLANs). A network keeps the tag that it
--- had; the others take the least free ones, in order of creation, after the tags that are no longer needed are free.
+-- The tags that a host gives to networks, as Neutron's Open vSwitch agent does (its local VLANs).
+-- A network keeps the tag that it had; the others take the least free ones, in order of creation,
+-- after the tags that are no longer needed are free.
 use Rattle.std.specs.Prelude.{ℕ, zero, suc, ◌+◌, ◌<◌, ◌≤◌, ◌==◌, Bool, not, List, [], ◌∷◌, map, Option, Some, None, count_by}
 use Rattle.std.specs.List.{list_any, filter, filter_map}
 use Rattle.net_addr.specs.Words.{Text}
@@ -20,7 +21,8 @@ pub record AreTags (tags : List TagRow) : Type 0 where
 
 -- the networks that have a tag on the host
 unfoldable pub tagged_networks : RowLists → Text → List Ident
-tagged_networks rows host = map (λ (n : NetworkRow). n.id) (filter (is_tagged rows host) rows.networks)
+tagged_networks rows host =
+    map (λ (n : NetworkRow). n.id) (filter (is_tagged rows host) rows.networks)
 
 -- the tags that these networks had
 unfoldable pub kept_tags : List TagRow → List Ident → List ℕ
@@ -48,14 +50,18 @@ abbrev pub tag_row : RowLists → Ident → ℕ → TagRow
 tag_row rows n tag = record { network = n; tag = tag; wire = wire_of (segment rows n) }
 
 -- a row with the tag, if any, before the rest
-abbrev pub with_tag : RowLists → Ident → List ℕ → (List ℕ → List TagRow) → Option (ℕ × List ℕ) → List TagRow
+abbrev pub with_tag : RowLists → Ident → List ℕ → (List ℕ → List TagRow) → Option (ℕ × List ℕ)
+    → List TagRow
 with_tag rows n free rest None = rest free
 with_tag rows n free rest (Some (tag, left)) = tag_row rows n tag ∷ rest left
 
 -- a row for each network: the tag that it had, else the first one that is free then
 unfoldable pub in_turn : RowLists → List TagRow → List ℕ → List Ident → List TagRow
 in_turn rows old free [] = []
-in_turn rows old free (n ∷ ns) = with_tag rows n free (λ left. in_turn rows old left ns) (next_tag (tag_of old n) free)
+in_turn rows old free (n ∷ ns) =
+    with_tag rows n free (λ left. in_turn rows old left ns) (next_tag (tag_of old n) free)
 
 unfoldable pub new_tags : RowLists → Text → List TagRow → List TagRow
-new_tags rows host old = in_turn rows old (free_tags (kept_tags old (tagged_networks rows host))) (tagged_networks rows host)
+new_tags rows host old =
+    in_turn rows old (free_tags (kept_tags old (tagged_networks rows host)))
+    (tagged_networks rows host)

@@ -17,7 +17,8 @@ pub record Packet : Type 0 where
   pub ttl : ℕ
   pub part : KeyPart
 
--- who asks for the MAC of an address: by ARP (RFC 826), or by a neighbour solicitation (RFC 4861, 4.3)
+-- who asks for the MAC of an address: by ARP (RFC 826), or by a neighbour solicitation (RFC 4861,
+-- 4.3)
 pub record AddressAsk : Type 0 where
   pub src : MacAddress
   pub ends : Ends

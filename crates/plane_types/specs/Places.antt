@@ -19,8 +19,8 @@ pub data Place : Type 0 where
   DhcpIn : ℕ → Frame → Place
   TapOut : Ident → Frame → Place
 
--- it goes on at the host, to another host by a tunnel, or to the wire; or it ends, and where a router sent it on in this look-up, on
--- this network
+-- it goes on at the host, to another host by a tunnel, or to the wire; or it ends, and where a
+-- router sent it on in this look-up, on this network
 pub data Step : Type 0 where
   Next : Place → Step
   ToTunnel : Text → ℕ → Frame → Step
@@ -32,7 +32,8 @@ abbrev pub view_of_place : TheirPlace → Place
 view_of_place (TheirTapIn port frame) = TapIn port frame
 view_of_place (TheirBridge tag frame) = Bridge tag frame
 view_of_place (TheirTunnelIn number frame) = TunnelIn number frame
-view_of_place (TheirWireIn physical tag frame) = WireIn (record { physical = physical.now; tag = tag }) frame
+view_of_place (TheirWireIn physical tag frame) =
+    WireIn (record { physical = physical.now; tag = tag }) frame
 view_of_place (TheirRouterIn port router frame) = RouterIn port router frame
 view_of_place (TheirDhcpIn tag frame) = DhcpIn tag frame
 view_of_place (TheirTapOut port frame) = TapOut port frame

@@ -1,5 +1,6 @@
--- The tables of a host realise the rows: each table is the list that the rows give, for the host's tags. Of the tags the rows say
--- which networks have one and no more, since a network keeps the tag that it was once given.
+-- The tables of a host realise the rows: each table is the list that the rows give, for the host's
+-- tags. Of the tags the rows say which networks have one and no more, since a network keeps the
+-- tag that it was once given.
 use Rattle.std.specs.Prelude.{◌≡◌, ℕ, ◌<◌, ◌≤◌, ◌==◌, List, map, count_by}
 use Rattle.std.specs.List.{filter}
 use Rattle.net_addr.specs.Words.{Text}
@@ -19,7 +20,8 @@ pub record TagStands (rows : RowLists) (t : TagRow) : Type 0 where
 
 -- the tagged networks in order of creation, each with a tag of its own
 pub record RealisesTags (rows : RowLists) (host : Text) (tags : List TagRow) : Type 0 where
-  pub networks : map (λ (t : TagRow). t.network) tags ≡ map (λ (n : NetworkRow). n.id) (filter (is_tagged rows host) rows.networks)
+  pub networks : map (λ (t : TagRow). t.network) tags
+      ≡ map (λ (n : NetworkRow). n.id) (filter (is_tagged rows host) rows.networks)
   pub stand : Each (TagStands rows) tags
   pub differ : (tag : ℕ) → count_by (λ (t : TagRow). t.tag == tag) tags ≤ 1
 

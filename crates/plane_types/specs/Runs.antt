@@ -1,4 +1,5 @@
--- In which part of a list the elements stand that pass a test: none is in front of it, and none behind it.
+-- In which part of a list the elements stand that pass a test: none is in front of it, and none
+-- behind it.
 use Rattle.std.specs.Prelude.{◌≡◌, ℕ, ◌≤◌, Bool, List, [], Option, Some, None, length, take, drop}
 use Rattle.std.specs.List.{filter}
 use Rattle.plane_types.specs.declared.run.Run.{Run}

@@ -18,7 +18,12 @@ abbrev pub of_nobody : Entry → Made
 of_nobody e = record { entry = e; host = None }
 
 abbrev pub verdict_of_fate : Fate → ToldVerdict
-verdict_of_fate f = record { outcome = f.outcome; path = f.path; fresh = map of_nobody f.fresh; trail = [] }
+verdict_of_fate f = record {
+  outcome = f.outcome;
+  path = f.path;
+  fresh = map of_nobody f.fresh;
+  trail = [];
+}
 
 abbrev pub rows_verdict : RowLists → List Entry → Event → ToldVerdict
 rows_verdict rows entries event = verdict_of_fate (rows_fate rows entries event)
@@ -30,30 +35,44 @@ entries_made fresh = map (λ (m : Made). m.entry) fresh
 -- events one after the other: each sees the entries that the earlier ones made
 unfoldable pub rows_verdicts : RowLists → List Entry → List Event → List ToldVerdict
 rows_verdicts rows entries [] = []
-rows_verdicts rows entries (e ∷ events) = rows_verdict rows entries e ∷ rows_verdicts rows (entries ++ entries_made (rows_verdict rows entries e).fresh) events
+rows_verdicts rows entries (e ∷ events) =
+    rows_verdict rows entries e
+    ∷ rows_verdicts rows (entries ++ entries_made (rows_verdict rows entries e).fresh) events
 
 -- by the hosts' tables: each entry with the place of its maker among the hosts
 abbrev pub index_among : Text → List Host → Option ℕ
 index_among name [] = None
-index_among name (h ∷ hosts) = if is_named name h then Some zero else option_map suc (index_among name hosts)
+index_among name (h ∷ hosts) =
+    if is_named name h then Some zero else option_map suc (index_among name hosts)
 
 abbrev pub made_entries : List Host → List Entry → List Text → List Made
 made_entries hosts [] names = []
 made_entries hosts (e ∷ es) [] = of_nobody e ∷ made_entries hosts es []
-made_entries hosts (e ∷ es) (name ∷ names) = record { entry = e; host = index_among name hosts } ∷ made_entries hosts es names
+made_entries hosts (e ∷ es) (name ∷ names) =
+    record { entry = e; host = index_among name hosts } ∷ made_entries hosts es names
 
 abbrev pub trail_items : List (Text × ℕ) → List TrailItem
 trail_items trail = map (λ (x : Text × ℕ). record { host = x.0; tag = x.1 }) trail
 
 abbrev pub verdict_of_run : List Host → FabricFate → ToldVerdict
-verdict_of_run hosts f = record { outcome = f.outcome; path = f.run.path; fresh = made_entries hosts f.run.fresh f.run.makers; trail = trail_items f.run.trail }
+verdict_of_run hosts f = record {
+  outcome = f.outcome;
+  path = f.run.path;
+  fresh = made_entries hosts f.run.fresh f.run.makers;
+  trail = trail_items f.run.trail;
+}
 
 abbrev pub fabric_verdict : List Host → Event → ToldVerdict
 fabric_verdict hosts event = verdict_of_run hosts (fabric_fate hosts event)
 
 -- a verdict, the hosts left aside
 abbrev pub without_hosts : ToldVerdict → ToldVerdict
-without_hosts v = record { outcome = v.outcome; path = v.path; fresh = map of_nobody (entries_made v.fresh); trail = [] }
+without_hosts v = record {
+  outcome = v.outcome;
+  path = v.path;
+  fresh = map of_nobody (entries_made v.fresh);
+  trail = [];
+}
 
 -- what the host at a place made
 abbrev pub made_at : ℕ → Made → Option Entry
@@ -62,7 +81,9 @@ made_at place m = if option_eq (λ a b. a == b) m.host (Some place) then Some m.
 -- each entry is added at the host that made it, places counted from the first of these
 abbrev pub with_made_from : ℕ → List Host → List Made → List Host
 with_made_from place [] fresh = []
-with_made_from place (h ∷ hosts) fresh = record h { entries = h.entries ++ filter_map (made_at place) fresh } ∷ with_made_from (suc place) hosts fresh
+with_made_from place (h ∷ hosts) fresh =
+    record h { entries = h.entries ++ filter_map (made_at place) fresh }
+    ∷ with_made_from (suc place) hosts fresh
 
 abbrev pub with_made : List Host → List Made → List Host
 with_made hosts fresh = with_made_from 0 hosts fresh
@@ -72,7 +93,8 @@ hosts_after hosts event = with_made hosts (fabric_verdict hosts event).fresh
 
 unfoldable pub fabric_verdicts : List Host → List Event → List ToldVerdict
 fabric_verdicts hosts [] = []
-fabric_verdicts hosts (e ∷ events) = fabric_verdict hosts e ∷ fabric_verdicts (hosts_after hosts e) events
+fabric_verdicts hosts (e ∷ events) =
+    fabric_verdict hosts e ∷ fabric_verdicts (hosts_after hosts e) events
 
 -- the hosts after the events
 unfoldable pub hosts_after_all : List Host → List Event → List Host
