@@ -15,12 +15,12 @@ ghost use Rattle.fabric_run.specs.Views.{IsWithin, ended_by, view_of_host, looks
 
 use crate::added::network_at;
 use crate::fleet::{Fleet, HostAt, host_at};
+use crate::position::Position;
 use crate::run::Run;
 use crate::taker::{Sought, first, taker};
 use crate::trip::travel;
-use crate::position::Position;
 use api_types::Id;
-use host_plane::{FrameEnd, Ending, Step};
+use host_plane::{Ending, FrameEnd, Step};
 use net_addr::{Copies, OutOfMemory, Text};
 use plane_types::{AskAnswer, DropCause, Event, Frame, Outcome, Place, Verdict, is_unsupported};
 use std::alloc::Global;
@@ -127,7 +127,10 @@ fn start_network<F: Fleet>(fleet: &F, position: &Position<'_>) -> Option<Id>
     ensures { option_to_list result ≡ start_path (F.hosts fleet.now) position.now }
 {
     match &position.step {
-        Step::Next(Place::TapIn { port, .. }) => network_of_tap(&host_at(fleet, position.at), *port),
+        Step::Next(Place::TapIn { port, .. }) => network_of_tap(
+            &host_at(fleet, position.at),
+            *port,
+        ),
         Step::Next(Place::WireIn { physical, tag, .. }) => {
             network_of_wire(&host_at(fleet, position.at), physical, *tag)
         }

@@ -8,10 +8,10 @@
 mod added;
 mod begin;
 mod fleet;
+mod position;
 mod run;
 mod taker;
 mod trip;
-mod position;
 
 pub use begin::send;
 pub use fleet::Fleet;

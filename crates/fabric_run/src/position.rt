@@ -13,7 +13,7 @@ use crate::fleet::{Fleet, HostAt, host_at};
 use crate::run::Run;
 use crate::taker::{Sought, first, taker};
 use api_types::Id;
-use host_plane::{FrameEnd, Ending, Step, step};
+use host_plane::{Ending, FrameEnd, Step, step};
 use net_addr::{OutOfMemory, Text};
 use plane_types::{DropCause, Frame, Place, Toward};
 use std::alloc::Global;
@@ -189,7 +189,12 @@ fn cross_wire<'f, F: Fleet>(
 }
 
 // Where a step of a host leads.
-fn follow_step<'f, F: Fleet>(fleet: &'f F, at: usize, host: &HostAt<'f>, step: &Step<'f>) -> Position<'f>
+fn follow_step<'f, F: Fleet>(
+    fleet: &'f F,
+    at: usize,
+    host: &HostAt<'f>,
+    step: &Step<'f>,
+) -> Position<'f>
     requires here { slice_get (F.hosts fleet.now) at ≡ Some (view_of_host host.now) }
     requires within { at < length (F.hosts fleet.now) }
     ensures within { result.at < length (F.hosts fleet.now) }

@@ -6,8 +6,8 @@ ghost use Rattle.plane_types.specs.Hosts.{is_named};
 ghost use Rattle.fabric_run.specs.Views.{IsFate, IsWithin, position_fate};
 
 use crate::fleet::Fleet;
-use crate::run::Run;
 use crate::position::{Position, advance};
+use crate::run::Run;
 use net_addr::OutOfMemory;
 use std::alloc::Global;
 

@@ -6,7 +6,7 @@ ghost use Rattle.plane_types.specs.Packets.{address_ask};
 ghost use Rattle.plane_types.specs.TableStep.{asked_at, bridge_at as bridge_by_key, bridge_in as bridged_in, bridge_step as bridged_at_tag, bridged_by as bridged_by_row, inward_step as bridged_inward, lease_answer as leased_by, lease_at as lease_by_mac, target_step as led_by, neighbour_at as neighbour_by_address, routed_in as routed_to, source_of as sender_of, to_tap as tapped_at, wire_or as wire_or_dropped};
 ghost use Rattle.host_plane.specs.Views.{view_of_step};
 
-use crate::ending::{FrameEnd, Ending, Step, drops};
+use crate::ending::{Ending, FrameEnd, Step, drops};
 use crate::map::{bridge_at, neighbour_at};
 use api_types::Id;
 use net_addr::Mac;
@@ -110,7 +110,13 @@ fn forward<'t>(
 }
 
 // An ask for an address is answered by its neighbour, else goes to the wire.
-fn answer_arp<'t>(tables: &HostTables, inner: bool, row: &'t TagRow, src: Mac, ends: &Ends) -> Step<'t>
+fn answer_arp<'t>(
+    tables: &HostTables,
+    inner: bool,
+    row: &'t TagRow,
+    src: Mac,
+    ends: &Ends,
+) -> Step<'t>
     ensures { view_of_step result
         ≡ asked_at inner row.now (address_ask src ends.now)
         (neighbour_by_address tables.now.lists row.now.tag (destination ends.now)) }

@@ -6,7 +6,7 @@ ghost use Rattle.plane_types.specs.TableStep.{neighbour_at as neighbour_by_addre
 ghost use Rattle.plane_types.specs.Parts.{packet_of};
 ghost use Rattle.host_plane.specs.Views.{view_of_step};
 
-use crate::ending::{FrameEnd, Ending, Step, drops};
+use crate::ending::{Ending, FrameEnd, Step, drops};
 use crate::map::neighbour_at;
 use crate::port::port_of;
 use api_types::Id;

@@ -11,7 +11,7 @@ ghost use Rattle.plane_types.specs.declared.verdict.Outcome.TheVariants.{Absorbe
 ghost use Rattle.plane_types.specs.Parts.{changed_of, destined_of, packet_of, sourced_of};
 ghost use Rattle.host_plane.specs.Views.{view_of_stepped};
 
-use crate::ending::{FrameEnd, Ending, Step, Stepped, drop_frame};
+use crate::ending::{Ending, FrameEnd, Step, Stepped, drop_frame};
 use crate::outward::sent_at;
 use crate::port::port_of;
 use crate::source::{find_source, fixed_behind};

@@ -9,7 +9,7 @@ ghost use Rattle.plane_types.specs.Parts.{packet_of};
 ghost use Rattle.plane_types.specs.declared.verdict.Outcome.TheVariants.{Delivered};
 ghost use Rattle.host_plane.specs.Views.{view_of_step, view_of_stepped};
 
-use crate::ending::{FrameEnd, Ending, Step, Stepped, drop_frame};
+use crate::ending::{Ending, FrameEnd, Step, Stepped, drop_frame};
 use crate::filter::passage_at;
 use api_types::{Direction, Id};
 use net_addr::Addr;

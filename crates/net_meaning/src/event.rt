@@ -13,10 +13,10 @@ ghost use Rattle.plane_types.specs.declared.verdict.DropCause.TheVariants.{Unsup
 ghost use Rattle.plane_types.specs.Parts.{packet_of};
 ghost use Rattle.net_meaning.specs.Views.{fate_of, trace_of};
 
-use crate::ask::{answer_arp, lease_asked, answer_dhcp, out_of};
+use crate::ask::{answer_arp, answer_dhcp, lease_asked, out_of};
+use crate::at_port::{Fate, Trace, carry_packet};
 use crate::guard::passes_guard;
 use crate::passage::passage_at;
-use crate::at_port::{Fate, Trace, carry_packet};
 use api_types::{Direction, Id, NetworkRow, PortRow, Rows, is_router_port};
 use net_addr::{OutOfMemory, Seq, Text};
 use plane_rows::{dhcp_port, holder, is_live, joined_with, network_on, port_at};

@@ -7,13 +7,13 @@
 #![tactic(auto)]
 
 mod ask;
+mod at_port;
 mod event;
 mod filter;
 mod guard;
 mod passage;
 mod router;
 mod source;
-mod at_port;
 mod uses;
 
 pub use event::explain;
