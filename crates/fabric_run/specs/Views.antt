@@ -64,7 +64,7 @@ step_fate hosts on at r (End o way) = fate_of_run r o
 step_fate hosts on at r (ToTunnel name number frame) = fate_of_run r (Dropped Unknown)
 step_fate hosts on at r (ToWire w n toward frame) = fate_of_run r (Dropped Unknown)
 
--- what a turn leads to
+-- what a position leads to
 abbrev pub position_fate : List Host → Going → Position → TheRun → FabricFate
 position_fate hosts on t r = step_fate hosts on t.at r (view_of_step t.step)
 

@@ -25,7 +25,8 @@ pub(crate) struct Position<'f> {
     pub(crate) step: Step<'f>,
 }
 
-// The same place once more.
+// The same place, made again part by part: a move out of an enum that borrows isn't covered by the
+// checker, and the place stays in the step that is looked at.
 fn place_again<'f>(place: &Place<'f>) -> Place<'f>
     ensures { view_of_place result ≡ view_of_place place.now }
 {
@@ -71,6 +72,7 @@ fn place_again<'f>(place: &Place<'f>) -> Place<'f>
     }
 }
 
+// The same end, made again part by part, for the same reason.
 fn ended_again<'f>(ended: &FrameEnd<'f>) -> FrameEnd<'f>
     ensures { outcome_of result ≡ outcome_of ended.now }
 {

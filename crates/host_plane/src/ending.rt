@@ -67,7 +67,7 @@ pub enum Step<'t> {
 
 impl Drop for Step<'_> {
     fn drop(self) {
-        // the prover asks that values of these types are at hand
+        // for the proof: values of these types are at hand where their parts are dropped
         let _toward = Toward::Dhcp;
         let _ending = Ending {
             ended: FrameEnd::Dropped(DropCause::Unknown),

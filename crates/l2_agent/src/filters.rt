@@ -41,6 +41,7 @@ fn add_rules(
         (filters.new ≡ filters.old ++ map (filter_of_rule port.now) (map (λ r. r.now) rules.now)) }
 {
     for rule in rules {
+        // for the proof: a value of the prefix's type is at hand before a row with one is pushed
         let _prefix = rule.remote_prefix;
         filters.push(filter_of(port, rule))?;
     }

@@ -105,6 +105,7 @@ fn add_floatings(
         ++ filter_map (floating_neighbour rows.now host.now tags.now) rows.now.floatings) }
 {
     for floating in rows.floatings().rows() {
+        // for the proof: a value of `Addr` is at hand before a row with an address is pushed
         let _address = Addr::V4(floating.address);
         if let Some(row) = floating_row(rows, host, tags, floating) {
             neighbours.push(row)?;

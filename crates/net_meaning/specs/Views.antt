@@ -34,7 +34,7 @@ abbrev pub next_by : Onward → Next → TheTrace → TheFate
 next_by on (Ends o) t = end_fate t o
 next_by on (To q p) t = on q.now (packet_of p) t
 
--- with what the turn made and passed
+-- with what the packet made and passed there
 abbrev pub trace_after : TheTrace → AtPort → TheTrace
 trace_after t at_port =
     with_path (with_fresh t (option_to_list at_port.made)) (passed_list at_port.passed)

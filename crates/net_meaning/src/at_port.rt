@@ -184,7 +184,7 @@ fn arrive<'r>(
     }
 }
 
-// Adds what a turn made and passed.
+// Adds what a packet made and passed at a port.
 fn note(trace: &mut Trace, made: Option<Entry>, passed: Option<(Id, Id)>) -> Result<(), OutOfMemory>
     ensures { OnOk result
         (trace_of trace.new

@@ -191,7 +191,7 @@ fn from_port(
         (port_with rows.now port)) }
 {
     let ports = rows.ports();
-    let _own_ids = ports.rows();
+    let _own_ids = ports.rows(); // for the proof: no two ports have one id
     match ports.get(port) {
         Some(sender) => {
             if is_live(rows, sender) && !is_router_port(&sender.owner) {
@@ -302,7 +302,7 @@ fn fate_of_event(
     }
 }
 
-// As it is told: no entry names a host that made it.
+// The entries as a verdict lists them: none names a host that made it.
 fn list_made(alloc: Global, fresh: &[Entry]) -> Result<Seq<Made>, OutOfMemory>
     ensures { IfOk result (λ m. m ≡ map of_nobody fresh.now) }
 {

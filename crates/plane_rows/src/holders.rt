@@ -49,7 +49,7 @@ pub fn named_router(rows: &Rows, id: Id) -> Option<&RouterRow>
     ensures { option_copied result ≡ router_with rows.now id }
 {
     let routers = rows.routers();
-    let _own_ids = routers.rows();
+    let _own_ids = routers.rows(); // for the proof: no two routers have one id
     routers.get(id)
 }
 
@@ -58,7 +58,7 @@ pub fn gateway_port<'r>(rows: &'r Rows, router: &RouterRow) -> Option<&'r PortRo
     ensures { option_copied result ≡ gateway_by_rows rows.now router.now }
 {
     let ports = rows.ports();
-    let _own_ids = ports.rows();
+    let _own_ids = ports.rows(); // for the proof: no two ports have one id
     match router.gateway {
         Some(gateway) => ports.get(gateway.port),
         None => None,

@@ -18,7 +18,7 @@ pub fn is_live(rows: &Rows, port: &PortRow) -> bool
         return false;
     }
     let networks = rows.networks();
-    let _own_ids = networks.rows();
+    let _own_ids = networks.rows(); // for the proof: no two networks have one id
     match networks.get(port.network) {
         Some(network) => network.up,
         None => false,
@@ -31,7 +31,7 @@ pub fn segment_of(rows: &Rows, network: Id) -> Option<&Segment>
         ≡ option_map (λ (n : TheNetwork). n.segment) (network_with rows.now network) }
 {
     let networks = rows.networks();
-    let _own_ids = networks.rows();
+    let _own_ids = networks.rows(); // for the proof: no two networks have one id
     match networks.get(network) {
         Some(network) => Some(&network.segment),
         None => None,

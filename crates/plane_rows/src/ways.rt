@@ -56,7 +56,7 @@ pub fn named_subnet(rows: &Rows, id: Id) -> Option<&SubnetRow>
     ensures { option_copied result ≡ subnet_with rows.now id }
 {
     let subnets = rows.subnets();
-    let _own_ids = subnets.rows();
+    let _own_ids = subnets.rows(); // for the proof: no two subnets have one id
     subnets.get(id)
 }
 

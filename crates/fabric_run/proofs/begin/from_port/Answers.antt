@@ -4,7 +4,7 @@ use Rattle.plane_types.specs.Fabric.{steps_for, walk}
 use Rattle.plane_types.specs.Meaning.{life_of}
 use Rattle.plane_types.specs.declared.verdict.DropCause.TheVariants.{Dead}
 use Rattle.fabric_run.proofs.FleetLemmas.{there}
-use Rattle.fabric_run.proofs.TurnLemmas.{began_at_tap, dropped_at, no_tap}
+use Rattle.fabric_run.proofs.PositionLemmas.{began_at_tap, dropped_at, no_tap}
 use Rattle.fabric_run.proofs.begin.from_port.Goals as goal
 
 pub returns-in-Some-clause-begun : goal.returns-in-Some-clause-begun

@@ -4,7 +4,7 @@ use Rattle.plane_types.specs.Fabric.{steps_for, walk}
 use Rattle.plane_types.specs.Meaning.{life_of}
 use Rattle.plane_types.specs.declared.verdict.DropCause.TheVariants.{Unknown, Unsupported}
 use Rattle.fabric_run.proofs.FleetLemmas.{there}
-use Rattle.fabric_run.proofs.TurnLemmas.{began_outside, dropped_at, not_taken, unsupported}
+use Rattle.fabric_run.proofs.PositionLemmas.{began_outside, dropped_at, not_taken, unsupported}
 use Rattle.fabric_run.proofs.begin.from_wire.Goals as goal
 
 pub returns-then-is_unsupported-clause-begun : goal.returns-then-is_unsupported-clause-begun

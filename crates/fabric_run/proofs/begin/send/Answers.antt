@@ -2,7 +2,7 @@ use Rattle.std.proofs.Common.{◌≡◌, ◌∙◌, ◌++◌, length, ap, arith}
 use Rattle.std.specs.Prelude.{option_to_list}
 use Rattle.plane_types.specs.Fabric.{FabricFate, run_from, fabric_fate, walk}
 use Rattle.fabric_run.specs.Views.{looks_of, start_path, position_fate}
-use Rattle.fabric_run.proofs.TurnLemmas.{few_made}
+use Rattle.fabric_run.proofs.PositionLemmas.{few_made}
 use Rattle.fabric_run.proofs.begin.send.Goals as goal
 
 pub travel-requires-clause-bounded : goal.travel-requires-clause-bounded

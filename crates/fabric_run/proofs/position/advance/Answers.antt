@@ -9,7 +9,7 @@ use Rattle.plane_types.specs.Places.{Place, view_of_place}
 use Rattle.plane_types.specs.TableStep.{Stepped, table_step}
 use Rattle.fabric_run.specs.Views.{view_of_host}
 use Rattle.fabric_run.proofs.TellsLemmas.{tells_after}
-use Rattle.fabric_run.proofs.TurnLemmas.{step_to}
+use Rattle.fabric_run.proofs.PositionLemmas.{step_to}
 use Rattle.fabric_run.proofs.position.advance.Goals as goal
 
 pub returns-clause-walked : goal.returns-clause-walked

@@ -2,7 +2,7 @@ use Rattle.std.proofs.Common.{◌≡◌, ◌∙◌, ◌+◌, ◌-◌, ◌≤◌,
 use Rattle.host_plane.specs.Views.{view_of_step}
 use Rattle.plane_types.specs.Fabric.{FabricFate, run_from, fate_of_run, walk}
 use Rattle.fabric_run.specs.Views.{Tells, ended_by, position_fate}
-use Rattle.fabric_run.proofs.TurnLemmas.{led_grows, stands}
+use Rattle.fabric_run.proofs.PositionLemmas.{led_grows, stands}
 use Rattle.fabric_run.proofs.trip.travel.Goals as goal
 
 pub loop-looks-init : goal.loop-looks-init

@@ -2,7 +2,7 @@ use Rattle.std.proofs.Common.{◌∙◌, ◌-◌, ◌+◌, ap, sym}
 use Rattle.plane_types.specs.Meaning.{port_fate as got_by}
 use Rattle.plane_types.specs.Parts.{packet_of}
 use Rattle.net_meaning.specs.Views.{next_by, trace_of}
-use Rattle.net_meaning.proofs.TurnLemmas.{no_turn, turn_on}
+use Rattle.net_meaning.proofs.AtPortLemmas.{no_turn, turn_on}
 use Rattle.net_meaning.proofs.at_port.carry_packet.Goals as goal
 
 pub returns-in-Ends : goal.returns-in-Ends
