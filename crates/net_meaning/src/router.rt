@@ -20,7 +20,7 @@ use net_addr::{Addr, OutOfMemory};
 use plane_rows::{Way, fixed_behind, gateway_address, is_own_address, leg, ways_of};
 use plane_types::{
     Changed, Destined, DropCause, Entry, Outcome, Packet, Sourced, Use, answered_to, lower,
-    rank_place, with_ends,
+    rank_number, with_ends,
 };
 use std::alloc::Global;
 
@@ -85,7 +85,7 @@ fn beats(a: &Way, b: &Way) -> bool
     ensures { result ≡ way_beats (way_of a.now) (way_of b.now) }
 {
     b.prefix.len < a.prefix.len
-        || (a.prefix.len == b.prefix.len && rank_place(a.rank) <= rank_place(b.rank))
+        || (a.prefix.len == b.prefix.len && rank_number(a.rank) <= rank_number(b.rank))
 }
 
 fn better(way: &Way, other: &Option<Way>) -> Way

@@ -18,7 +18,7 @@ use Rattle.net_addr.specs.declared.address.Addr.{Addr}
 use Rattle.plane_types.specs.Ends.{source, destination}
 use Rattle.plane_types.specs.Fabric.{FabricFate, Run, after_step, at_inward, at_tap, run_from, fabric_fate, fate_of_run, from_outside, from_tap, next_position, outside, place_trail, step_path, steps_for, fate_after, takes, over_tunnel, walk, over_wire}
 use Rattle.plane_types.specs.Hosts.{Host, is_named}
-use Rattle.plane_types.specs.Keys.{key_eq, kind_eq, kind_place}
+use Rattle.plane_types.specs.Keys.{key_eq, kind_eq, kind_number}
 use Rattle.plane_types.specs.Meaning.{life_of}
 use Rattle.plane_types.specs.Packets.{is_unsupported}
 use Rattle.plane_types.specs.Attached.{IsAttached, is_attached, meets, translates}
@@ -81,10 +81,10 @@ meets-like router kind outer port far far_port r k o p h (Snat s q x y) =
     let er : router ≡ r = ident_same router r ids.0 in
     let eo : outer ≡ o = eqb-true outer o ids.1 in
     let ep : p ≡ port = eqb-true p port one.0 in
-    let ek : kind_place k.kind ≡ kind_place kind = eqb-true (kind_place k.kind) (kind_place kind) one.1 in
+    let ek : kind_number k.kind ≡ kind_number kind = eqb-true (kind_number k.kind) (kind_number kind) one.1 in
     let et : destination k.ends ≡ far = addr_same (destination k.ends) far two.1 in
     let ed : k.dport ≡ far_port = eqb-true k.dport far_port three.1 in
-    λ j. ident_eq (er j) s && (eo j == x) && ((y == sym ep j) && (kind_place q.kind == sym ek j) && addr_eq (destination q.ends) (sym et j) && (q.dport == sym ed j))
+    λ j. ident_eq (er j) s && (eo j == x) && ((y == sym ep j) && (kind_number q.kind == sym ek j) && addr_eq (destination q.ends) (sym et j) && (q.dport == sym ed j))
 
 translates-like : (router : Ident) (key : Key) (outer : ℕ) (r : Ident) (k : Key) (o p : ℕ) → translates router key outer (Snat r k o p) ≡ true → (e : Entry) → translates router key outer e ≡ translates r k o e
 translates-like router key outer r k o p h (Flow q d x) = refl
@@ -97,12 +97,12 @@ translates-like router key outer r k o p h (Snat s q x y) =
     let one = and_both (kind_eq k.kind key.kind) (addr_eq (source k.ends) (source key.ends)) two.0 in
     let er : router ≡ r = ident_same router r ids.0 in
     let eo : outer ≡ o = eqb-true outer o ids.1 in
-    let ek : kind_place k.kind ≡ kind_place key.kind = eqb-true (kind_place k.kind) (kind_place key.kind) one.0 in
+    let ek : kind_number k.kind ≡ kind_number key.kind = eqb-true (kind_number k.kind) (kind_number key.kind) one.0 in
     let ef : source k.ends ≡ source key.ends = addr_same (source k.ends) (source key.ends) one.1 in
     let es : k.sport ≡ key.sport = eqb-true k.sport key.sport two.1 in
     let et : destination k.ends ≡ destination key.ends = addr_same (destination k.ends) (destination key.ends) three.1 in
     let ed : k.dport ≡ key.dport = eqb-true k.dport key.dport four.1 in
-    λ j. ident_eq (er j) s && (eo j == x) && ((kind_place q.kind == sym ek j) && addr_eq (source q.ends) (sym ef j) && (q.sport == sym es j) && addr_eq (destination q.ends) (sym et j) && (q.dport == sym ed j))
+    λ j. ident_eq (er j) s && (eo j == x) && ((kind_number q.kind == sym ek j) && addr_eq (source q.ends) (sym ef j) && (q.sport == sym es j) && addr_eq (destination q.ends) (sym et j) && (q.dport == sym ed j))
 
 -- one more entry that is placed and apart
 pub placed-push : (name : List ℕ) (t : TableLists) (es : List Entry) (e : Entry) → IsAttached (record { name = name; tables = t; entries = es }) → is_attached t e ≡ true → IsApart es e → IsAttached (record { name = name; tables = t; entries = es ++ e ∷ [] })

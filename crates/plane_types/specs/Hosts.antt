@@ -22,9 +22,9 @@ is_named name h = bytes_eq name h.name
 abbrev pub all_entries : List Host → List Entry
 all_entries hosts = flat_map (λ (h : Host). h.entries) hosts
 
-abbrev pub key_place : BridgeKey → ℕ
-key_place AtDhcp = 0
-key_place (AtMac mac) = mac + 1
+abbrev pub key_number : BridgeKey → ℕ
+key_number AtDhcp = 0
+key_number (AtMac mac) = mac + 1
 
 abbrev pub bridge_key_eq : BridgeKey → BridgeKey → Bool
 bridge_key_eq AtDhcp AtDhcp = true
@@ -36,7 +36,7 @@ abbrev pub pair_before : ℕ → ℕ → ℕ → ℕ → Bool
 pair_before a b x y = nat_lt a x || ((a == x) && nat_lt b y)
 
 abbrev pub bridge_before : BridgeRow → BridgeRow → Bool
-bridge_before r s = pair_before r.tag (key_place r.key) s.tag (key_place s.key)
+bridge_before r s = pair_before r.tag (key_number r.key) s.tag (key_number s.key)
 
 abbrev pub neighbour_before : NeighbourRow → NeighbourRow → Bool
 neighbour_before r s = nat_lt r.tag s.tag || ((r.tag == s.tag) && addr_before r.address s.address)

@@ -43,15 +43,15 @@ answer_key k = record {
   dport = k.sport;
 }
 
-abbrev pub kind_place : KeyKind → ℕ
-kind_place TcpKey = 0
-kind_place UdpKey = 1
-kind_place AskKey = 2
-kind_place ReplyKey = 3
-kind_place (ProtoKey n) = 4 + n
+abbrev pub kind_number : KeyKind → ℕ
+kind_number TcpKey = 0
+kind_number UdpKey = 1
+kind_number AskKey = 2
+kind_number ReplyKey = 3
+kind_number (ProtoKey n) = 4 + n
 
 abbrev pub kind_eq : KeyKind → KeyKind → Bool
-kind_eq a b = kind_place a == kind_place b
+kind_eq a b = kind_number a == kind_number b
 
 abbrev pub key_eq : Key → Key → Bool
 key_eq a b =

@@ -96,15 +96,15 @@ new_destination v uses p =
 
 -- The longest prefix that contains the destination is taken; of equal lengths a connected route
 -- goes before an extra one, that before the default, and the first of equal ones.
-abbrev pub rank_place : RouteRank → ℕ
-rank_place Connected = 0
-rank_place Extra = 1
-rank_place Default = 2
+abbrev pub rank_number : RouteRank → ℕ
+rank_number Connected = 0
+rank_number Extra = 1
+rank_number Default = 2
 
 abbrev pub beats : Way → Way → Bool
 beats a b =
     nat_lt b.prefix.len a.prefix.len
-    || ((a.prefix.len == b.prefix.len) && nat_le (rank_place a.rank) (rank_place b.rank))
+    || ((a.prefix.len == b.prefix.len) && nat_le (rank_number a.rank) (rank_number b.rank))
 
 abbrev pub better : Way → Option Way → Way
 better w None = w

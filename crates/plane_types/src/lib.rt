@@ -51,7 +51,7 @@ pub use lists::{Leases, TableLists, Tags};
 pub use packet::{Packet, is_unsupported, part_from, part_to};
 pub use pairs::{has_pair_mac, is_allowed};
 pub use routing::{
-    Changed, Destined, Sourced, answered_to, by_any, by_float, kept_source, lower, rank_place,
+    Changed, Destined, Sourced, answered_to, by_any, by_float, kept_source, lower, rank_number,
     sourced_at, with_ends,
 };
 pub use spare_vec::SpareVec;

@@ -3,7 +3,7 @@
 ghost use Rattle.std.specs.Prelude.{◌≡◌, ◌-◌, ◌<◌, option_map};
 ghost use Rattle.plane_types.specs.Ends.{turned_round as other_way_round};
 ghost use Rattle.plane_types.specs.Packets.{part_to as with_destination_port};
-ghost use Rattle.plane_types.specs.Routing.{by_any as changed_at_all, by_float as changed_by_float, kept_source as kept, rank_place as place_of_rank, sourced_at as sourced_with};
+ghost use Rattle.plane_types.specs.Routing.{by_any as changed_at_all, by_float as changed_by_float, kept_source as kept, rank_number as place_of_rank, sourced_at as sourced_with};
 ghost use Rattle.plane_types.specs.Parts.{changed_of, destined_of, packet_of, sourced_of};
 
 use crate::ends::Ends;
@@ -123,7 +123,7 @@ pub fn sourced_at(packet: &Packet, outer: Addr4, port: u16) -> Packet
 }
 
 /// Of routes of equal lengths the one with the lower number goes first.
-pub fn rank_place(rank: RouteRank) -> u8
+pub fn rank_number(rank: RouteRank) -> u8
     ensures { result ≡ place_of_rank rank }
 {
     match rank {

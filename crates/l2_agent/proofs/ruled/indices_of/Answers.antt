@@ -1,8 +1,8 @@
 use Rattle.std.proofs.Common.{◌≡◌, ◌∙◌, ◌+◌, ◌-◌, ◌<◌, length, drop, get_or, ap, sym, arith}
 use Rattle.api_types.specs.declared.group.GroupRow.{GroupRow}
-use Rattle.l2_agent.specs.Places.{place_from}
-use Rattle.l2_agent.proofs.PlaceLemmas.{from_here}
-use Rattle.l2_agent.proofs.ruled.places_of.Goals as goal
+use Rattle.l2_agent.specs.Indices.{index_from}
+use Rattle.l2_agent.proofs.IndexLemmas.{from_here}
+use Rattle.l2_agent.proofs.ruled.indices_of.Goals as goal
 
 pub loop-left-preserved : goal.loop-left-preserved
 loop-left-preserved c =
@@ -15,5 +15,5 @@ loop-left-preserved c =
     record {
       within = omega (arith, c.loop-left.invariant.within);
       found = λ n. c.in_ok-insert.ensures.updates.0 n
-          ∙ from_here groups (left - 1) row n _ within is (c.loop-left.invariant.found n ∙ ap (λ m. place_from m (drop m groups) n) behind);
+          ∙ from_here groups (left - 1) row n _ within is (c.loop-left.invariant.found n ∙ ap (λ m. index_from m (drop m groups) n) behind);
     }

@@ -3,7 +3,7 @@ use Rattle.std.specs.Option.{option_and_then}
 use Rattle.api_types.specs.Holders.{is_live_dhcp_of}
 use Rattle.api_types.specs.declared.port.PortRow.{PortRow}
 use Rattle.dhcp_agent.proofs.ServingLemmas.{from_here}
-use Rattle.dhcp_agent.proofs.served.places_of.Goals as goal
+use Rattle.dhcp_agent.proofs.served.indices_of.Goals as goal
 
 pub loop-left-preserved-in_ok-insert : goal.loop-left-preserved-in_ok-insert
 loop-left-preserved-in_ok-insert c =

@@ -7,7 +7,7 @@ use Rattle.api_types.specs.Ident.{Ident}
 use Rattle.api_types.specs.Table.{ident_eq, HaveOwnIds}
 use Rattle.api_types.specs.Members.{names_group}
 use Rattle.api_types.specs.declared.group.GroupRow.{GroupRow}
-use Rattle.l2_agent.specs.Places.{id_of, is_place, is_named, is_named_at, names_at, place_from}
+use Rattle.l2_agent.specs.Indices.{id_of, is_index, is_named, is_named_at, names_at, index_from}
 
 eqb_turned : (a b : ℕ) → (a == b) ≡ (b == a)
 eqb_turned a b = grind (arith, nat_tests)
@@ -24,31 +24,31 @@ apart_alike i a b h k = same_numbers i.ordinal a.ordinal i.count a.count b.ordin
 
 -- the place of an id from one place on, by that from the next
 pub from_here : (gs : List GroupRow) (k : ℕ) (g : GroupRow) (n : Ident) (found : Option ℕ) → k < length gs → g ≡ get_or gs k g
-    → found ≡ place_from (k + 1) (drop (k + 1) gs) n → cond (ident_eq g.id n) (Some k) found ≡ place_from k (drop k gs) n
+    → found ≡ index_from (k + 1) (drop (k + 1) gs) n → cond (ident_eq g.id n) (Some k) found ≡ index_from k (drop k gs) n
 from_here gs k g n found within is rest =
     let next : k + 1 ≡ suc k = omega arith in
-    let step : place_from k (drop k gs) n ≡ place_from k (get_or gs k g ∷ drop (suc k) gs) n = ap (λ xs. place_from k xs n) (drop-cons gs k g within) in
+    let step : index_from k (drop k gs) n ≡ index_from k (get_or gs k g ∷ drop (suc k) gs) n = ap (λ xs. index_from k xs n) (drop-cons gs k g within) in
     (λ j. cond (ident_turned g.id n j) (Some k) (rest j))
-    ∙ (λ j. cond (ident_eq n (is j).id) (Some k) (place_from (k + 1) (drop (next j) gs) n))
+    ∙ (λ j. cond (ident_eq n (is j).id) (Some k) (index_from (k + 1) (drop (next j) gs) n))
     ∙ sym step
 
 -- whether a place is named by ids from one on, by those from the next
 pub named_here : (gs : List GroupRow) (ids : List Ident) (k : ℕ) (i : Ident) (p : ℕ) → k < length ids → i ≡ get_or ids k i
-    → (is_place p (place_from 0 gs i) || is_named gs (drop (k + 1) ids) p) ≡ is_named gs (drop k ids) p
+    → (is_index p (index_from 0 gs i) || is_named gs (drop (k + 1) ids) p) ≡ is_named gs (drop k ids) p
 named_here gs ids k i p within is =
     let next : k + 1 ≡ suc k = omega arith in
-    (λ j. is_place p (place_from 0 gs (is j)) || is_named gs (drop (next j) ids) p)
+    (λ j. is_index p (index_from 0 gs (is j)) || is_named gs (drop (next j) ids) p)
     ∙ sym (ap (λ xs. is_named gs xs p) (drop-cons ids k i within))
 
 -- no place that is sought from one on is in front of it
-not_before : (b p : ℕ) (gs : List GroupRow) (i : Ident) → p < b → is_place p (place_from b gs i) ≡ false
+not_before : (b p : ℕ) (gs : List GroupRow) (i : Ident) → p < b → is_index p (index_from b gs i) ≡ false
 not_before b p [] i h = refl
 not_before b p (g ∷ gs) i h = go (ident_eq i g.id) (not_before (b + 1) p gs i (omega (arith, h)))
   where
     differ : (b == p) ≡ false
     differ = grind (arith, nat_tests)
 
-    go : (t : Bool) → is_place p (place_from (b + 1) gs i) ≡ false → is_place p (cond t (Some b) (place_from (b + 1) gs i)) ≡ false
+    go : (t : Bool) → is_index p (index_from (b + 1) gs i) ≡ false → is_index p (cond t (Some b) (index_from (b + 1) gs i)) ≡ false
     go true rest = differ
     go false rest = rest
 
@@ -63,7 +63,7 @@ others g i (x ∷ gs) zero apart same = ident_turned x.id i ∙ apart_alike i g.
 others g i (x ∷ gs) (suc p) apart same = others g i gs p apart.1 same
 
 -- where each group has an id of its own, the place of an id is that of the one group that has it
-own_place : (b : ℕ) (gs : List GroupRow) (i : Ident) (p : ℕ) → HaveOwnIds id_of gs → is_place (b + p) (place_from b gs i) ≡ has_id i (slice_get gs p)
+own_place : (b : ℕ) (gs : List GroupRow) (i : Ident) (p : ℕ) → HaveOwnIds id_of gs → is_index (b + p) (index_from b gs i) ≡ has_id i (slice_get gs p)
 unfolding IsDistinct
 own_place b [] i p own = refl
 own_place b (g ∷ gs) i zero own = go (ident_eq i g.id) refl
@@ -71,7 +71,7 @@ own_place b (g ∷ gs) i zero own = go (ident_eq i g.id) refl
     here : (b == b + 0) ≡ true
     here = grind (arith, nat_tests)
 
-    go : (t : Bool) → ident_eq i g.id ≡ t → is_place (b + 0) (cond t (Some b) (place_from (b + 1) gs i)) ≡ ident_eq g.id i
+    go : (t : Bool) → ident_eq i g.id ≡ t → is_index (b + 0) (cond t (Some b) (index_from (b + 1) gs i)) ≡ ident_eq g.id i
     go true e = here ∙ sym e ∙ ident_turned i g.id
     go false e = not_before (b + 1) (b + 0) gs i (omega arith) ∙ sym e ∙ ident_turned i g.id
 own_place b (g ∷ gs) i (suc p) own = go (ident_eq i g.id) refl (own_place (b + 1) gs i p own.1)
@@ -82,9 +82,9 @@ own_place b (g ∷ gs) i (suc p) own = go (ident_eq i g.id) refl (own_place (b +
     next : b + suc p ≡ (b + 1) + p
     next = omega arith
 
-    go : (t : Bool) → ident_eq i g.id ≡ t → is_place ((b + 1) + p) (place_from (b + 1) gs i) ≡ has_id i (slice_get gs p) → is_place (b + suc p) (cond t (Some b) (place_from (b + 1) gs i)) ≡ has_id i (slice_get gs p)
+    go : (t : Bool) → ident_eq i g.id ≡ t → is_index ((b + 1) + p) (index_from (b + 1) gs i) ≡ has_id i (slice_get gs p) → is_index (b + suc p) (cond t (Some b) (index_from (b + 1) gs i)) ≡ has_id i (slice_get gs p)
     go true e rest = differ ∙ sym (others g i gs p own.0 e)
-    go false e rest = ap (λ m. is_place m (place_from (b + 1) gs i)) next ∙ rest
+    go false e rest = ap (λ m. is_index m (index_from (b + 1) gs i)) next ∙ rest
 
 either : (i : Ident) (ids : List Ident) (o : Option GroupRow) → (has_id i o || names_at ids o) ≡ names_at (i ∷ ids) o
 either i ids None = refl
@@ -99,7 +99,7 @@ named_is gs [] p own = none (slice_get gs p)
     none (Some g) = refl
 named_is gs (i ∷ ids) p own =
     let start : p ≡ 0 + p = omega arith in
-    (λ j. (ap (λ m. is_place m (place_from 0 gs i)) start ∙ own_place 0 gs i p own) j || named_is gs ids p own j) ∙ either i ids (slice_get gs p)
+    (λ j. (ap (λ m. is_index m (index_from 0 gs i)) start ∙ own_place 0 gs i p own) j || named_is gs ids p own j) ∙ either i ids (slice_get gs p)
 
 -- where a test fails in front of a place, it passes from there on alone
 pub at_from : (from k : ℕ) (f : ℕ → Bool) → ((p : ℕ) → p < from → f p ≡ false) → f k ≡ true → from ≤ k
