@@ -22,7 +22,7 @@ use crate::trip::travel;
 use api_types::Id;
 use host_plane::{Ending, FrameEnd, Step};
 use net_addr::{Copies, OutOfMemory, Text};
-use plane_types::{AskAnswer, DropCause, Event, Frame, Outcome, Place, Verdict, is_unsupported};
+use plane_types::{AskAnswer, DropCause, Event, Frame, Outcome, Place, Verdict};
 use std::alloc::Global;
 
 // How many look-ups an event may have: three for each router that its packet may pass, and three to
@@ -105,7 +105,7 @@ fn from_wire<'f, F: Fleet>(
         (begun_with (start_path (F.hosts fleet.now) result))
         ≡ fabric_fate (F.hosts fleet.now) (FromWire physical.now tag frame.now) }
 {
-    if is_unsupported(frame) {
+    if frame.is_unsupported() {
         return drop_at_start(DropCause::Unsupported);
     }
     match taker(fleet, None, physical, tag, frame) {

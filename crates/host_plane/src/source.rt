@@ -17,7 +17,7 @@ use api_types::Id;
 use net_addr::{Addr, Addr4};
 use plane_types::{
     Changed, Destined, Entry, FloatRow, HostTables, Packet, RouterPort, RouterTable, Sourced,
-    by_any, by_float, kept_source, sourced_at, with_ends,
+    kept_source, sourced_at, with_ends,
 };
 
 // The fixed address of the first of these rows that is of the router and has the floating address.
@@ -139,7 +139,7 @@ fn is_translated(tables: &HostTables, router: &RouterTable, out: &RouterPort, by
         ≡ ((not out.now.inside || changed_by_float (changed_of by)) && router.now.snat
         && is_gateway_live (table_view tables.now.lists router.now)) }
 {
-    (!out.inside || by_float(by)) && router.snat && has_live_gateway(router)
+    (!out.inside || by.is_floating()) && router.snat && has_live_gateway(router)
 }
 
 // A floating address of this router for the source replaces it; else it may be translated.
@@ -191,7 +191,7 @@ pub(crate) fn find_source(
         (entries.now ++ fresh.now)) (leg_at port.now) (leg_at out.now)
         (changed_of destined.now.by) (packet_of destined.now.packet) }
 {
-    let leaves = !out.inside || by_any(destined.by);
+    let leaves = !out.inside || destined.by.is_any();
     if destined.packet.ends.are_four() && port.inside && leaves {
         sourced_float(tables, entries, fresh, router, out, destined)
     } else {

@@ -15,7 +15,6 @@ use api_types::{Direction, Id};
 use net_addr::Addr;
 use plane_types::{
     DropCause, Entry, Frame, HostTables, Packet, Place, TapRow, has_pair_mac, is_allowed,
-    is_unsupported,
 };
 
 // Whether the tap may send the frame, as what it says it is. Without an address a client asks for a
@@ -105,7 +104,7 @@ pub(crate) fn tap_in<'t>(
     let Some(tap) = tables.tap_at(port) else {
         return drop_frame(DropCause::Dead);
     };
-    if is_unsupported(&frame) {
+    if frame.is_unsupported() {
         drop_frame(DropCause::Unsupported)
     } else if tap.secured && !guards(tap, &frame) {
         drop_frame(DropCause::Spoof)

@@ -22,7 +22,6 @@ use net_addr::{OutOfMemory, Seq, Text};
 use plane_rows::{dhcp_port, holder, is_live, joined_with, network_on, port_at};
 use plane_types::{
     AskAnswer, DropCause, Entries, Entry, Event, Frame, Made, Outcome, Packet, Toward, Verdict,
-    is_unsupported,
 };
 use std::alloc::Global;
 
@@ -164,7 +163,7 @@ fn from_live(
         ≡ from_live_by rows.now entries.now (life_of frame) sender.now
         (record { path = sender.now.network ∷ []; fresh = [] }) frame) }
 {
-    let cause = if is_unsupported(&frame) {
+    let cause = if frame.is_unsupported() {
         DropCause::Unsupported
     } else if !passes_guard(sender, &frame) {
         DropCause::Spoof
@@ -274,7 +273,7 @@ fn from_wire(
         else from_wire_by rows.now entries.now (life_of frame) frame
         (network_on_wire rows.now (record { physical = physical.now; tag = tag })))) }
 {
-    if is_unsupported(&frame) {
+    if frame.is_unsupported() {
         return Ok(drop_event(alloc, DropCause::Unsupported));
     }
     match network_on(rows, physical, tag) {

@@ -15,8 +15,7 @@ use api_types::{Id, PortRow, RouterRow, Rows, is_interface};
 use net_addr::Addr4;
 use plane_rows::{floating_for, gateway_address, has_live_gateway};
 use plane_types::{
-    Changed, Destined, Entry, Packet, Sourced, Use, by_any, by_float, kept_source, sourced_at,
-    with_ends,
+    Changed, Destined, Entry, Packet, Sourced, Use, kept_source, sourced_at, with_ends,
 };
 
 // With a new entry, where a port is left.
@@ -73,7 +72,7 @@ fn is_translated(rows: &Rows, router: &RouterRow, out: &PortRow, by: Changed) ->
         && (router_view rows.now router.now).snat
         && is_gateway_live (router_view rows.now router.now)) }
 {
-    (!is_interface(&out.owner) || by_float(by))
+    (!is_interface(&out.owner) || by.is_floating())
         && translates(router)
         && has_live_gateway(rows, router)
 }
@@ -124,7 +123,7 @@ pub(crate) fn find_source(
         ≡ sourced_by (router_view rows.now router.now) (map use_of uses.now) (leg_of port.now)
         (leg_of out.now) (changed_of destined.now.by) (packet_of destined.now.packet) }
 {
-    let leaves = !is_interface(&out.owner) || by_any(destined.by);
+    let leaves = !is_interface(&out.owner) || destined.by.is_any();
     if destined.packet.ends.are_four() && is_interface(&port.owner) && leaves {
         sourced_float(rows, router, uses, out, destined)
     } else {

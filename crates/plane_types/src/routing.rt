@@ -36,23 +36,25 @@ pub struct Sourced {
     pub made: Option<Entry>,
 }
 
-/// Whether a floating address changed it.
-pub fn by_float(by: Changed) -> bool
-    ensures { result ≡ changed_by_float (changed_of by) }
-{
-    match by {
-        Changed::Floating => true,
-        Changed::Nothing | Changed::Entry => false,
+impl Changed {
+    /// Whether a floating address changed it.
+    pub fn is_floating(self) -> bool
+        ensures { result ≡ changed_by_float (changed_of self) }
+    {
+        match self {
+            Changed::Floating => true,
+            Changed::Nothing | Changed::Entry => false,
+        }
     }
-}
 
-/// Whether anything changed it.
-pub fn by_any(by: Changed) -> bool
-    ensures { result ≡ changed_at_all (changed_of by) }
-{
-    match by {
-        Changed::Floating | Changed::Entry => true,
-        Changed::Nothing => false,
+    /// Whether anything changed it.
+    pub fn is_any(self) -> bool
+        ensures { result ≡ changed_at_all (changed_of self) }
+    {
+        match self {
+            Changed::Floating | Changed::Entry => true,
+            Changed::Nothing => false,
+        }
     }
 }
 
