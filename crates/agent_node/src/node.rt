@@ -1,10 +1,12 @@
+//! One host's agents: the rows that they were last given, the tables made of them, tracked entries.
+
 ghost use Rattle.std.specs.Prelude.{◌≡◌, ◌+◌, ◌<◌, ◌≤◌, [], ◌∷◌, ◌++◌, None, IfOk, OnErr, OnOk};
 ghost use Rattle.api_types.specs.Consistent.{IsConsistent};
 ghost use Rattle.api_types.specs.Rows.{Fits, after};
-ghost use Rattle.plane_types.specs.Placed.{IsPlaced};
+ghost use Rattle.plane_types.specs.Attached.{IsAttached};
 ghost use Rattle.plane_types.specs.Realises.{Realises};
-ghost use Rattle.plane_types.specs.Node.{CanFollow, heard as heard_of, host_of, host_with, resynced, started, told, with_entries};
-ghost use Rattle.plane_types.specs.Wired.{wired as wired_by_rows};
+ghost use Rattle.plane_types.specs.Node.{CanFollow, hearing as heard_of, host_of, host_with, after_resync, first_node, after_change, with_entries};
+ghost use Rattle.plane_types.specs.TablesOfRows.{tables_of_rows as wired_by_rows};
 
 use crate::ready::ReadyNode;
 use api_types::{Change, Rows};
@@ -69,7 +71,7 @@ impl AgentNode {
         version: u64,
     ) -> Result<AgentNode, OutOfMemory>
         requires { IsConsistent rows.now }
-        ensures { IfOk result (λ n. n ≡ started host version rows.now n.spare) }
+        ensures { IfOk result (λ n. n ≡ first_node host version rows.now n.spare) }
     {
         let ReadyNode {
             name,
@@ -118,7 +120,7 @@ impl AgentNode {
     pub fn put(&mut self, ready: ReadyNode)
         requires name { ready.name ≡ self.old.name }
         requires tags { ready.old ≡ self.old.tables.tags }
-        ensures node { self.new ≡ resynced self.old ready.version ready.rows self.new.spare }
+        ensures node { self.new ≡ after_resync self.old ready.version ready.rows self.new.spare }
         ensures spare { self.old.spare ≤ self.new.spare }
     {
         let ReadyNode {
@@ -141,7 +143,7 @@ impl AgentNode {
     /// the entries.
     pub fn resync(&mut self, alloc: Global, version: u64, rows: &Rows) -> Result<(), OutOfMemory>
         requires { IsConsistent rows.now }
-        ensures node { OnOk result (self.new ≡ resynced self.old version rows.now self.new.spare) }
+        ensures node { OnOk result (self.new ≡ after_resync self.old version rows.now self.new.spare) }
         ensures spare { OnOk result (self.old.spare ≤ self.new.spare) }
         ensures same { OnErr result (self.new ≡ self.old) }
     {
@@ -192,7 +194,7 @@ impl AgentNode {
     ) -> Result<Heard, OutOfMemory>
         requires { CanFollow self.old number change.now }
         ensures heard { IfOk result (λ h. h ≡ heard_of number self.old.held) }
-        ensures node { OnOk result (self.new ≡ told self.old number change.now self.new.spare) }
+        ensures node { OnOk result (self.new ≡ after_change self.old number change.now self.new.spare) }
         ensures spare { OnOk result (self.old.spare ≤ self.new.spare) }
         ensures same { OnErr result (self.new ≡ self.old) }
     {
@@ -244,7 +246,7 @@ impl AgentNode {
     pub fn entries(&self) -> &Entries
         ensures items { result.now.items ≡ self.now.entries }
         ensures spare { result.now.spare ≡ self.now.spare }
-        ensures placed { IsPlaced (host_of self.now) }
+        ensures placed { IsAttached (host_of self.now) }
     {
         &self.entries
     }
@@ -275,7 +277,7 @@ impl AgentNode {
     /// Adds an entry at the end. It takes no memory.
     pub fn add(&mut self, entry: Entry)
         requires room { 0 < self.old.spare }
-        requires placed { IsPlaced (host_with self.old (self.old.entries ++ entry ∷ [])) }
+        requires placed { IsAttached (host_with self.old (self.old.entries ++ entry ∷ [])) }
         ensures node { self.new
             ≡ with_entries self.old (self.old.entries ++ entry ∷ []) self.new.spare }
         ensures spare { self.old.spare ≤ self.new.spare + 1 }

@@ -1,9 +1,11 @@
+//! What a resync will put in place: rows of a version with the tables made of them.
+
 ghost use Rattle.std.specs.Prelude.{◌≡◌, IfOk};
 ghost use Rattle.api_types.specs.Consistent.{IsConsistent};
-ghost use Rattle.plane_types.specs.Retagged.{AreTags};
-ghost use Rattle.plane_types.specs.Wired.{wired as wired_by_rows};
+ghost use Rattle.plane_types.specs.NewTags.{AreTags};
+ghost use Rattle.plane_types.specs.TablesOfRows.{tables_of_rows as wired_by_rows};
 
-use crate::wiring::wired;
+use crate::wiring::wire_tables;
 use api_types::Rows;
 use net_addr::{OutOfMemory, Text};
 use plane_types::{HostTables, Tags};
@@ -86,7 +88,7 @@ impl ReadyNode {
               old = old;
             }) }
     {
-        let tables = wired(alloc, &rows, &name, &old)?;
+        let tables = wire_tables(alloc, &rows, &name, &old)?;
         Ok(ReadyNode {
             name,
             version,

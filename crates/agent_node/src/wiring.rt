@@ -1,8 +1,10 @@
+//! The tables of a host, made of rows by its three agents.
+
 ghost use Rattle.std.specs.Prelude.{◌≡◌, IfOk};
 ghost use Rattle.api_types.specs.Consistent.{IsConsistent};
-ghost use Rattle.plane_types.specs.Retagged.{AreTags};
+ghost use Rattle.plane_types.specs.NewTags.{AreTags};
 ghost use Rattle.plane_types.specs.Realises.{Realises};
-ghost use Rattle.plane_types.specs.Wired.{wired as wired_by_rows};
+ghost use Rattle.plane_types.specs.TablesOfRows.{tables_of_rows as wired_by_rows};
 
 use api_types::Rows;
 use dhcp_agent::wire_leases;
@@ -13,7 +15,7 @@ use plane_types::{HostTables, Leases, TableLists, Tags};
 use std::alloc::Global;
 
 // The tables of three agents as the lists of those of their host.
-fn joined(l2: L2Tables, l3: L3Tables, leases: Leases) -> TableLists
+fn join_lists(l2: L2Tables, l3: L3Tables, leases: Leases) -> TableLists
     ensures { result
         ≡ record {
           tags = l2.tags;
@@ -46,8 +48,8 @@ fn joined(l2: L2Tables, l3: L3Tables, leases: Leases) -> TableLists
 
 /// The tables that a host makes of rows, where its tags were these. Its cost is that of
 /// `wire_ports`, `wire_routers` and `wire_leases`, and grows with what these make.
-#[tactic(auto, unfolding(plane_types::specs::Wired::wired))]
-pub(crate) fn wired(
+#[tactic(auto, unfolding(plane_types::specs::TablesOfRows::tables_of_rows))]
+pub(crate) fn wire_tables(
     alloc: Global,
     rows: &Rows,
     host: &Text,
@@ -61,5 +63,5 @@ pub(crate) fn wired(
     let l2 = wire_ports(alloc, rows, host, old)?;
     let l3 = wire_routers(alloc, rows, host, &l2.tags)?;
     let leases = wire_leases(alloc, rows, host, &l2.tags)?;
-    HostTables::make(alloc, joined(l2, l3, leases))
+    HostTables::make(alloc, join_lists(l2, l3, leases))
 }

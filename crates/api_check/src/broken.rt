@@ -1,3 +1,5 @@
+//! What is told of rows that aren't consistent, and the first row that breaks a clause.
+
 ghost use Rattle.std.specs.Prelude.{◌≡◌};
 ghost use Rattle.api_check.specs.Broken.{told_at};
 

@@ -1,3 +1,5 @@
+//! Clause 6: subnets that are reached together are disjoint.
+
 ghost use Rattle.std.specs.Prelude.{◌≡◌, not, position};
 ghost use Rattle.std.specs.List.{list_any};
 ghost use Rattle.api_types.specs.Consistent.Disjoint.{subnets_clash as clash_of_subnets, ports_clash as clash_of_ports};

@@ -1,3 +1,5 @@
+//! The first clause of consistency that rows break, in the order of the clauses.
+
 ghost use Rattle.std.specs.Prelude.{◌≡◌, ◌↔◌, None};
 ghost use Rattle.api_types.specs.Consistent.{IsConsistent};
 ghost use Rattle.api_types.specs.Consistent.Carried.{AreCarried};

@@ -1,3 +1,5 @@
+//! Clause 10: where floating addresses lead.
+
 ghost use Rattle.std.specs.Prelude.{◌≡◌, not, position};
 ghost use Rattle.api_types.specs.declared.kind.Kind.TheVariants.{Floating};
 ghost use Rattle.api_check.specs.Broken.{breaks};

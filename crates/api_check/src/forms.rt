@@ -1,3 +1,5 @@
+//! Clause 3: rows in form.
+
 ghost use Rattle.std.specs.Prelude.{◌≡◌, not, nat_le, length, position};
 ghost use Rattle.api_types.specs.Consistent.InForm.{is_segment as segment_formed, is_group_of as group_of_in};
 ghost use Rattle.api_types.specs.declared.kind.Kind.TheVariants.{Network, Subnet, Port, Rule, Router};

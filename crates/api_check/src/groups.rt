@@ -1,3 +1,5 @@
+//! Clause 11: groups and rules.
+
 ghost use Rattle.std.specs.Prelude.{◌≡◌, not, position};
 ghost use Rattle.api_types.specs.Rows.{project_id};
 ghost use Rattle.api_types.specs.declared.kind.Kind.TheVariants.{Project, Port, Rule};

@@ -1,3 +1,5 @@
+//! Clauses 4 and 5: addresses and MACs held once, and host addresses.
+
 ghost use Rattle.std.specs.Prelude.{◌≡◌, not, position};
 ghost use Rattle.std.specs.List.{list_all};
 ghost use Rattle.api_types.specs.Consistent.Hosts.{is_host_in as host_in};

@@ -1,3 +1,5 @@
+//! Clause 8: ports stand on hosts that can carry them.
+
 ghost use Rattle.std.specs.Prelude.{◌≡◌, ◌||◌, not, position};
 ghost use Rattle.std.specs.List.{list_all};
 ghost use Rattle.std.specs.Str.{bytes_eq};

@@ -1,3 +1,5 @@
+//! Clause 2: what a row names is there.
+
 ghost use Rattle.std.specs.Prelude.{◌≡◌, not, position};
 ghost use Rattle.api_types.specs.Consistent.Named.{is_registered as registered_in};
 ghost use Rattle.api_check_rows.specs.RowTests.{subnet_named as subnet_names, port_named as port_names, rule_named as rule_names, router_named as router_names, floating_named as floating_names, policy_named as policy_names};

@@ -1,3 +1,5 @@
+//! Clause 1: names, ordinals, counts and ids.
+
 ghost use Rattle.std.specs.Prelude.{◌≡◌, not, position};
 ghost use Rattle.api_check.specs.Broken.{first_place};
 ghost use Rattle.api_check_rows.specs.RowTests.{project_numbered, is_numbered as numbered_in};

@@ -1,3 +1,5 @@
+//! Clauses 12, 13 and 14: networks that may be used, and next hops that are reached.
+
 ghost use Rattle.std.specs.Prelude.{◌≡◌, not, position};
 ghost use Rattle.std.specs.List.{list_all};
 ghost use Rattle.api_types.specs.Sharing.{is_external_to as external_to};

@@ -1,3 +1,5 @@
+//! Clause 7: segments differ, and there are at most 4,000 networks.
+
 ghost use Rattle.std.specs.Prelude.{◌≡◌, not, position};
 ghost use Rattle.api_check.specs.Broken.{earlier as earlier_of};
 ghost use Rattle.api_check_rows.specs.RowTests.{segment_alone};

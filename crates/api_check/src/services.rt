@@ -1,3 +1,5 @@
+//! Clause 9: the ports of DHCP, routers and floating addresses.
+
 ghost use Rattle.std.specs.Prelude.{◌≡◌, not, position};
 ghost use Rattle.api_types.specs.declared.kind.Kind.TheVariants.{Network, Port, Router, Floating};
 ghost use Rattle.api_check.specs.Broken.{breaks};

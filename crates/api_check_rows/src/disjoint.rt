@@ -1,3 +1,5 @@
+//! Subnets, and ports of one router, that don't overlap.
+
 ghost use Rattle.std.specs.Prelude.{◌≡◌, ◌&&◌, not};
 ghost use Rattle.std.specs.List.{list_any};
 ghost use Rattle.net_addr.specs.Prefixes.{overlaps};

@@ -1,3 +1,5 @@
+//! Segments, subnets, ports and routers in form.
+
 ghost use Rattle.std.specs.Prelude.{◌≡◌, not, nat_le, length};
 ghost use Rattle.std.specs.List.{list_all};
 ghost use Rattle.api_types.specs.Lists.{if_some};

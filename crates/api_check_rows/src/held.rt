@@ -1,3 +1,5 @@
+//! MACs and addresses that nobody else holds, and that are host addresses.
+
 ghost use Rattle.std.specs.Prelude.{◌≡◌, ◌&&◌, nat_le};
 ghost use Rattle.std.specs.List.{list_all};
 ghost use Rattle.net_addr.specs.Addresses.{addr_eq};

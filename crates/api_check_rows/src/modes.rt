@@ -1,3 +1,5 @@
+//! The modes of subnets of version 6, and values of their version.
+
 ghost use Rattle.std.specs.Prelude.{◌≡◌, ◌&&◌, ◌||◌, is_none, not};
 ghost use Rattle.std.specs.List.{list_all};
 ghost use Rattle.net_addr.specs.Addresses.{is_v4, same_version};

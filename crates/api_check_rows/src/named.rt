@@ -1,3 +1,5 @@
+//! Rows, all of whose names lead to rows that are there.
+
 ghost use Rattle.std.specs.Prelude.{◌≡◌};
 ghost use Rattle.std.specs.List.{list_all};
 ghost use Rattle.api_types.specs.Lists.{if_some};

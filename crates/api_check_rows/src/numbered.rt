@@ -1,3 +1,5 @@
+//! Projects in their places, and ids that were drawn and are nobody else's.
+
 ghost use Rattle.std.specs.Prelude.{◌≡◌, ◌≤◌, ◌<◌, nat_le, length, count_by};
 ghost use Rattle.api_types.specs.Registration.{is_named};
 ghost use Rattle.api_types.specs.Lists.{times};

@@ -1,3 +1,5 @@
+//! Segments that no other network has.
+
 ghost use Rattle.std.specs.Prelude.{◌≡◌};
 ghost use Rattle.api_types.specs.Consistent.Segments.{same_segment as segments_meet};
 ghost use Rattle.api_check_rows.specs.RowTests.{segment_alone};

@@ -1,3 +1,5 @@
+//! Whether a row, or a project by its name, is there.
+
 ghost use Rattle.std.specs.Prelude.{◌≡◌};
 ghost use Rattle.api_types.specs.Lists.{stands};
 ghost use Rattle.api_types.specs.Consistent.Named.{is_registered as registered_in};

@@ -1,3 +1,5 @@
+//! Floating addresses that lead to a port by a router.
+
 ghost use Rattle.std.specs.Prelude.{◌≡◌, ◌&&◌};
 ghost use Rattle.std.specs.List.{list_any};
 ghost use Rattle.net_addr.specs.Addresses.{is_four};

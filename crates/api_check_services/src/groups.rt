@@ -1,3 +1,5 @@
+//! Security groups: default ones, those of ports, and rules that differ.
+
 ghost use Rattle.std.specs.Prelude.{◌≡◌};
 ghost use Rattle.std.specs.List.{list_any, list_all};
 ghost use Rattle.api_types.specs.Lists.{if_some};

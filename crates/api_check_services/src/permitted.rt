@@ -1,3 +1,5 @@
+//! What policies permit, and next hops that are reached.
+
 ghost use Rattle.std.specs.Prelude.{◌≡◌, ◌&&◌};
 ghost use Rattle.std.specs.List.{list_any, list_all};
 ghost use Rattle.net_addr.specs.Prefixes.{contains};

@@ -1,3 +1,5 @@
+//! Ports that networks, routers and floating addresses should have, and what these hold.
+
 ghost use Rattle.std.specs.Prelude.{◌≡◌, nat_le, count_by};
 ghost use Rattle.std.specs.List.{list_any, list_all};
 ghost use Rattle.api_types.specs.Lists.{stands_so, if_some};

@@ -1,3 +1,5 @@
+//! Whether a text is empty, as clauses have it.
+
 ghost use Rattle.std.specs.Prelude.{◌≡◌};
 ghost use Rattle.api_types.specs.Lists.{is_empty as is_empty_list};
 

@@ -1,3 +1,5 @@
+//! Which rows a caller sees: one trait, with its rule for each kind.
+
 ghost use Rattle.std.specs.Prelude.{◌≡◌, Bool};
 ghost use Rattle.api_types.specs.Lists.{stands_so};
 ghost use Rattle.api_types.specs.RowLists.{RowLists};

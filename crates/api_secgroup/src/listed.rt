@@ -1,3 +1,5 @@
+//! The prefixes of a group's members, ascending and each once.
+
 ghost use Rattle.std.specs.Prelude.{◌≡◌, ◌++◌, IfOk, OnOk, flat_map, map};
 ghost use Rattle.net_addr.specs.Ordered.{whole_prefix};
 ghost use Rattle.api_types.specs.declared.port.Fixed.{Fixed as TheFixed};

@@ -1,3 +1,5 @@
+//! Whether an address is a member's.
+
 ghost use Rattle.std.specs.Prelude.{◌≡◌};
 ghost use Rattle.api_types.specs.Members.{gives_member as gives_member_to, in_pairs as in_pairs_of, is_member as is_member_of};
 

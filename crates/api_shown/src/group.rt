@@ -1,3 +1,5 @@
+//! What is printed of security groups and rules.
+
 ghost use Rattle.std.specs.Prelude.{◌≡◌, IfOk, map, option_map};
 ghost use Rattle.api_types.specs.Printed.{tree_of};
 ghost use Rattle.api_policy.specs.Groups.{direction_word as word_of_direction, ethertype_word as word_of_ethertype, named_protocol, protocol_word, rule_members, rule_object, rules_of as rules_of_group};

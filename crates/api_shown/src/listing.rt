@@ -1,3 +1,5 @@
+//! Lists: what is shown of each row that is seen, behind the marker, by filters, to the limit.
+
 ghost use Rattle.std.specs.Prelude.{◌≡◌, ◌&&◌, IfOk, IsTrue, None, Some, drop, if◌then◌else◌, map, option_map};
 ghost use Rattle.std.specs.Result.{IfErr};
 ghost use Rattle.api_types.specs.Lists.{is_some_so};

@@ -1,3 +1,5 @@
+//! The trait of rows that are shown.
+
 ghost use Rattle.std.specs.Prelude.{◌≡◌, IfOk, map};
 ghost use Rattle.api_types.specs.Printed.{member_of};
 

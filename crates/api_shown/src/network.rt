@@ -1,3 +1,5 @@
+//! What is printed of networks.
+
 ghost use Rattle.std.specs.Prelude.{◌≡◌, IfOk, map};
 ghost use Rattle.api_types.specs.Printed.{tree_of};
 ghost use Rattle.api_policy.specs.Networks.{is_open as is_open_to_all, number_of, permits_all as permits_to_all, physical_of, subnets_of as subnets_of_network, type_word as word_of_type};

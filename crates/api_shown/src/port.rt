@@ -1,3 +1,5 @@
+//! What is printed of ports.
+
 ghost use Rattle.std.specs.Prelude.{◌≡◌, Bool};
 ghost use Rattle.api_types.specs.Live.{is_live as is_live_in};
 ghost use Rattle.api_policy.specs.Ports.{status_word, vif_word as word_of_vif};

@@ -1,3 +1,5 @@
+//! Values as printed values.
+
 ghost use Rattle.std.specs.Prelude.{◌≡◌, ◌++◌, ◌∷◌, [], IfOk, OnOk, map};
 ghost use Rattle.api_types.specs.Printed.{branches_of, items, member_of, object, tree_of, trees_of, word};
 

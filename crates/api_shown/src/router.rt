@@ -1,3 +1,5 @@
+//! What is printed of routers, floating addresses and policies.
+
 ghost use Rattle.std.specs.Prelude.{◌≡◌, IfOk};
 ghost use Rattle.api_types.specs.Printed.{tree_of};
 ghost use Rattle.api_policy.specs.Policies.{action_word as word_of_action};

@@ -1,3 +1,5 @@
+//! What a caller is shown of one row: what is for administrators, and which fields.
+
 ghost use Rattle.std.specs.Prelude.{◌≡◌, IfOk, IsTrue, Some, is_some, map, option_map};
 ghost use Rattle.std.specs.List.{list_any};
 ghost use Rattle.std.specs.Str.{bytes_eq};

@@ -1,3 +1,5 @@
+//! What is printed of subnets.
+
 ghost use Rattle.std.specs.Prelude.{◌≡◌};
 ghost use Rattle.api_policy.specs.Subnets.{mode_text as text_of_mode, version_number};
 

@@ -8,7 +8,8 @@ use Rattle.net_addr.specs.declared.address.Addr.TheVariants.{V4}
 use Rattle.api_types.specs.Ident.{Ident}
 use Rattle.api_types.specs.Owners.{device_is, is_dhcp_of}
 use Rattle.api_types.specs.RowLists.{RowLists}
-use Rattle.api_types.specs.Table.{ident_eq, row_of}
+use Rattle.api_types.specs.RowsWith.{port_with, router_with}
+use Rattle.api_types.specs.Table.{ident_eq}
 use Rattle.api_types.specs.declared.floating.FloatingRow.{FloatingRow}
 use Rattle.api_types.specs.declared.floating.Target.{Target}
 use Rattle.api_types.specs.declared.port.Fixed.{Fixed}
@@ -33,17 +34,14 @@ holds_live rows n x q = ident_eq n q.network && holds q x && is_live rows q
 
 abbrev pub gateway_port_of : RowLists → Option Gateway → Option PortRow
 gateway_port_of rows None = None
-gateway_port_of rows (Some g) = row_of (λ (p : PortRow). p.id) g.port rows.ports
+gateway_port_of rows (Some g) = port_with rows g.port
 
 abbrev pub gateway_port : RowLists → RouterRow → Option PortRow
 gateway_port rows r = gateway_port_of rows r.gateway
 
-abbrev pub router_named : RowLists → Ident → Option RouterRow
-router_named rows i = row_of (λ (r : RouterRow). r.id) i rows.routers
-
 abbrev pub target_router : RowLists → Option Target → Option RouterRow
 target_router rows None = None
-target_router rows (Some t) = router_named rows t.router
+target_router rows (Some t) = router_with rows t.router
 
 abbrev pub live_on : RowLists → Ident → Option PortRow → Option PortRow
 live_on rows n None = None

@@ -6,14 +6,11 @@ use Rattle.net_addr.specs.Words.{Text}
 use Rattle.api_types.specs.Consistent.Carried.{is_bound}
 use Rattle.api_types.specs.Ident.{Ident}
 use Rattle.api_types.specs.RowLists.{RowLists}
-use Rattle.api_types.specs.Table.{row_of}
+use Rattle.api_types.specs.RowsWith.{network_with}
 use Rattle.api_types.specs.declared.network.NetworkRow.{NetworkRow}
 use Rattle.api_types.specs.declared.network.Segment.{Segment}
 use Rattle.api_types.specs.declared.network.Segment.TheVariants.{Flat, Local, Vlan, Vxlan}
 use Rattle.api_types.specs.declared.port.PortRow.{PortRow}
-
-abbrev pub network_of : RowLists → Ident → Option NetworkRow
-network_of rows i = row_of (λ (n : NetworkRow). n.id) i rows.networks
 
 abbrev pub network_up : Option NetworkRow → Bool
 network_up None = false
@@ -21,14 +18,14 @@ network_up (Some n) = n.up
 
 -- port and network are up, and Open vSwitch carries the port
 unfoldable pub is_live : RowLists → PortRow → Bool
-is_live rows p = p.up && is_bound p.vif && network_up (network_of rows p.network)
+is_live rows p = p.up && is_bound p.vif && network_up (network_with rows p.network)
 
 abbrev pub segment_of : Option NetworkRow → Segment
 segment_of None = Local
 segment_of (Some n) = n.segment
 
 unfoldable pub segment : RowLists → Ident → Segment
-segment rows n = segment_of (network_of rows n)
+segment rows n = segment_of (network_with rows n)
 
 abbrev pub is_local : Segment → Bool
 is_local Local = true

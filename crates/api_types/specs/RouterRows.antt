@@ -9,7 +9,8 @@ use Rattle.net_addr.specs.Prefixes.{Prefix, contains}
 use Rattle.api_types.specs.Ident.{Ident}
 use Rattle.api_types.specs.Owners.{holds_in, is_interface, is_port_of}
 use Rattle.api_types.specs.RowLists.{RowLists}
-use Rattle.api_types.specs.Table.{ident_eq, row_of}
+use Rattle.api_types.specs.RowsWith.{subnet_with}
+use Rattle.api_types.specs.Table.{ident_eq}
 use Rattle.api_types.specs.declared.floating.FloatingRow.{FloatingRow}
 use Rattle.api_types.specs.declared.floating.Target.{Target}
 use Rattle.api_types.specs.declared.port.Fixed.{Fixed}
@@ -34,9 +35,6 @@ legs_of rows r = filter (is_leg_of rows r) rows.ports
 abbrev pub leg_of : PortRow → Leg
 leg_of p = record { port = p.id; mac = p.mac; addresses = map (λ (f : Fixed). f.address) p.fixed; inside = is_interface p.owner }
 
-abbrev pub subnet_named : RowLists → Ident → Option SubnetRow
-subnet_named rows i = row_of (λ (s : SubnetRow). s.id) i rows.subnets
-
 -- a route that leaves by the port of a subnet, the first of these
 abbrev pub way_by : List PortRow → Ident → Prefix → RouteRank → Option Addr → Option Way
 way_by legs subnet prefix rank next = option_map (λ (p : PortRow). record { prefix = prefix; rank = rank; next = next; port = p.id }) (find (holds_in subnet) legs)
@@ -50,7 +48,7 @@ connected_by legs None = None
 connected_by legs (Some s) = way_by legs s.id s.prefix Connected None
 
 unfoldable pub connected_ways : RowLists → List PortRow → List Way
-connected_ways rows legs = flat_map (λ (p : PortRow). filter_map (λ (f : Fixed). connected_by legs (subnet_named rows f.subnet)) (ascending by_address p.fixed)) legs
+connected_ways rows legs = flat_map (λ (p : PortRow). filter_map (λ (f : Fixed). connected_by legs (subnet_with rows f.subnet)) (ascending by_address p.fixed)) legs
 
 -- extra: each route whose next hop lies in the subnet of an address of one of these ports
 abbrev pub holds_next : RowLists → Addr → Fixed → Bool
@@ -70,7 +68,7 @@ default_by legs (Some s) = filter_map (λ (g : Addr). way_by legs s.id (record {
 
 abbrev pub default_of : RowLists → List PortRow → Option PortRow → List Way
 default_of rows legs None = []
-default_of rows legs (Some p) = if is_live rows p then flat_map (λ (f : Fixed). default_by legs (subnet_named rows f.subnet)) (ascending by_address p.fixed) else []
+default_of rows legs (Some p) = if is_live rows p then flat_map (λ (f : Fixed). default_by legs (subnet_with rows f.subnet)) (ascending by_address p.fixed) else []
 
 unfoldable pub ways_of : RowLists → RouterRow → List Way
 ways_of rows r = connected_ways rows (legs_of rows r) ++ extra_ways rows (legs_of rows r) r.routes ++ default_of rows (legs_of rows r) (gateway_port rows r)

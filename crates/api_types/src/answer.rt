@@ -1,3 +1,5 @@
+//! Printed values, what is shown of rows, and answers to calls.
+
 use crate::kind::Kind;
 use net_addr::{Seq, Text};
 

@@ -1,3 +1,5 @@
+//! Calls of the Networking API, who makes them, and what a list is asked.
+
 use crate::form::Form;
 use crate::id::Id;
 use crate::kind::Kind;

@@ -1,3 +1,5 @@
+//! A change: items, each of which makes, changes or takes out one row.
+
 use crate::kind::{Kind, Row};
 use net_addr::Seq;
 

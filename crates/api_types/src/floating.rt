@@ -1,3 +1,5 @@
+//! Floating addresses, and where they lead.
+
 ghost use Rattle.std.specs.Prelude.{◌≡◌};
 
 use crate::id::Id;

@@ -1,3 +1,5 @@
+//! What bodies give of each kind: an attribute is absent, null or a value.
+
 use crate::group::{Direction, Ethertype};
 use crate::id::Id;
 use crate::policy::Action;

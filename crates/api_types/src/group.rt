@@ -1,3 +1,5 @@
+//! Security groups and their rules.
+
 ghost use Rattle.std.specs.Prelude.{◌≡◌};
 
 use crate::id::Id;

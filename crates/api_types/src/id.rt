@@ -1,3 +1,5 @@
+//! Ids: UUIDs of version 8 with a project's ordinal and a count.
+
 ghost use Rattle.std.specs.Prelude.{◌≡◌, ◌<◌, ◌^◌, ℕ, IfOk, IfNone, IfSome};
 ghost use Rattle.api_types.specs.Ident.{Ident, ident_text, uuid_bytes, IsDrawable, Spells};
 

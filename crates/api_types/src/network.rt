@@ -1,3 +1,5 @@
+//! Networks and their segments.
+
 ghost use Rattle.std.specs.Prelude.{◌≡◌};
 
 use crate::id::Id;

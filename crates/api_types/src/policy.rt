@@ -1,3 +1,5 @@
+//! RBAC policies.
+
 ghost use Rattle.std.specs.Prelude.{◌≡◌};
 
 use crate::id::Id;

@@ -1,3 +1,5 @@
+//! Ports: the addresses that they hold, allowed pairs, and how they are bound.
+
 ghost use Rattle.std.specs.Prelude.{◌≡◌};
 
 use crate::id::Id;

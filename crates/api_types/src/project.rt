@@ -1,3 +1,5 @@
+//! Projects: their ordinals, and how many ids were drawn for them.
+
 ghost use Rattle.std.specs.Prelude.{◌≡◌};
 ghost use Rattle.api_types.specs.Ident.{Ident};
 

@@ -1,3 +1,5 @@
+//! Why a request is refused, with all that its message says.
+
 ghost use Rattle.std.specs.Prelude.{◌≡◌};
 ghost use Rattle.api_types.specs.declared.refusal.Refusal.TheVariants.{OutOfMemory as MemoryRefusal};
 

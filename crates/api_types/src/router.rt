@@ -1,3 +1,5 @@
+//! Routers and their gateways.
+
 ghost use Rattle.std.specs.Prelude.{◌≡◌};
 
 use crate::id::Id;

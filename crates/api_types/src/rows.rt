@@ -1,3 +1,5 @@
+//! The rows of all kinds: nine shared tables, and changes put in and undone.
+
 ghost use Rattle.std.specs.Prelude.{◌≡◌, [], ◌∷◌, ◌++◌, if◌then◌else◌, OnOk, OnErr, IfOk};
 ghost use Rattle.api_types.specs.Table.{is_new};
 ghost use Rattle.api_types.specs.RowLists.{RowLists};

@@ -1,3 +1,5 @@
+//! A value with several owners, seen as the value.
+
 ghost use Rattle.std.specs.Prelude.{◌≡◌, IfOk, IfSome};
 
 use crate::id::Id;

@@ -1,3 +1,5 @@
+//! Subnets, host routes, and the modes of version 6.
+
 ghost use Rattle.std.specs.Prelude.{◌≡◌};
 
 use crate::id::Id;

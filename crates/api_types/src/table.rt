@@ -1,3 +1,5 @@
+//! The rows of one kind, found by id and seen as a list in order of creation.
+
 ghost use Rattle.std.specs.Prelude.{◌≡◌, ◌<◌, ◌≤◌, None, [], ◌∷◌, ◌++◌, length, slice_get, slice_set, insert, remove, option_copied, IfOk, OnOk, OnErr};
 ghost use Rattle.api_types.specs.Ident.{Ident};
 ghost use Rattle.api_types.specs.Table.{row_of, HaveOwnIds};

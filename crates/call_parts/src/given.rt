@@ -1,3 +1,5 @@
+//! What a form gives: values, defaults, and the owner of a new row.
+
 ghost use Rattle.std.specs.Prelude.{◌≡◌, IfOk};
 ghost use Rattle.api_types.specs.Given.{are_unlike as are_unlike_of, is_for_other as is_for_other_of, is_given as is_given_of, is_other as is_other_of, owner_of, value_of as value_of_of, value_or as value_or_of};
 

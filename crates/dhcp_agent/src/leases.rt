@@ -1,3 +1,5 @@
+//! The table of leases of a host.
+
 ghost use Rattle.std.specs.Prelude.{◌≡◌, IfOk, Some};
 ghost use Rattle.plane_types.specs.TableRows.{lease_row as lease_row_of, lease_row_by as lease_row_from, lease_rows as lease_rows_of};
 

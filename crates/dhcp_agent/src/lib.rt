@@ -3,7 +3,7 @@
 //! `wire_leases` makes the table from which a host answers DHCP: a row for each live port on a
 //! network whose live DHCP port is bound to that host. The table is the list that `plane_types`
 //! defines, for the tags that the host gives to networks. It stands on `plane_rows` for what frames
-//! ask of rows. Want of memory is its only refusal.
+//! ask of rows. Running out of memory is its only refusal.
 #![tactic(auto)]
 
 mod leases;

@@ -21,7 +21,7 @@ use std::marker::Model;
 #[derive(Drop)]
 pub(crate) struct Served<'r> {
     rows: &'r Rows,
-    places: HashMap<Id, usize>,
+    indices: HashMap<Id, usize>,
 }
 
 impl<'r> Model for Served<'r> {
@@ -39,7 +39,7 @@ impl<'r> Model for Served<'r> {
     ghost view = { λ s. s.rows.now };
 
     ghost invariant = { λ s. (n : Ident)
-        → option_and_then (slice_get s.rows.now.ports) (get ident_eq s.places n)
+        → option_and_then (slice_get s.rows.now.ports) (get ident_eq s.indices n)
         ≡ dhcp_port s.rows.now n };
 }
 
@@ -51,7 +51,7 @@ fn is_serving(rows: &Rows, port: &PortRow) -> bool
 }
 
 // From the last to the first, so that the place of the first live DHCP port of a network stays.
-fn places_of(
+fn indices_of(
     alloc: Global,
     rows: &Rows,
     ports: &[Shared<PortRow>],
@@ -61,16 +61,16 @@ fn places_of(
         → option_and_then (slice_get ports.now) (get ident_eq m n)
         ≡ find (is_live_dhcp_of rows.now n) ports.now) }
 {
-    let mut places = HashMap::new(alloc);
+    let mut indices = HashMap::new(alloc);
     let mut left = ports.len();
     while left > 0 {
         left -= 1;
         let port = ports[left].get();
         if is_serving(rows, port) {
-            places.insert(port.network, left)?;
+            indices.insert(port.network, left)?;
         }
     }
-    Ok(places)
+    Ok(indices)
 }
 
 impl<'r> Served<'r> {
@@ -80,7 +80,7 @@ impl<'r> Served<'r> {
     {
         Ok(Served {
             rows,
-            places: places_of(alloc, rows, rows.ports().rows())?,
+            indices: indices_of(alloc, rows, rows.ports().rows())?,
         })
     }
 
@@ -95,7 +95,7 @@ impl<'r> Served<'r> {
     pub(crate) fn dhcp_port(&self, network: Id) -> Option<&'r PortRow>
         ensures { option_copied result ≡ dhcp_by_rows self.now network }
     {
-        let place = self.places.get(&network).copied()?;
+        let place = self.indices.get(&network).copied()?;
         match self.rows.ports().rows().get(place) {
             Some(port) => Some(port.get()),
             None => None,

@@ -6,7 +6,7 @@ use Rattle.std.proofs.lemmas.Option.{get_or_from_slice_get, none-some, same_Some
 use Rattle.api_types.proofs.NameLemmas.{bytes_itself}
 use Rattle.plane_laws.proofs.Facts.{AtMostOne}
 use Rattle.plane_types.specs.Hosts.{Host, is_named}
-use Rattle.plane_types.specs.Told.{place_among}
+use Rattle.plane_types.specs.Verdicts.{index_among}
 use Rattle.plane_types.specs.declared.entry.Entry.{Entry}
 use Rattle.plane_types.specs.declared.lists.TableLists.{TableLists}
 
@@ -55,14 +55,14 @@ host_there (h ∷ hosts) zero n t es a b c =
 host_there (h ∷ hosts) (suc i) n t es a b c = host_there hosts i n t es a b c
 
 -- where names differ, the place of a host's name is the host's place
-pub place_of : (hosts : List Host) → ((name : List ℕ) → AtMostOne (is_named name) hosts) → (at : ℕ) (h : Host) → slice_get hosts at ≡ Some h → place_among h.name hosts ≡ Some at
+pub place_of : (hosts : List Host) → ((name : List ℕ) → AtMostOne (is_named name) hosts) → (at : ℕ) (h : Host) → slice_get hosts at ≡ Some h → index_among h.name hosts ≡ Some at
 place_of [] names at h here = absurd (none-some h here)
 place_of (x ∷ xs) names zero h here =
     let same : x ≡ h = same_Some x h here in
-    ap (λ b. if b then Some zero else option_map suc (place_among h.name xs)) (subst (λ (y : Host). is_named h.name y ≡ true) (sym same) (bytes_itself h.name))
+    ap (λ b. if b then Some zero else option_map suc (index_among h.name xs)) (subst (λ (y : Host). is_named h.name y ≡ true) (sym same) (bytes_itself h.name))
 place_of (x ∷ xs) names (suc k) h here = go (is_named h.name x) refl (place_of xs (λ n. (names n).1) k h here)
   where
-    go : (b : Bool) → is_named h.name x ≡ b → place_among h.name xs ≡ Some k → (if b then Some zero else option_map suc (place_among h.name xs)) ≡ Some (suc k)
+    go : (b : Bool) → is_named h.name x ≡ b → index_among h.name xs ≡ Some k → (if b then Some zero else option_map suc (index_among h.name xs)) ≡ Some (suc k)
     go true e rest = absurd (not_none (is_named h.name) xs k h here (bytes_itself h.name) ((names h.name).0 e))
     go false e rest = ap (option_map suc) rest
 

@@ -1,4 +1,4 @@
 mod FleetLemmas
 mod TellsLemmas
-mod TurnLemmas
+mod PositionLemmas
 mod WalkLemmas

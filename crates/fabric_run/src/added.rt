@@ -1,8 +1,10 @@
+//! What a look-up adds to a run: network, router and trail.
+
 ghost use Rattle.std.specs.Prelude.{◌≡◌, ◌++◌, ℕ, map, option_copied, option_to_list};
 ghost use Rattle.plane_types.specs.Fabric.{inward_trail, next_path, path_at, place_trail, sent_path, step_path};
-ghost use Rattle.plane_types.specs.Places.{place_seen};
-ghost use Rattle.host_plane.specs.Seen.{step_seen};
-ghost use Rattle.fabric_run.specs.Seen.{host_seen};
+ghost use Rattle.plane_types.specs.Places.{view_of_place};
+ghost use Rattle.host_plane.specs.Views.{view_of_step};
+ghost use Rattle.fabric_run.specs.Views.{view_of_host};
 
 use crate::fleet::HostAt;
 use crate::run::Added;
@@ -12,7 +14,7 @@ use plane_types::{InwardRow, Place};
 
 /// The network of a tag.
 pub(crate) fn network_at(host: &HostAt<'_>, tag: u16) -> Option<Id>
-    ensures { option_to_list result ≡ path_at (host_seen host.now) tag }
+    ensures { option_to_list result ≡ path_at (view_of_host host.now) tag }
 {
     match host.tables.tag_row(tag) {
         Some(row) => Some(row.network),
@@ -21,7 +23,7 @@ pub(crate) fn network_at(host: &HostAt<'_>, tag: u16) -> Option<Id>
 }
 
 fn next_network(host: &HostAt<'_>, place: &Place<'_>) -> Option<Id>
-    ensures { option_to_list result ≡ next_path (host_seen host.now) (place_seen place.now) }
+    ensures { option_to_list result ≡ next_path (view_of_host host.now) (view_of_place place.now) }
 {
     match place {
         Place::Bridge { tag, .. } => network_at(host, *tag),
@@ -36,7 +38,7 @@ fn next_network(host: &HostAt<'_>, place: &Place<'_>) -> Option<Id>
 
 fn inward_tag(host: &HostAt<'_>, found: Option<&InwardRow>) -> Option<u16>
     ensures { map (λ (tag : ℕ). (host.now.name.now, tag)) (option_to_list result)
-        ≡ inward_trail (host_seen host.now) (option_copied found.entry) }
+        ≡ inward_trail (view_of_host host.now) (option_copied found.entry) }
 {
     match found {
         Some(row) => Some(row.tag),
@@ -47,7 +49,7 @@ fn inward_tag(host: &HostAt<'_>, found: Option<&InwardRow>) -> Option<u16>
 // The tag under which a frame is at a bridge, or by which a tunnel or wire leads to one.
 fn tag_at(host: &HostAt<'_>, place: &Place<'_>) -> Option<u16>
     ensures { map (λ (tag : ℕ). (host.now.name.now, tag)) (option_to_list result)
-        ≡ place_trail (host_seen host.now) (place_seen place.now) }
+        ≡ place_trail (view_of_host host.now) (view_of_place place.now) }
 {
     match place {
         Place::Bridge { tag, .. } => Some(*tag),
@@ -64,9 +66,9 @@ fn tag_at(host: &HostAt<'_>, place: &Place<'_>) -> Option<u16>
 }
 
 // What a router adds by a step: itself and the network of the way out, where it sent the packet on.
-fn sent(host: &HostAt<'_>, router: Id, step: &Step<'_>) -> (Option<Id>, Option<Id>)
+fn router_path(host: &HostAt<'_>, router: Id, step: &Step<'_>) -> (Option<Id>, Option<Id>)
     ensures { option_to_list result.0 ++ option_to_list result.1
-        ≡ sent_path (host_seen host.now) router (step_seen step.now) }
+        ≡ sent_path (view_of_host host.now) router (view_of_step step.now) }
 {
     match step {
         Step::Next(next) => (Some(router), next_network(host, next)),
@@ -78,12 +80,12 @@ fn sent(host: &HostAt<'_>, router: Id, step: &Step<'_>) -> (Option<Id>, Option<I
     }
 }
 
-fn passed(host: &HostAt<'_>, place: &Place<'_>, step: &Step<'_>) -> (Option<Id>, Option<Id>)
+fn path_added(host: &HostAt<'_>, place: &Place<'_>, step: &Step<'_>) -> (Option<Id>, Option<Id>)
     ensures { option_to_list result.0 ++ option_to_list result.1
-        ≡ step_path (host_seen host.now) (place_seen place.now) (step_seen step.now) }
+        ≡ step_path (view_of_host host.now) (view_of_place place.now) (view_of_step step.now) }
 {
     match place {
-        Place::RouterIn { router, .. } => sent(host, *router, step),
+        Place::RouterIn { router, .. } => router_path(host, *router, step),
         Place::TapIn { .. }
         | Place::Bridge { .. }
         | Place::TunnelIn { .. }
@@ -96,11 +98,11 @@ fn passed(host: &HostAt<'_>, place: &Place<'_>, step: &Step<'_>) -> (Option<Id>,
 /// What a look-up at a place of a host adds.
 pub(crate) fn added_by(host: &HostAt<'_>, place: &Place<'_>, step: &Step<'_>) -> Added
     ensures path { option_to_list result.router ++ option_to_list result.network
-        ≡ step_path (host_seen host.now) (place_seen place.now) (step_seen step.now) }
+        ≡ step_path (view_of_host host.now) (view_of_place place.now) (view_of_step step.now) }
     ensures trail { map (λ (tag : ℕ). (host.now.name.now, tag)) (option_to_list result.tag)
-        ≡ place_trail (host_seen host.now) (place_seen place.now) }
+        ≡ place_trail (view_of_host host.now) (view_of_place place.now) }
 {
-    let (router, network) = passed(host, place, step);
+    let (router, network) = path_added(host, place, step);
     Added {
         router,
         network,

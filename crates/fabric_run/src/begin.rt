@@ -1,26 +1,28 @@
+//! An event from its first host to its verdict.
+
 ghost use Rattle.std.specs.Prelude.{◌≡◌, ◌<◌, ◌≤◌, ℕ, IfOk, List, None, count_by, option_to_list, suc};
-ghost use Rattle.plane_types.specs.Fabric.{at_inward, at_tap, begun as begun_with, fabric_fate, steps_for as steps_for_life, walk};
+ghost use Rattle.plane_types.specs.Fabric.{at_inward, at_tap, run_from as begun_with, fabric_fate, steps_for as steps_for_life, walk};
 ghost use Rattle.plane_types.specs.Hosts.{Host, is_named};
 ghost use Rattle.plane_types.specs.Meaning.{life_of};
-ghost use Rattle.plane_types.specs.Told.{fabric_verdict};
+ghost use Rattle.plane_types.specs.Verdicts.{fabric_verdict};
 ghost use Rattle.plane_types.specs.TableStep.{inward_at as inward_by, tap_at as tap_by_port};
 ghost use Rattle.plane_types.specs.declared.event.Event.TheVariants.{FromPort, FromWire};
 ghost use Rattle.plane_types.specs.declared.table.Carrier.TheVariants.{Wire as ByWire};
-ghost use Rattle.host_plane.specs.Seen.{outcome_of as outcome_seen, step_seen};
+ghost use Rattle.host_plane.specs.Views.{outcome_of as outcome_seen, view_of_step};
 ghost use Rattle.plane_types.specs.Places.{End};
 ghost use Rattle.plane_types.specs.declared.verdict.Outcome.TheVariants.{Dropped};
-ghost use Rattle.fabric_run.specs.Seen.{IsWithin, ended_by, host_seen, looks_of, start_path, turned};
+ghost use Rattle.fabric_run.specs.Views.{IsWithin, ended_by, view_of_host, looks_of, start_path, position_fate};
 
 use crate::added::network_at;
 use crate::fleet::{Fleet, HostAt, host_at};
+use crate::position::Position;
 use crate::run::Run;
 use crate::taker::{Sought, first, taker};
 use crate::trip::travel;
-use crate::turn::Turn;
 use api_types::Id;
-use host_plane::{Ended, Ending, Step};
+use host_plane::{Ending, FrameEnd, Step};
 use net_addr::{Copies, OutOfMemory, Text};
-use plane_types::{AskAnswer, DropCause, Event, Frame, Outcome, Place, Verdict, is_unsupported};
+use plane_types::{AskAnswer, DropCause, Event, Frame, Outcome, Place, Verdict};
 use std::alloc::Global;
 
 // How many look-ups an event may have: three for each router that its packet may pass, and three to
@@ -38,7 +40,7 @@ fn steps_for(frame: &Frame) -> u16
 
 fn network_of_tap(host: &HostAt<'_>, port: Id) -> Option<Id>
     ensures { option_to_list result
-        ≡ at_tap (host_seen host.now) (tap_by_port host.now.tables.now.lists port) }
+        ≡ at_tap (view_of_host host.now) (tap_by_port host.now.tables.now.lists port) }
 {
     match host.tables.tap_at(port) {
         Some(tap) => network_at(host, tap.tag),
@@ -48,7 +50,7 @@ fn network_of_tap(host: &HostAt<'_>, port: Id) -> Option<Id>
 
 fn network_of_wire(host: &HostAt<'_>, physical: &Text, tag: Option<u16>) -> Option<Id>
     ensures { option_to_list result
-        ≡ at_inward (host_seen host.now)
+        ≡ at_inward (view_of_host host.now)
         (inward_by host.now.tables.now.lists
         (ByWire (record { physical = physical.now; tag = tag }))) }
 {
@@ -58,35 +60,35 @@ fn network_of_wire(host: &HostAt<'_>, physical: &Text, tag: Option<u16>) -> Opti
     }
 }
 
-fn dropped<'f>(cause: DropCause) -> Turn<'f>
-    ensures { step_seen result.step ≡ End (Dropped cause) None }
+fn drop_at_start<'f>(cause: DropCause) -> Position<'f>
+    ensures { view_of_step result.step ≡ End (Dropped cause) None }
 {
-    Turn {
+    Position {
         at: 0,
         step: Step::End(Ending {
-            ended: Ended::Dropped(cause),
+            ended: FrameEnd::Dropped(cause),
             way: None,
         }),
     }
 }
 
 // An event from a port begins at the first host with a tap of it.
-fn from_port<'f, F: Fleet>(fleet: &'f F, port: Id, frame: &Frame) -> Turn<'f>
+fn from_port<'f, F: Fleet>(fleet: &'f F, port: Id, frame: &Frame) -> Position<'f>
     ensures within { IsWithin (F.hosts fleet.now) result }
-    ensures begun { turned (F.hosts fleet.now)
+    ensures begun { position_fate (F.hosts fleet.now)
         (walk (F.hosts fleet.now) (suc (steps_for_life (life_of frame.now)))) result
         (begun_with (start_path (F.hosts fleet.now) result))
         ≡ fabric_fate (F.hosts fleet.now) (FromPort port frame.now) }
 {
     match first(fleet, &Sought::WithTap(port)) {
-        Some(at) => Turn {
+        Some(at) => Position {
             at,
             step: Step::Next(Place::TapIn {
                 port,
                 frame: *frame,
             }),
         },
-        None => dropped(DropCause::Dead),
+        None => drop_at_start(DropCause::Dead),
     }
 }
 
@@ -96,18 +98,18 @@ fn from_wire<'f, F: Fleet>(
     physical: &'f Text,
     tag: Option<u16>,
     frame: &Frame,
-) -> Turn<'f>
+) -> Position<'f>
     ensures within { IsWithin (F.hosts fleet.now) result }
-    ensures begun { turned (F.hosts fleet.now)
+    ensures begun { position_fate (F.hosts fleet.now)
         (walk (F.hosts fleet.now) (steps_for_life (life_of frame.now))) result
         (begun_with (start_path (F.hosts fleet.now) result))
         ≡ fabric_fate (F.hosts fleet.now) (FromWire physical.now tag frame.now) }
 {
-    if is_unsupported(frame) {
-        return dropped(DropCause::Unsupported);
+    if frame.is_unsupported() {
+        return drop_at_start(DropCause::Unsupported);
     }
     match taker(fleet, None, physical, tag, frame) {
-        Some(at) => Turn {
+        Some(at) => Position {
             at,
             step: Step::Next(Place::WireIn {
                 physical,
@@ -115,40 +117,43 @@ fn from_wire<'f, F: Fleet>(
                 frame: *frame,
             }),
         },
-        None => dropped(DropCause::Unknown),
+        None => drop_at_start(DropCause::Unknown),
     }
 }
 
 // The network on which an event begins.
-fn start_network<F: Fleet>(fleet: &F, turn: &Turn<'_>) -> Option<Id>
-    requires { IsWithin (F.hosts fleet.now) turn.now }
-    ensures { option_to_list result ≡ start_path (F.hosts fleet.now) turn.now }
+fn start_network<F: Fleet>(fleet: &F, position: &Position<'_>) -> Option<Id>
+    requires { IsWithin (F.hosts fleet.now) position.now }
+    ensures { option_to_list result ≡ start_path (F.hosts fleet.now) position.now }
 {
-    match &turn.step {
-        Step::Next(Place::TapIn { port, .. }) => network_of_tap(&host_at(fleet, turn.at), *port),
+    match &position.step {
+        Step::Next(Place::TapIn { port, .. }) => network_of_tap(
+            &host_at(fleet, position.at),
+            *port,
+        ),
         Step::Next(Place::WireIn { physical, tag, .. }) => {
-            network_of_wire(&host_at(fleet, turn.at), physical, *tag)
+            network_of_wire(&host_at(fleet, position.at), physical, *tag)
         }
         _ => None,
     }
 }
 
 // The outcome that an end stands for.
-fn outcome_of(alloc: Global, ended: &Ended<'_>) -> Result<Outcome, OutOfMemory>
+fn outcome_of(alloc: Global, ended: &FrameEnd<'_>) -> Result<Outcome, OutOfMemory>
     ensures { IfOk result (λ o. o ≡ outcome_seen ended.now) }
 {
     match ended {
-        Ended::Delivered { port, frame } => Ok(Outcome::Delivered {
+        FrameEnd::Delivered { port, frame } => Ok(Outcome::Delivered {
             port: *port,
             frame: *frame,
         }),
-        Ended::Address { address, mac } => Ok(Outcome::Answered(AskAnswer::Arp {
+        FrameEnd::Address { address, mac } => Ok(Outcome::Answered(AskAnswer::Arp {
             address: *address,
             mac: *mac,
         })),
-        Ended::Lease(lease) => Ok(Outcome::Answered(AskAnswer::Lease(lease.copy(alloc)?))),
-        Ended::Absorbed { router } => Ok(Outcome::Absorbed { router: *router }),
-        Ended::Out {
+        FrameEnd::Lease(lease) => Ok(Outcome::Answered(AskAnswer::Lease(lease.copy(alloc)?))),
+        FrameEnd::Absorbed { router } => Ok(Outcome::Absorbed { router: *router }),
+        FrameEnd::Out {
             network,
             toward,
             frame,
@@ -157,15 +162,15 @@ fn outcome_of(alloc: Global, ended: &Ended<'_>) -> Result<Outcome, OutOfMemory>
             toward: *toward,
             frame: *frame,
         }),
-        Ended::Dropped(cause) => Ok(Outcome::Dropped(*cause)),
+        FrameEnd::Dropped(cause) => Ok(Outcome::Dropped(*cause)),
     }
 }
 
 // An event that has no look-up left is dropped.
-fn end_of(alloc: Global, turn: &Turn<'_>) -> Result<Outcome, OutOfMemory>
-    ensures { IfOk result (λ o. o ≡ ended_by turn.now) }
+fn end_of(alloc: Global, position: &Position<'_>) -> Result<Outcome, OutOfMemory>
+    ensures { IfOk result (λ o. o ≡ ended_by position.now) }
 {
-    match &turn.step {
+    match &position.step {
         Step::End(ending) => outcome_of(alloc, &ending.ended),
         Step::Next(_) | Step::ToTunnel { .. } | Step::ToWire { .. } => {
             Ok(Outcome::Dropped(DropCause::Unknown))
@@ -174,17 +179,17 @@ fn end_of(alloc: Global, turn: &Turn<'_>) -> Result<Outcome, OutOfMemory>
 }
 
 // The verdict at the end of a run.
-fn told(alloc: Global, turn: &Turn<'_>, run: Run) -> Result<Verdict, OutOfMemory>
+fn verdict_of(alloc: Global, position: &Position<'_>, run: Run) -> Result<Verdict, OutOfMemory>
     ensures { IfOk result
         (λ v. v
         ≡ record {
-          outcome = ended_by turn.now;
+          outcome = ended_by position.now;
           path = run.path;
           fresh = run.made;
           trail = run.trail;
         }) }
 {
-    let outcome = end_of(alloc, turn)?;
+    let outcome = end_of(alloc, position)?;
     let Run {
         path,
         fresh: _,
@@ -200,9 +205,9 @@ fn told(alloc: Global, turn: &Turn<'_>, run: Run) -> Result<Verdict, OutOfMemory
 }
 
 // How an event begins, and how many look-ups it may have.
-fn begin<'f, F: Fleet>(fleet: &'f F, event: &'f Event) -> Turn<'f>
+fn begin<'f, F: Fleet>(fleet: &'f F, event: &'f Event) -> Position<'f>
     ensures within { IsWithin (F.hosts fleet.now) result }
-    ensures begun { turned (F.hosts fleet.now) (walk (F.hosts fleet.now) (looks_of event.now))
+    ensures begun { position_fate (F.hosts fleet.now) (walk (F.hosts fleet.now) (looks_of event.now))
         result (begun_with (start_path (F.hosts fleet.now) result))
         ≡ fabric_fate (F.hosts fleet.now) event.now }
 {
@@ -236,8 +241,8 @@ pub fn send<F: Fleet>(alloc: Global, fleet: &F, event: &Event) -> Result<Verdict
     ensures { IfOk result (λ v. v ≡ fabric_verdict (F.hosts fleet.now) event.now) }
 {
     let mut run = Run::begin(alloc)?;
-    let mut turn = begin(fleet, event);
-    run.pass(start_network(fleet, &turn))?;
-    travel(alloc, fleet, looks_for(event), &mut turn, &mut run)?;
-    told(alloc, &turn, run)
+    let mut position = begin(fleet, event);
+    run.pass(start_network(fleet, &position))?;
+    travel(alloc, fleet, looks_for(event), &mut position, &mut run)?;
+    verdict_of(alloc, &position, run)
 }

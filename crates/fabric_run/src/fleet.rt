@@ -1,5 +1,7 @@
+//! The hosts as a run sees them: names, tables and entries, borrowed.
+
 ghost use Rattle.std.specs.Prelude.{◌≡◌, ◌<◌, Some, length, slice_get};
-ghost use Rattle.fabric_run.specs.Seen.{host_seen};
+ghost use Rattle.fabric_run.specs.Views.{view_of_host};
 
 use net_addr::Text;
 use plane_types::{Entries, HostTables};
@@ -43,7 +45,7 @@ pub(crate) struct HostAt<'f> {
 
 pub(crate) fn host_at<F: Fleet>(fleet: &F, at: usize) -> HostAt<'_>
     requires { at < length (F.hosts fleet.now) }
-    ensures { slice_get (F.hosts fleet.now) at ≡ Some (host_seen result) }
+    ensures { slice_get (F.hosts fleet.now) at ≡ Some (view_of_host result) }
 {
     HostAt {
         name: fleet.host(at),

@@ -1,3 +1,5 @@
+//! What a run has come to so far, with the hosts that made its entries.
+
 ghost use Rattle.std.specs.Prelude.{◌≡◌, ◌≤◌, ◌++◌, [], ℕ, IfOk, OnOk, Some, length, map, option_to_list, slice_get};
 ghost use Rattle.plane_types.specs.declared.entry.Entry.{Entry as TheEntry};
 

@@ -1,7 +1,9 @@
+//! Hosts that are looked for: by name, by a tap, or as takers of a frame from a wire.
+
 ghost use Rattle.std.specs.Prelude.{◌≡◌, ◌&&◌, option_copied};
 ghost use Rattle.plane_types.specs.Fabric.{takes as taken_by, takes_to};
 ghost use Rattle.plane_types.specs.Hosts.{Host};
-ghost use Rattle.fabric_run.specs.Seen.{IsFirst, host_seen, is_other_than, is_sought_in};
+ghost use Rattle.fabric_run.specs.Views.{IsFirst, view_of_host, is_other_than, is_sought_in};
 
 use crate::fleet::{Fleet, HostAt, host_at};
 use api_types::Id;
@@ -42,7 +44,7 @@ fn is_here(found: Option<&BridgeRow>) -> bool
 // DHCP port is here, and an ask for an address that it knows.
 fn takes(host: &HostAt<'_>, physical: &Text, tag: Option<u16>, frame: &Frame) -> bool
     ensures { result
-        ≡ taken_by (record { physical = physical.now; tag = tag }) frame.now (host_seen host.now) }
+        ≡ taken_by (record { physical = physical.now; tag = tag }) frame.now (view_of_host host.now) }
 {
     let Some(row) = host.tables.inward_wire(physical, tag) else {
         return false;
@@ -58,7 +60,7 @@ fn takes(host: &HostAt<'_>, physical: &Text, tag: Option<u16>, frame: &Frame) ->
 }
 
 fn is_other(host: &HostAt<'_>, but: Option<&Text>) -> bool
-    ensures { result ≡ is_other_than (option_copied but.entry) (host_seen host.now) }
+    ensures { result ≡ is_other_than (option_copied but.entry) (view_of_host host.now) }
 {
     match but {
         Some(name) => *host.name != *name,
@@ -67,7 +69,7 @@ fn is_other(host: &HostAt<'_>, but: Option<&Text>) -> bool
 }
 
 fn is_sought(host: &HostAt<'_>, sought: &Sought<'_>) -> bool
-    ensures { result ≡ is_sought_in sought.now (host_seen host.now) }
+    ensures { result ≡ is_sought_in sought.now (view_of_host host.now) }
 {
     match sought {
         Sought::Named(name) => **name == *host.name,

@@ -1,10 +1,12 @@
+//! At the bridge, and what comes by tunnel, by wire or to the DHCP port.
+
 ghost use Rattle.std.specs.Prelude.{◌≡◌, option_copied};
 ghost use Rattle.plane_types.specs.Ends.{destination};
 ghost use Rattle.plane_types.specs.Packets.{address_ask};
-ghost use Rattle.plane_types.specs.TableStep.{asked_at, bridge_at as bridge_by_key, bridge_in as bridged_in, bridge_step as bridged_at_tag, bridged_by as bridged_by_row, inward_step as bridged_inward, lease_answer as leased_by, lease_at as lease_by_mac, led as led_by, neighbour_at as neighbour_by_address, routed_in as routed_to, source_of as sender_of, tapped as tapped_at, wire_or as wire_or_dropped};
-ghost use Rattle.host_plane.specs.Seen.{step_seen};
+ghost use Rattle.plane_types.specs.TableStep.{asked_at, bridge_at as bridge_by_key, bridge_in as bridged_in, bridge_step as bridged_at_tag, bridged_by as bridged_by_row, inward_step as bridged_inward, lease_answer as leased_by, lease_at as lease_by_mac, target_step as led_by, neighbour_at as neighbour_by_address, routed_in as routed_to, source_of as sender_of, to_tap as tapped_at, wire_or as wire_or_dropped};
+ghost use Rattle.host_plane.specs.Views.{view_of_step};
 
-use crate::ending::{Ended, Ending, Step, drops};
+use crate::ending::{Ending, FrameEnd, Step, drops};
 use crate::map::{bridge_at, neighbour_at};
 use api_types::Id;
 use net_addr::Mac;
@@ -21,7 +23,7 @@ fn wire_or<'t>(
     frame: Frame,
     cause: DropCause,
 ) -> Step<'t>
-    ensures { step_seen result
+    ensures { view_of_step result
         ≡ wire_or_dropped inner row.now.network row.now.wire toward frame cause }
 {
     if inner {
@@ -40,8 +42,8 @@ fn wire_or<'t>(
 }
 
 // A packet goes to the port; an ask for a lease came to its key, which leads to the DHCP port.
-fn tapped<'t>(tag: u16, port: Id, frame: Frame) -> Step<'t>
-    ensures { step_seen result ≡ tapped_at tag port frame }
+fn to_tap<'t>(tag: u16, port: Id, frame: Frame) -> Step<'t>
+    ensures { view_of_step result ≡ tapped_at tag port frame }
 {
     match frame {
         Frame::Ip { .. } => Step::Next(Place::TapOut { port, frame }),
@@ -52,7 +54,7 @@ fn tapped<'t>(tag: u16, port: Id, frame: Frame) -> Step<'t>
 }
 
 fn routed_in<'t>(router: Id, port: Id, frame: Frame) -> Step<'t>
-    ensures { step_seen result ≡ routed_to router port frame }
+    ensures { view_of_step result ≡ routed_to router port frame }
 {
     match frame {
         Frame::Ip { .. } => Step::Next(Place::RouterIn {
@@ -67,11 +69,11 @@ fn routed_in<'t>(router: Id, port: Id, frame: Frame) -> Step<'t>
 }
 
 // Where an entry of the bridge leads; a frame that came by a tunnel or wire doesn't leave by one.
-fn led<'t>(inner: bool, tag: u16, frame: Frame, to: &'t BridgeTo) -> Step<'t>
-    ensures { step_seen result ≡ led_by inner tag frame to.now }
+fn follow<'t>(inner: bool, tag: u16, frame: Frame, to: &'t BridgeTo) -> Step<'t>
+    ensures { view_of_step result ≡ led_by inner tag frame to.now }
 {
     match to {
-        BridgeTo::Tap(port) => tapped(tag, *port, frame),
+        BridgeTo::Tap(port) => to_tap(tag, *port, frame),
         BridgeTo::Router { router, port } => routed_in(*router, *port, frame),
         BridgeTo::Tunnel { host, number } => {
             if inner {
@@ -88,7 +90,7 @@ fn led<'t>(inner: bool, tag: u16, frame: Frame, to: &'t BridgeTo) -> Step<'t>
 }
 
 // By the entry with the key, else to the wire.
-fn bridged<'t>(
+fn forward<'t>(
     tables: &'t HostTables,
     inner: bool,
     row: &'t TagRow,
@@ -97,25 +99,31 @@ fn bridged<'t>(
     frame: Frame,
     cause: DropCause,
 ) -> Step<'t>
-    ensures { step_seen result
+    ensures { view_of_step result
         ≡ bridged_by_row inner row.now toward frame cause
         (bridge_by_key tables.now.lists row.now.tag key) }
 {
     match bridge_at(tables, row.tag, key) {
-        Some(entry) => led(inner, row.tag, frame, &entry.to),
+        Some(entry) => follow(inner, row.tag, frame, &entry.to),
         None => wire_or(inner, row, toward, frame, cause),
     }
 }
 
 // An ask for an address is answered by its neighbour, else goes to the wire.
-fn asked<'t>(tables: &HostTables, inner: bool, row: &'t TagRow, src: Mac, ends: &Ends) -> Step<'t>
-    ensures { step_seen result
+fn answer_arp<'t>(
+    tables: &HostTables,
+    inner: bool,
+    row: &'t TagRow,
+    src: Mac,
+    ends: &Ends,
+) -> Step<'t>
+    ensures { view_of_step result
         ≡ asked_at inner row.now (address_ask src ends.now)
         (neighbour_by_address tables.now.lists row.now.tag (destination ends.now)) }
 {
     match neighbour_at(tables, row.tag, &ends.destination()) {
         Some(held) => Step::End(Ending {
-            ended: Ended::Address {
+            ended: FrameEnd::Address {
                 address: held.address,
                 mac: held.mac,
             },
@@ -132,10 +140,10 @@ fn asked<'t>(tables: &HostTables, inner: bool, row: &'t TagRow, src: Mac, ends: 
 }
 
 fn bridge_in<'t>(tables: &'t HostTables, inner: bool, row: &'t TagRow, frame: Frame) -> Step<'t>
-    ensures { step_seen result ≡ bridged_in tables.now.lists inner row.now frame }
+    ensures { view_of_step result ≡ bridged_in tables.now.lists inner row.now frame }
 {
     match frame {
-        Frame::Ip { dst, .. } => bridged(
+        Frame::Ip { dst, .. } => forward(
             tables,
             inner,
             row,
@@ -144,8 +152,8 @@ fn bridge_in<'t>(tables: &'t HostTables, inner: bool, row: &'t TagRow, frame: Fr
             frame,
             DropCause::Unknown,
         ),
-        Frame::NeighbourAsk { src, ends } => asked(tables, inner, row, src, &ends),
-        Frame::Dhcp { .. } => bridged(
+        Frame::NeighbourAsk { src, ends } => answer_arp(tables, inner, row, src, &ends),
+        Frame::Dhcp { .. } => forward(
             tables,
             inner,
             row,
@@ -167,7 +175,7 @@ pub(crate) fn bridge_step<'t>(
     tag: u16,
     frame: Frame,
 ) -> Step<'t>
-    ensures { step_seen result ≡ bridged_at_tag tables.now.lists inner tag frame }
+    ensures { view_of_step result ≡ bridged_at_tag tables.now.lists inner tag frame }
 {
     match tables.tag_row(tag) {
         Some(row) => bridge_in(tables, inner, row, frame),
@@ -181,7 +189,7 @@ pub(crate) fn inward_step<'t>(
     frame: Frame,
     found: Option<&'t InwardRow>,
 ) -> Step<'t>
-    ensures { step_seen result ≡ bridged_inward tables.now.lists frame (option_copied found.entry) }
+    ensures { view_of_step result ≡ bridged_inward tables.now.lists frame (option_copied found.entry) }
 {
     match found {
         Some(row) => bridge_step(tables, true, row.tag, frame),
@@ -202,12 +210,12 @@ fn sender(frame: &Frame) -> Mac
 
 /// A frame comes to the DHCP port of a tag, which answers with the lease of its MAC.
 pub(crate) fn dhcp_in<'t>(tables: &'t HostTables, tag: u16, frame: &Frame) -> Step<'t>
-    ensures { step_seen result
+    ensures { view_of_step result
         ≡ leased_by (lease_by_mac tables.now.lists tag (sender_of frame.now)) }
 {
     match tables.lease_at(tag, sender(frame)) {
         Some(row) => Step::End(Ending {
-            ended: Ended::Lease(&row.lease),
+            ended: FrameEnd::Lease(&row.lease),
             way: None,
         }),
         None => drops(DropCause::NoLease),

@@ -1,6 +1,8 @@
+//! Where a look-up leads: a place, a tunnel, a wire, or an end that borrows from the tables.
+
 ghost use Rattle.std.specs.Prelude.{◌≡◌};
 ghost use Rattle.plane_types.specs.TableStep.{drops as drop_step, plain as plain_step};
-ghost use Rattle.host_plane.specs.Seen.{step_seen, stepped_seen};
+ghost use Rattle.host_plane.specs.Views.{view_of_step, view_of_stepped};
 
 use api_types::{Id, Lease};
 use net_addr::{Addr, Mac, Text};
@@ -8,7 +10,7 @@ use plane_types::{DropCause, Entry, Frame, Place, Toward};
 
 /// How a frame ends, as an `Outcome` says it, but that a lease is borrowed from the tables.
 #[derive(Clone, Copy)]
-pub enum Ended<'t> {
+pub enum FrameEnd<'t> {
     /// A port gets it.
     Delivered {
         port: Id,
@@ -37,7 +39,7 @@ pub enum Ended<'t> {
 /// The end of a frame at a host.
 #[derive(Clone, Copy)]
 pub struct Ending<'t> {
-    pub ended: Ended<'t>,
+    pub ended: FrameEnd<'t>,
     /// The network of the way out, where a router sent the packet on in this look-up.
     pub way: Option<Id>,
 }
@@ -65,10 +67,10 @@ pub enum Step<'t> {
 
 impl Drop for Step<'_> {
     fn drop(self) {
-        // the prover asks that values of these types are at hand
+        // for the proof: values of these types are at hand where their parts are dropped
         let _toward = Toward::Dhcp;
         let _ending = Ending {
-            ended: Ended::Dropped(DropCause::Unknown),
+            ended: FrameEnd::Dropped(DropCause::Unknown),
             way: None,
         };
         match self {
@@ -121,17 +123,17 @@ pub(crate) struct Stepped<'t> {
 
 /// It is dropped.
 pub(crate) fn drops<'t>(cause: DropCause) -> Step<'t>
-    ensures { step_seen result ≡ drop_step cause }
+    ensures { view_of_step result ≡ drop_step cause }
 {
     Step::End(Ending {
-        ended: Ended::Dropped(cause),
+        ended: FrameEnd::Dropped(cause),
         way: None,
     })
 }
 
 /// It is dropped, and makes no entry.
-pub(crate) fn dropped<'t>(cause: DropCause) -> Stepped<'t>
-    ensures { stepped_seen result ≡ plain_step (drop_step cause) }
+pub(crate) fn drop_frame<'t>(cause: DropCause) -> Stepped<'t>
+    ensures { view_of_stepped result ≡ plain_step (drop_step cause) }
 {
     Stepped {
         step: drops(cause),

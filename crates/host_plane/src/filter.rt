@@ -1,9 +1,11 @@
+//! The filter of a tap, with tracked flows.
+
 ghost use Rattle.std.specs.Prelude.{◌≡◌, ◌++◌, ◌&&◌};
 ghost use Rattle.std.specs.List.{list_any};
 ghost use Rattle.api_types.specs.Table.{ident_eq};
 ghost use Rattle.plane_types.specs.Entries.{has_flow as flow_is_there, opposite as other_way};
 ghost use Rattle.plane_types.specs.Filter.{far_fits as fits_far};
-ghost use Rattle.plane_types.specs.Keys.{reversed};
+ghost use Rattle.plane_types.specs.Keys.{answer_key};
 ghost use Rattle.plane_types.specs.TableStep.{in_set as is_in_set, row_fits as fits_row, tables_allow as allowed_by_tables, tap_passage as passage_at_tap};
 ghost use Rattle.plane_types.specs.Parts.{packet_of, passage_of};
 ghost use Rattle.plane_types.specs.declared.table.FilterRow.{FilterRow as TheRow};
@@ -74,8 +76,8 @@ fn is_answer(
     key: &Key,
 ) -> bool
     ensures { result
-        ≡ (flow_is_there (entries.now ++ fresh.now) port (other_way direction) (reversed key.now)
-        && allowed_by_tables tables.now.lists port (other_way direction) (reversed key.now)) }
+        ≡ (flow_is_there (entries.now ++ fresh.now) port (other_way direction) (answer_key key.now)
+        && allowed_by_tables tables.now.lists port (other_way direction) (answer_key key.now)) }
 {
     let asked = key.reversed();
     let way = opposite(direction);

@@ -21,6 +21,6 @@ mod tap;
 mod translation;
 mod ways;
 
-pub use ending::{Ended, Ending, Step};
+pub use ending::{Ending, FrameEnd, Step};
 pub use map::{bridge_at, neighbour_at};
 pub use place::step;

@@ -1,7 +1,9 @@
+//! Bridge and neighbours, searched by halving.
+
 ghost use Rattle.std.specs.Prelude.{◌≡◌, ◌+◌, ◌*◌, ◌&&◌, ◌==◌, find, option_copied};
 ghost use Rattle.std.specs.List.Sorted.{IsSortedBy};
 ghost use Rattle.net_addr.specs.Addresses.{addr_eq, number, width};
-ghost use Rattle.plane_types.specs.Hosts.{key_place as place_of_key, neighbour_before, pair_before};
+ghost use Rattle.plane_types.specs.Hosts.{key_number as place_of_key, neighbour_before, pair_before};
 ghost use Rattle.plane_types.specs.TableStep.{bridge_at as bridge_by_key, neighbour_at as neighbour_by_address};
 
 use net_addr::Addr;
@@ -24,18 +26,18 @@ trait Mapped {
 }
 
 impl Mapped for BridgeRow {
-    ghost use Rattle.plane_types.specs.Hosts.{key_place};
+    ghost use Rattle.plane_types.specs.Hosts.{key_number};
 
     ghost first_of = { λ r. r.tag };
 
-    ghost second_of = { λ r. key_place r.key };
+    ghost second_of = { λ r. key_number r.key };
 
     fn first(&self) -> u32 {
         u32::from(self.tag)
     }
 
     fn second(&self) -> u128 {
-        u128::from(key_place(self.key))
+        u128::from(key_number(self.key))
     }
 }
 
@@ -74,7 +76,7 @@ fn number_of(address: &Addr) -> u128
 }
 
 // The place of a key among those of a tag: first the port that leases, then by MAC.
-fn key_place(key: BridgeKey) -> u64
+fn key_number(key: BridgeKey) -> u64
     ensures { result ≡ place_of_key key }
 {
     match key {
@@ -120,7 +122,7 @@ fn row_at<R: Mapped>(rows: &[R], first: u32, second: u128) -> Option<&R>
 pub fn bridge_at(tables: &HostTables, tag: u16, key: BridgeKey) -> Option<&BridgeRow>
     ensures { option_copied result ≡ bridge_by_key tables.now.lists tag key }
 {
-    row_at(tables.bridge(), u32::from(tag), u128::from(key_place(key)))
+    row_at(tables.bridge(), u32::from(tag), u128::from(key_number(key)))
 }
 
 fn neighbour_among<'t>(

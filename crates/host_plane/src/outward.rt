@@ -1,10 +1,12 @@
+//! A packet that leaves a router toward its next hop.
+
 ghost use Rattle.std.specs.Prelude.{◌≡◌};
 ghost use Rattle.plane_types.specs.Packets.{ip_frame};
 ghost use Rattle.plane_types.specs.TableStep.{neighbour_at as neighbour_by_address, sent_at as sent_at_port, sent_by as sent_by_neighbour, tag_row as row_of_tag, tagged_leg as leg_by_port, unheld as unheld_by};
 ghost use Rattle.plane_types.specs.Parts.{packet_of};
-ghost use Rattle.host_plane.specs.Seen.{step_seen};
+ghost use Rattle.host_plane.specs.Views.{view_of_step};
 
-use crate::ending::{Ended, Ending, Step, drops};
+use crate::ending::{Ending, FrameEnd, Step, drops};
 use crate::map::neighbour_at;
 use crate::port::port_of;
 use api_types::Id;
@@ -20,7 +22,7 @@ fn to_mac(packet: &Packet, dst: Mac) -> Frame
 
 // Nobody has the next hop: out by the physical network of the way out, where it has one.
 fn unheld<'t>(tables: &'t HostTables, tag: u16, hop: &Addr, packet: &Packet) -> Step<'t>
-    ensures { step_seen result
+    ensures { view_of_step result
         ≡ unheld_by hop.now (packet_of packet.now) (row_of_tag tables.now.lists tag) }
 {
     let Some(row) = tables.tag_row(tag) else {
@@ -29,7 +31,7 @@ fn unheld<'t>(tables: &'t HostTables, tag: u16, hop: &Addr, packet: &Packet) -> 
     let way = Some(row.network);
     match &row.wire {
         Some(_) => Step::End(Ending {
-            ended: Ended::Out {
+            ended: FrameEnd::Out {
                 network: row.network,
                 toward: Toward::Address(*hop),
                 frame: to_mac(packet, Mac(0)),
@@ -37,7 +39,7 @@ fn unheld<'t>(tables: &'t HostTables, tag: u16, hop: &Addr, packet: &Packet) -> 
             way,
         }),
         None => Step::End(Ending {
-            ended: Ended::Dropped(DropCause::NoHolder),
+            ended: FrameEnd::Dropped(DropCause::NoHolder),
             way,
         }),
     }
@@ -45,7 +47,7 @@ fn unheld<'t>(tables: &'t HostTables, tag: u16, hop: &Addr, packet: &Packet) -> 
 
 // The neighbour at the next hop gets it, by the bridge.
 fn sent_by<'t>(tables: &'t HostTables, tag: u16, hop: &Addr, packet: &Packet) -> Step<'t>
-    ensures { step_seen result
+    ensures { view_of_step result
         ≡ sent_by_neighbour tables.now.lists tag hop.now (packet_of packet.now)
         (neighbour_by_address tables.now.lists tag hop.now) }
 {
@@ -66,7 +68,7 @@ pub(crate) fn sent_at<'t>(
     hop: &Addr,
     packet: &Packet,
 ) -> Step<'t>
-    ensures { step_seen result
+    ensures { view_of_step result
         ≡ sent_at_port tables.now.lists hop.now (packet_of packet.now)
         (leg_by_port router.now out) }
 {

@@ -1,7 +1,9 @@
+//! One look-up: the place decides which table is asked. Begin here.
+
 ghost use Rattle.std.specs.Prelude.{◌≡◌, ◌+◌, ◌≤◌, ◌++◌, length};
-ghost use Rattle.plane_types.specs.Places.{place_seen};
+ghost use Rattle.plane_types.specs.Places.{view_of_place};
 ghost use Rattle.plane_types.specs.TableStep.{table_step};
-ghost use Rattle.host_plane.specs.Seen.{step_seen, stepped_seen};
+ghost use Rattle.host_plane.specs.Views.{view_of_step, view_of_stepped};
 
 use crate::bridge::{bridge_step, dhcp_in, inward_step};
 use crate::ending::{Step, Stepped};
@@ -9,14 +11,14 @@ use crate::inside::router_in;
 use crate::tap::{tap_in, tap_out};
 use plane_types::{Entries, Entry, Fresh, HostTables, Place};
 
-fn stepped<'t>(
+fn look_up<'t>(
     tables: &'t HostTables,
     entries: &[Entry],
     fresh: &[Entry],
     place: &Place<'t>,
 ) -> Stepped<'t>
-    ensures { stepped_seen result
-        ≡ table_step tables.now.lists (entries.now ++ fresh.now) (place_seen place.now) }
+    ensures { view_of_stepped result
+        ≡ table_step tables.now.lists (entries.now ++ fresh.now) (view_of_place place.now) }
 {
     match place {
         Place::TapIn { port, frame } => tap_in(tables, entries, fresh, *port, *frame),
@@ -65,15 +67,15 @@ pub fn step<'t>(
     place: &Place<'t>,
 ) -> Step<'t>
     requires { 2 ≤ fresh.old.spare }
-    ensures step { step_seen result
-        ≡ (table_step tables.now.lists (entries.now.items ++ fresh.old.items) (place_seen place.now)).step }
+    ensures step { view_of_step result
+        ≡ (table_step tables.now.lists (entries.now.items ++ fresh.old.items) (view_of_place place.now)).step }
     ensures made { fresh.new.items
         ≡ fresh.old.items
-        ++ (table_step tables.now.lists (entries.now.items ++ fresh.old.items) (place_seen place.now)).made }
+        ++ (table_step tables.now.lists (entries.now.items ++ fresh.old.items) (view_of_place place.now)).made }
     ensures room { fresh.old.spare + length fresh.old.items
         ≤ fresh.new.spare + length fresh.new.items }
 {
-    let Stepped { step, made } = stepped(tables, entries.as_slice(), fresh.as_slice(), place);
+    let Stepped { step, made } = look_up(tables, entries.as_slice(), fresh.as_slice(), place);
     if let Some(entry) = made {
         fresh.add(entry);
     }

@@ -1,3 +1,5 @@
+//! A port of a router by its id.
+
 ghost use Rattle.std.specs.Prelude.{◌≡◌, option_copied};
 ghost use Rattle.plane_types.specs.TableStep.{tagged_leg as leg_by_port};
 

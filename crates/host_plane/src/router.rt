@@ -1,15 +1,17 @@
+//! What a router does with a packet: destination, own addresses, route, source.
+
 ghost use Rattle.std.specs.Prelude.{◌≡◌, ◌++◌, Some, option_map};
 ghost use Rattle.std.specs.List.{list_any};
 ghost use Rattle.std.specs.Option.{unwrap_or};
 ghost use Rattle.net_addr.specs.Addresses.{addr_eq};
 ghost use Rattle.plane_types.specs.Ends.{destination as destined_for};
-ghost use Rattle.plane_types.specs.Routing.{best_way as best_of_ways, destined as destined_by, is_own as is_own_by, routed as routed_by_view, routed_to as to_by_view, routed_way as way_by_view, sent as sent_by, uses_by};
+ghost use Rattle.plane_types.specs.Routing.{best_way as best_of_ways, new_destination as destined_by, is_own as is_own_by, routing_of as routed_by_view, routed_to as to_by_view, routed_way as way_by_view, sending_of as sent_by, uses_by};
 ghost use Rattle.plane_types.specs.TableStep.{leg_at, plain, stops, table_routed as led_by, table_view, way_at, ways_at};
 ghost use Rattle.plane_types.specs.declared.verdict.Outcome.TheVariants.{Absorbed};
 ghost use Rattle.plane_types.specs.Parts.{changed_of, destined_of, packet_of, sourced_of};
-ghost use Rattle.host_plane.specs.Seen.{stepped_seen};
+ghost use Rattle.host_plane.specs.Views.{view_of_stepped};
 
-use crate::ending::{Ended, Ending, Step, Stepped, dropped};
+use crate::ending::{Ending, FrameEnd, Step, Stepped, drop_frame};
 use crate::outward::sent_at;
 use crate::port::port_of;
 use crate::source::{find_source, fixed_behind};
@@ -82,12 +84,12 @@ fn send_on<'t>(
     hop: &Addr,
     sourced: Option<Sourced>,
 ) -> Stepped<'t>
-    ensures { stepped_seen result
+    ensures { view_of_stepped result
         ≡ led_by tables.now.lists router.now
         (sent_by (leg_at out.now) hop.now (option_map sourced_of sourced)) }
 {
     let Some(sourced) = sourced else {
-        return dropped(DropCause::TranslationFull);
+        return drop_frame(DropCause::TranslationFull);
     };
     let packet = Packet {
         src: out.mac,
@@ -119,7 +121,7 @@ fn routed_by<'t>(
     destined: &Destined,
     row: &RouteRow,
 ) -> Stepped<'t>
-    ensures { stepped_seen result
+    ensures { view_of_stepped result
         ≡ led_by tables.now.lists router.now
         (way_by_view (table_view tables.now.lists router.now)
         (uses_by router.now.snat router.now.gateway router.now.router
@@ -132,7 +134,7 @@ fn routed_by<'t>(
             let hop = next_hop(row, &destined.packet);
             send_on(tables, router, out, &hop, source)
         }
-        None => dropped(DropCause::Unknown),
+        None => drop_frame(DropCause::Unknown),
     }
 }
 
@@ -145,7 +147,7 @@ fn routed_on<'t>(
     port: &RouterPort,
     destined: &Destined,
 ) -> Stepped<'t>
-    ensures { stepped_seen result
+    ensures { view_of_stepped result
         ≡ led_by tables.now.lists router.now
         (way_by_view (table_view tables.now.lists router.now)
         (uses_by router.now.snat router.now.gateway router.now.router
@@ -157,16 +159,16 @@ fn routed_on<'t>(
     let to = destined.packet.ends.destination();
     match best_way(tables, router.router, &to) {
         Some(row) => routed_by(tables, entries, fresh, router, port, destined, row),
-        None => dropped(DropCause::NoRoute),
+        None => drop_frame(DropCause::NoRoute),
     }
 }
 
-fn absorbed<'t>(router: Id) -> Stepped<'t>
-    ensures { stepped_seen result ≡ plain (stops (Absorbed router)) }
+fn absorb<'t>(router: Id) -> Stepped<'t>
+    ensures { view_of_stepped result ≡ plain (stops (Absorbed router)) }
 {
     Stepped {
         step: Step::End(Ending {
-            ended: Ended::Absorbed { router },
+            ended: FrameEnd::Absorbed { router },
             way: None,
         }),
         made: None,
@@ -182,17 +184,17 @@ fn routed_to<'t>(
     port: &RouterPort,
     destined: &Destined,
 ) -> Stepped<'t>
-    ensures { stepped_seen result
+    ensures { view_of_stepped result
         ≡ led_by tables.now.lists router.now
         (to_by_view (table_view tables.now.lists router.now)
         (uses_by router.now.snat router.now.gateway router.now.router
         (entries.now ++ fresh.now)) (leg_at port.now) (destined_of destined.now)) }
 {
     if is_own(tables, router, &destined.packet.ends.destination()) {
-        return absorbed(router.router);
+        return absorb(router.router);
     }
     if destined.packet.ttl <= 1 {
-        return dropped(DropCause::Expired);
+        return drop_frame(DropCause::Expired);
     }
     let lowered = lower(destined);
     routed_on(tables, entries, fresh, router, port, &lowered)
@@ -200,7 +202,7 @@ fn routed_to<'t>(
 
 /// What a router does with a packet that came by a port of it. Its cost grows with the entries,
 /// with the router's ports, and with the routes and floating addresses.
-#[tactic(auto, unfolding(plane_types::specs::Routing::routed))]
+#[tactic(auto, unfolding(plane_types::specs::Routing::routing_of))]
 pub(crate) fn route<'t>(
     tables: &'t HostTables,
     entries: &[Entry],
@@ -209,13 +211,13 @@ pub(crate) fn route<'t>(
     port: &RouterPort,
     packet: &Packet,
 ) -> Stepped<'t>
-    ensures { stepped_seen result
+    ensures { view_of_stepped result
         ≡ led_by tables.now.lists router.now
         (routed_by_view (table_view tables.now.lists router.now) (entries.now ++ fresh.now)
         (leg_at port.now) (packet_of packet.now)) }
 {
     if !router.up {
-        return dropped(DropCause::RouterDown);
+        return drop_frame(DropCause::RouterDown);
     }
     let destined = find_destination(tables, entries, fresh, router, packet);
     routed_to(tables, entries, fresh, router, port, &destined)

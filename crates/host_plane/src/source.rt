@@ -1,10 +1,12 @@
+//! The source with which a packet leaves a router: floating, translated, or its own.
+
 ghost use Rattle.std.specs.Prelude.{◌≡◌, ◌++◌, ◌&&◌, ◌||◌, find, not, option_map, true};
 ghost use Rattle.std.specs.List.{list_any};
 ghost use Rattle.net_addr.specs.Addresses.{addr_eq};
 ghost use Rattle.net_addr.specs.declared.address.Addr.TheVariants.{V4};
 ghost use Rattle.plane_types.specs.Ends.{source};
 ghost use Rattle.plane_types.specs.Packets.{key_of};
-ghost use Rattle.plane_types.specs.Routing.{by_float as changed_by_float, is_gateway_live, new_port as new_port_of, sourced as sourced_by, sourced_float as sourced_by_float, sourced_gateway as sourced_by_gateway, sourced_new as sourced_anew, uses_at, uses_by};
+ghost use Rattle.plane_types.specs.Routing.{by_float as changed_by_float, is_gateway_live, new_port as new_port_of, new_source as sourced_by, sourced_float as sourced_by_float, sourced_gateway as sourced_by_gateway, sourced_new as sourced_anew, uses_at, uses_by};
 ghost use Rattle.api_types.specs.RouterViews.{Float};
 ghost use Rattle.plane_types.specs.TableStep.{floats_at_router, leg_at, table_view};
 ghost use Rattle.plane_types.specs.declared.table.RouterPort.{RouterPort as ThePort};
@@ -15,7 +17,7 @@ use api_types::Id;
 use net_addr::{Addr, Addr4};
 use plane_types::{
     Changed, Destined, Entry, FloatRow, HostTables, Packet, RouterPort, RouterTable, Sourced,
-    by_any, by_float, kept_source, sourced_at, with_ends,
+    kept_source, sourced_at, with_ends,
 };
 
 // The fixed address of the first of these rows that is of the router and has the floating address.
@@ -137,7 +139,7 @@ fn is_translated(tables: &HostTables, router: &RouterTable, out: &RouterPort, by
         ≡ ((not out.now.inside || changed_by_float (changed_of by)) && router.now.snat
         && is_gateway_live (table_view tables.now.lists router.now)) }
 {
-    (!out.inside || by_float(by)) && router.snat && has_live_gateway(router)
+    (!out.inside || by.is_floating()) && router.snat && has_live_gateway(router)
 }
 
 // A floating address of this router for the source replaces it; else it may be translated.
@@ -189,7 +191,7 @@ pub(crate) fn find_source(
         (entries.now ++ fresh.now)) (leg_at port.now) (leg_at out.now)
         (changed_of destined.now.by) (packet_of destined.now.packet) }
 {
-    let leaves = !out.inside || by_any(destined.by);
+    let leaves = !out.inside || destined.by.is_any();
     if destined.packet.ends.are_four() && port.inside && leaves {
         sourced_float(tables, entries, fresh, router, out, destined)
     } else {

@@ -1,3 +1,5 @@
+//! A frame in and out of a port: guard and filter.
+
 ghost use Rattle.std.specs.Prelude.{◌≡◌, ◌++◌};
 ghost use Rattle.api_types.specs.declared.group.Direction.TheVariants.{Egress, Ingress};
 ghost use Rattle.plane_types.specs.Packets.{ip_frame};
@@ -5,15 +7,14 @@ ghost use Rattle.plane_types.specs.Places.{Bridge, Next};
 ghost use Rattle.plane_types.specs.TableStep.{stops as stop_step, tap_at as tap_by_port, tap_delivers as delivered_to, tap_filtered as filtered_by, tap_guards as guarded, tap_in as taken_in, tap_out as taken_out, tap_out_by as taken_out_by, tap_passage, tap_sends as sent_by};
 ghost use Rattle.plane_types.specs.Parts.{packet_of};
 ghost use Rattle.plane_types.specs.declared.verdict.Outcome.TheVariants.{Delivered};
-ghost use Rattle.host_plane.specs.Seen.{step_seen, stepped_seen};
+ghost use Rattle.host_plane.specs.Views.{view_of_step, view_of_stepped};
 
-use crate::ending::{Ended, Ending, Step, Stepped, dropped};
+use crate::ending::{Ending, FrameEnd, Step, Stepped, drop_frame};
 use crate::filter::passage_at;
 use api_types::{Direction, Id};
 use net_addr::Addr;
 use plane_types::{
     DropCause, Entry, Frame, HostTables, Packet, Place, TapRow, has_pair_mac, is_allowed,
-    is_unsupported,
 };
 
 // Whether the tap may send the frame, as what it says it is. Without an address a client asks for a
@@ -37,7 +38,7 @@ fn guards(tap: &TapRow, frame: &Frame) -> bool
 }
 
 fn to_bridge<'t>(tap: &TapRow, frame: Frame) -> Step<'t>
-    ensures { step_seen result ≡ Next (Bridge tap.now.tag frame) }
+    ensures { view_of_step result ≡ Next (Bridge tap.now.tag frame) }
 {
     Step::Next(Place::Bridge {
         tag: tap.tag,
@@ -46,14 +47,14 @@ fn to_bridge<'t>(tap: &TapRow, frame: Frame) -> Step<'t>
 }
 
 // A packet goes to the bridge where it passes the filter.
-fn filtered<'t>(
+fn send_filtered<'t>(
     tables: &HostTables,
     entries: &[Entry],
     fresh: &[Entry],
     tap: &TapRow,
     packet: &Packet,
 ) -> Stepped<'t>
-    ensures { stepped_seen result
+    ensures { view_of_stepped result
         ≡ filtered_by (ip_frame (packet_of packet.now)) tap.now
         (tap_passage tables.now.lists (entries.now ++ fresh.now) tap.now Egress
         (packet_of packet.now)) }
@@ -65,7 +66,7 @@ fn filtered<'t>(
             made: passage.made,
         }
     } else {
-        dropped(DropCause::Egress)
+        drop_frame(DropCause::Egress)
     }
 }
 
@@ -76,11 +77,11 @@ fn sends<'t>(
     tap: &TapRow,
     frame: Frame,
 ) -> Stepped<'t>
-    ensures { stepped_seen result
+    ensures { view_of_stepped result
         ≡ sent_by tables.now.lists (entries.now ++ fresh.now) tap.now frame }
 {
     match Packet::of(&frame) {
-        Some(packet) => filtered(tables, entries, fresh, tap, &packet),
+        Some(packet) => send_filtered(tables, entries, fresh, tap, &packet),
         None => Stepped {
             step: to_bridge(tap, frame),
             made: None,
@@ -96,27 +97,27 @@ pub(crate) fn tap_in<'t>(
     port: Id,
     frame: Frame,
 ) -> Stepped<'t>
-    ensures { stepped_seen result
+    ensures { view_of_stepped result
         ≡ taken_in tables.now.lists (entries.now ++ fresh.now) frame
         (tap_by_port tables.now.lists port) }
 {
     let Some(tap) = tables.tap_at(port) else {
-        return dropped(DropCause::Dead);
+        return drop_frame(DropCause::Dead);
     };
-    if is_unsupported(&frame) {
-        dropped(DropCause::Unsupported)
+    if frame.is_unsupported() {
+        drop_frame(DropCause::Unsupported)
     } else if tap.secured && !guards(tap, &frame) {
-        dropped(DropCause::Spoof)
+        drop_frame(DropCause::Spoof)
     } else {
         sends(tables, entries, fresh, tap, frame)
     }
 }
 
 fn deliver<'t>(port: Id, frame: Frame) -> Step<'t>
-    ensures { step_seen result ≡ stop_step (Delivered port frame) }
+    ensures { view_of_step result ≡ stop_step (Delivered port frame) }
 {
     Step::End(Ending {
-        ended: Ended::Delivered { port, frame },
+        ended: FrameEnd::Delivered { port, frame },
         way: None,
     })
 }
@@ -129,7 +130,7 @@ fn delivers<'t>(
     tap: &TapRow,
     packet: &Packet,
 ) -> Stepped<'t>
-    ensures { stepped_seen result
+    ensures { view_of_stepped result
         ≡ delivered_to tap.now.port (ip_frame (packet_of packet.now))
         (tap_passage tables.now.lists (entries.now ++ fresh.now) tap.now Ingress
         (packet_of packet.now)) }
@@ -141,7 +142,7 @@ fn delivers<'t>(
             made: passage.made,
         }
     } else {
-        dropped(DropCause::Ingress)
+        drop_frame(DropCause::Ingress)
     }
 }
 
@@ -152,7 +153,7 @@ fn gets<'t>(
     tap: &TapRow,
     frame: Frame,
 ) -> Stepped<'t>
-    ensures { stepped_seen result
+    ensures { view_of_stepped result
         ≡ taken_out_by tables.now.lists (entries.now ++ fresh.now) frame tap.now }
 {
     match Packet::of(&frame) {
@@ -172,12 +173,12 @@ pub(crate) fn tap_out<'t>(
     port: Id,
     frame: Frame,
 ) -> Stepped<'t>
-    ensures { stepped_seen result
+    ensures { view_of_stepped result
         ≡ taken_out tables.now.lists (entries.now ++ fresh.now) frame
         (tap_by_port tables.now.lists port) }
 {
     match tables.tap_at(port) {
         Some(tap) => gets(tables, entries, fresh, tap, frame),
-        None => dropped(DropCause::Unknown),
+        None => drop_frame(DropCause::Unknown),
     }
 }

@@ -1,3 +1,5 @@
+//! Translation entries: those that a packet answers, and ports that are free.
+
 ghost use Rattle.std.specs.Prelude.{◌≡◌, ◌<◌, ◌||◌, ◌++◌, ℕ, Some, false, find, if◌then◌else◌, option_map, slice_index_or};
 ghost use Rattle.std.specs.List.{filter_map};
 ghost use Rattle.plane_types.specs.Keys.{key_eq};
@@ -6,9 +8,7 @@ ghost use Rattle.plane_types.specs.Parts.{packet_of, use_if, use_of};
 
 use api_types::Id;
 use net_addr::Addr4;
-use plane_types::{
-    Entry, Key, Packet, RouterTable, Use, answers, has_choice, is_key, takes, use_of_entry,
-};
+use plane_types::{Entry, Key, Packet, RouterTable, Use, is_key, use_of_entry};
 
 // The first of these entries, of the router and with the outer address, that answers to a packet.
 fn answer_among(entries: &[Entry], router: Id, outer: Addr4, packet: &Packet) -> Option<Use>
@@ -18,7 +18,7 @@ fn answer_among(entries: &[Entry], router: Id, outer: Addr4, packet: &Packet) ->
 {
     for entry in entries {
         if let Some(valid) = use_of_entry(router, outer, entry) {
-            if answers(outer, packet, &valid) {
+            if valid.answers(outer, packet) {
                 return Some(valid);
             }
         }
@@ -48,7 +48,7 @@ fn taken_among(entries: &[Entry], router: Id, outer: Addr4, key: &Key, port: u16
 {
     for entry in entries {
         if let Some(valid) = use_of_entry(router, outer, entry) {
-            if takes(&valid, key, port) {
+            if valid.takes(key, port) {
                 return true;
             }
         }
@@ -124,7 +124,7 @@ fn mark(marks: &mut [bool; 65_536], entries: &[Entry], router: Id, outer: Addr4,
 {
     for entry in entries {
         if let Some(valid) = use_of_entry(router, outer, entry) {
-            if takes(&valid, key, valid.port) {
+            if valid.takes(key, valid.port) {
                 marks[valid.port as usize] = true;
             }
         }
@@ -189,7 +189,7 @@ pub(crate) fn new_port(
     if !is_taken(entries, fresh, router, outer, key, key.sport) {
         return Some(key.sport);
     }
-    if has_choice(key.kind) {
+    if key.kind.has_choice() {
         least_untaken(entries, fresh, router, outer, key)
     } else {
         None

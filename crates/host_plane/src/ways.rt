@@ -1,3 +1,5 @@
+//! The route with the longest prefix.
+
 ghost use Rattle.std.specs.Prelude.{◌≡◌, ◌&&◌, Some, if◌then◌else◌, option_copied, option_map};
 ghost use Rattle.net_addr.specs.Prefixes.{contains};
 ghost use Rattle.api_types.specs.Table.{ident_eq};
@@ -6,14 +8,14 @@ ghost use Rattle.plane_types.specs.TableStep.{way_at, ways_at};
 
 use api_types::Id;
 use net_addr::Addr;
-use plane_types::{HostTables, RouteRow, rank_place};
+use plane_types::{HostTables, RouteRow, rank_number};
 
 // Whether the first goes before the second: by length, then by rank, then as the first.
 fn beats(a: &RouteRow, b: &RouteRow) -> bool
     ensures { result ≡ way_beats (way_at a.now) (way_at b.now) }
 {
     b.prefix.len < a.prefix.len
-        || (a.prefix.len == b.prefix.len && rank_place(a.rank) <= rank_place(b.rank))
+        || (a.prefix.len == b.prefix.len && rank_number(a.rank) <= rank_number(b.rank))
 }
 
 fn better<'t>(row: &'t RouteRow, other: Option<&'t RouteRow>) -> &'t RouteRow

@@ -1,3 +1,5 @@
+//! What answers requests: the trait that a session is generic over.
+
 ghost use Rattle.std.specs.Prelude.{◌≡◌, ℕ, ◌≤◌, List, IfOk, is_some};
 ghost use Rattle.api_types.specs.RowLists.{RowLists};
 ghost use Rattle.http_heads.specs.Heads.{Asked, Takes};

@@ -1,3 +1,5 @@
+//! Where the parts of one request stand in the buffer.
+
 use http_heads::{HeadParts, Part};
 
 /// Where the parts of one request stand in the bytes that begin with it.

@@ -1,3 +1,5 @@
+//! How a session ended.
+
 /// How a session ended.
 #[derive(Clone, Copy, Debug, PartialEq, Eq)]
 pub enum SessionEnd {

@@ -1,3 +1,5 @@
+//! Readers and writers of std as sources and sinks.
+
 ghost use Rattle.std.specs.Prelude.{◌≡◌, ◌<◌, ◌≤◌, None, IfOk, length};
 ghost use Rattle.std.specs.Io.KnownBytes.{WriteAppends, Keeps};
 ghost use Rattle.keeper_core.specs.Counts.{HasCause, HasRefusalCause};

@@ -1,3 +1,5 @@
+//! The calls of a desk, as it notes them.
+
 use net_addr::Text;
 
 /// A call of a desk, with its name or address.

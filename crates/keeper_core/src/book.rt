@@ -1,3 +1,5 @@
+//! What a desk in memory has and notes: asks, settings, stores and connections.
+
 ghost use Rattle.std.specs.Prelude.{◌≡◌, ◌<◌, ◌++◌, [], ◌∷◌, map, Some, None, Ok, IsTrue, IfOk, IfErr, OnOk, OnErr, vec_len, vec_capacity, option_map, option_copied};
 ghost use Rattle.keeper_core.specs.Counts.{IsWant};
 ghost use Rattle.keeper_core.specs.Desk.{file_named, opening_rows, opened_as, closed_as, asked, asked_in_vain, with_stores, with_returned, HandsOut, CountsOut, TakesBack, AddsAsk, end_of, are_fresh};

@@ -1,3 +1,5 @@
+//! Calls that are counted, some of which are to fail.
+
 ghost use Rattle.std.specs.Prelude.{◌≡◌, ◌↔◌, IsErr, IsTrue};
 ghost use Rattle.keeper_core.specs.Counts.{HasCause};
 

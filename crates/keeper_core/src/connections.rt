@@ -1,3 +1,5 @@
+//! The connections of a desk in memory: to come, out, and handed back.
+
 ghost use Rattle.std.specs.Prelude.{◌≡◌, map, Some, Ok, [], IsTrue, IfErr, option_map};
 ghost use Rattle.keeper_core.specs.Counts.{IsWant};
 ghost use Rattle.keeper_core.specs.Desk.{HandsOut, CountsOut, TakesBack, end_of, are_fresh};

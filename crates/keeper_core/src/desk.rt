@@ -1,3 +1,5 @@
+//! The trait `Desk`: settings, stores and connections.
+
 ghost use Rattle.std.specs.Prelude.{◌≡◌, ℕ, ◌+◌, ◌-◌, ◌^◌, List, Option, Some, Ok, IfOk, IfSome, OnOk, OnErr, min, option_map, option_copied};
 ghost use Rattle.api_types.specs.RowLists.{RowLists};
 ghost use Rattle.keeper_core.specs.Counts.{HasRefusalCause};

@@ -1,3 +1,5 @@
+//! The trait `Keeper`: where rows are stored.
+
 ghost use Rattle.std.specs.Prelude.{◌≡◌, ℕ, Option, option_map, IfOk, IfSome, OnOk, OnErr};
 ghost use Rattle.api_types.specs.RowLists.{RowLists};
 ghost use Rattle.api_types.specs.Rows.{Fits, after};

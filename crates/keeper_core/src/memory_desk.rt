@@ -1,3 +1,5 @@
+//! A desk in memory that fails in listed calls.
+
 ghost use Rattle.std.specs.Prelude.{◌≡◌, Some, None, Ok, [], map, IsOk, IsTrue, IfOk, IfErr, OnOk, OnErr, false, option_map, option_copied};
 ghost use Rattle.keeper_core.specs.Calls.{counted, fails_next};
 ghost use Rattle.keeper_core.specs.Counts.{HasRefusalCause, IsFailure};

@@ -1,3 +1,5 @@
+//! Keepers in memory: one that never fails, and one that fails in listed calls.
+
 ghost use Rattle.std.specs.Prelude.{◌≡◌, ◌↔◌, Some, IfOk, IfErr, OnOk, OnErr, IsTrue};
 ghost use Rattle.api_types.specs.Rows.{Fits, after};
 ghost use Rattle.keeper_core.specs.Calls.{counted, fails_next};

@@ -1,3 +1,5 @@
+//! Sinks in memory: one that never fails, and one that fails in listed calls.
+
 ghost use Rattle.std.specs.Prelude.{◌≡◌, ◌↔◌, ◌<◌, ◌≤◌, [], Ok, Some, IsErr, IsTrue, IfOk, IfErr, OnOk, OnErr, length};
 ghost use Rattle.std.specs.Io.KnownBytes.{WriteAppends};
 ghost use Rattle.keeper_core.specs.Calls.{counted, fails_next};

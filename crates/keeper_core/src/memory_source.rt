@@ -1,3 +1,5 @@
+//! Sources in memory: one that never fails, and one that fails in listed calls.
+
 ghost use Rattle.std.specs.Prelude.{◌≡◌, ◌↔◌, ◌<◌, ◌≤◌, Ok, Some, IsErr, IsTrue, IfOk, length, min, take};
 ghost use Rattle.std.specs.Io.{ReadsAtMost};
 ghost use Rattle.std.specs.Io.KnownBytes.{ReadConsumes};

@@ -1,3 +1,5 @@
+//! Values by name.
+
 ghost use Rattle.std.specs.Prelude.{◌≡◌, ◌<◌, vec_len, vec_capacity, option_copied};
 ghost use Rattle.std.specs.List.{position_or_len};
 ghost use Rattle.keeper_core.specs.Named.{has_name, value_named, with_value};

@@ -1,3 +1,5 @@
+//! Why a call of the outside is refused.
+
 ghost use Rattle.std.specs.Prelude.{◌≡◌};
 ghost use Rattle.keeper_core.specs.declared.refusal.OutsideRefusal.TheVariants.{Failed as HasFailed, OutOfMemory as Memory};
 

@@ -1,3 +1,5 @@
+//! The stores of a desk in memory.
+
 ghost use Rattle.std.specs.Prelude.{◌≡◌, None, IfOk, OnOk, OnErr, option_copied};
 ghost use Rattle.keeper_core.specs.Desk.{opening_rows, opened_as, closed_as};
 

@@ -1,3 +1,5 @@
+//! The trait `Sink`: where bytes go.
+
 ghost use Rattle.std.specs.Prelude.{◌≡◌, ℕ, List, Option, ◌<◌, ◌≤◌, length, option_map, IfOk, OnOk, OnErr};
 ghost use Rattle.std.specs.Io.KnownBytes.{WriteAppends, Keeps};
 ghost use Rattle.keeper_core.specs.Counts.{HasCause, HasRefusalCause};

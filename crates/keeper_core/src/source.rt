@@ -1,3 +1,5 @@
+//! The trait `Source`: where bytes come from.
+
 ghost use Rattle.std.specs.Prelude.{ℕ, List, Option, ◌<◌, length};
 ghost use Rattle.std.specs.Io.{ReadsAtMost};
 ghost use Rattle.std.specs.Io.KnownBytes.{ReadConsumes};

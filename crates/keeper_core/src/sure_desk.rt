@@ -1,3 +1,5 @@
+//! A desk in memory that never fails.
+
 ghost use Rattle.std.specs.Prelude.{◌≡◌, Some, None, [], map, IfOk, IfErr, OnOk, OnErr, option_map, option_copied};
 ghost use Rattle.keeper_core.specs.Counts.{IsWant};
 ghost use Rattle.keeper_core.specs.Desk.{file_named, opening_rows, opened_as, asked, with_stores, sure_end};

@@ -3,7 +3,7 @@ use Rattle.std.proofs.Common.{◌≡◌, ◌∙◌, ℕ, ◌+◌, ◌-◌, ◌<�
 use Rattle.std.specs.Prelude.{◌==◌, nat_eq}
 use Rattle.std.specs.HashSet.{HashSet, contains}
 use Rattle.std.specs.List.{filter, list_any}
-use Rattle.plane_types.specs.Retagged.{free_tags, numbers}
+use Rattle.plane_types.specs.NewTags.{free_tags, numbers}
 use Rattle.plane_types.proofs.NumberLemmas.{numbers-end, numbers-step}
 use Rattle.l2_agent.specs.Free.{free_from, is_left}
 

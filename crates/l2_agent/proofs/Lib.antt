@@ -1,3 +1,3 @@
 mod FreeLemmas
-mod PlaceLemmas
+mod IndexLemmas
 mod RuledLemmas

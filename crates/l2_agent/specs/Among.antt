@@ -20,7 +20,10 @@ ids_among ids networks = map (λ (n : NetworkRow). n.id) (filter (is_in ids) net
 
 -- the members of a group, where it is named
 abbrev pub set_if : RowLists → Bool → GroupRow → List SetRow
-set_if rows named g = if named then map (λ (p : Prefix). record { group = g.id; prefix = p }) (members rows g.id) else []
+set_if rows named g =
+    if named then map (λ (p : Prefix). record { group = g.id; prefix = p }) (members rows g.id)
+    else []
 
 abbrev pub sets_among : {S : Type 0} → RowLists → HashSet Ident S → List SetRow
-sets_among rows ids = flat_map (λ (g : GroupRow). set_if rows (contains ident_eq ids g.id) g) rows.groups
+sets_among rows ids =
+    flat_map (λ (g : GroupRow). set_if rows (contains ident_eq ids g.id) g) rows.groups

@@ -2,7 +2,7 @@
 use Rattle.std.specs.Prelude.{ℕ, ◌-◌, Bool, not, List, nat_eq}
 use Rattle.std.specs.List.{filter}
 use Rattle.std.specs.HashSet.{HashSet, contains}
-use Rattle.plane_types.specs.Retagged.{numbers}
+use Rattle.plane_types.specs.NewTags.{numbers}
 
 abbrev pub is_left : {S : Type 0} → HashSet ℕ S → ℕ → Bool
 is_left kept tag = not (contains nat_eq kept tag)

@@ -1,4 +1,4 @@
 pub mod Among
 pub mod Free
-pub mod Places
+pub mod Indices
 pub mod Ruled

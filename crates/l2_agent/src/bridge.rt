@@ -1,3 +1,5 @@
+//! The table `bridge`: where each MAC, and DHCP, is reached.
+
 ghost use Rattle.std.specs.Prelude.{◌≡◌, ◌++◌, IfOk, OnOk};
 ghost use Rattle.std.specs.List.{filter_map};
 ghost use Rattle.api_types.specs.Live.{segment};

@@ -1,10 +1,12 @@
+//! The table `filters`: the rules of each secured tap.
+
 ghost use Rattle.std.specs.Prelude.{◌≡◌, ◌==◌, ◌||◌, ◌++◌, ◌<◌, ◌≤◌, ℕ, IfNone, IfOk, IfSome, OnOk, false, flat_map, length, map, slice_index_or as get_or, true};
 ghost use Rattle.std.specs.BTreeSet.{contains};
 ghost use Rattle.std.specs.List.{filter_map};
 ghost use Rattle.std.specs.Ordering.{nat_cmp};
 ghost use Rattle.api_types.specs.declared.group.GroupRow.{GroupRow as TheGroup};
 ghost use Rattle.plane_types.specs.TableRows.{filter_by, filter_of as filter_of_rule, filter_rows as filter_rows_of, filters_of, filters_of_group};
-ghost use Rattle.l2_agent.specs.Places.{is_named};
+ghost use Rattle.l2_agent.specs.Indices.{is_named};
 
 use crate::ruled::Ruled;
 use crate::taps::is_tap;
@@ -39,6 +41,7 @@ fn add_rules(
         (filters.new ≡ filters.old ++ map (filter_of_rule port.now) (map (λ r. r.now) rules.now)) }
 {
     for rule in rules {
+        // for the proof: a value of the prefix's type is at hand before a row with one is pushed
         let _prefix = rule.remote_prefix;
         filters.push(filter_of(port, rule))?;
     }
@@ -62,42 +65,42 @@ fn add_group(
     }
 }
 
-// Adds a place.
-fn mark(places: &mut BTreeSet<usize>, place: usize) -> Result<(), OutOfMemory>
+// Adds an index.
+fn mark(indices: &mut BTreeSet<usize>, place: usize) -> Result<(), OutOfMemory>
     ensures { OnOk result
-        ((p : ℕ) → contains nat_cmp places.new p ≡ ((place == p) || contains nat_cmp places.old p)) }
+        ((p : ℕ) → contains nat_cmp indices.new p ≡ ((place == p) || contains nat_cmp indices.old p)) }
 {
-    places.insert(place)?;
+    indices.insert(place)?;
     Ok(())
 }
 
-// Takes the least place out.
-fn take_least(places: &mut BTreeSet<usize>) -> Option<usize>
-    ensures none { IfNone result ((p : ℕ) → contains nat_cmp places.old p ≡ false) }
-    ensures member { IfSome result (λ k. contains nat_cmp places.old k ≡ true) }
-    ensures least { IfSome result (λ k. (p : ℕ) → p < k → contains nat_cmp places.old p ≡ false) }
-    ensures gone { IfSome result (λ k. (p : ℕ) → p ≤ k → contains nat_cmp places.new p ≡ false) }
+// Takes the least index out.
+fn take_least(indices: &mut BTreeSet<usize>) -> Option<usize>
+    ensures none { IfNone result ((p : ℕ) → contains nat_cmp indices.old p ≡ false) }
+    ensures member { IfSome result (λ k. contains nat_cmp indices.old k ≡ true) }
+    ensures least { IfSome result (λ k. (p : ℕ) → p < k → contains nat_cmp indices.old p ≡ false) }
+    ensures gone { IfSome result (λ k. (p : ℕ) → p ≤ k → contains nat_cmp indices.new p ≡ false) }
     ensures rest { IfSome result
-        (λ k. (p : ℕ) → k < p → contains nat_cmp places.new p ≡ contains nat_cmp places.old p) }
-    ensures fewer { IfSome result (λ k. length places.new.keys < length places.old.keys) }
+        (λ k. (p : ℕ) → k < p → contains nat_cmp indices.new p ≡ contains nat_cmp indices.old p) }
+    ensures fewer { IfSome result (λ k. length indices.new.keys < length indices.old.keys) }
 {
-    places.pop_first()
+    indices.pop_first()
 }
 
-// The places of the groups with these ids.
+// The indices of the groups with these ids.
 fn places_named(alloc: Global, ruled: &Ruled, ids: &[Id]) -> Result<BTreeSet<usize>, OutOfMemory>
     ensures { IfOk result
         (λ s. (p : ℕ) → contains nat_cmp s p ≡ is_named ruled.now.groups ids.now p) }
 {
-    let mut places = BTreeSet::new(alloc);
+    let mut indices = BTreeSet::new(alloc);
     let mut left = ids.len();
     while left > 0 {
         left -= 1;
-        if let Some(place) = ruled.place(ids[left]) {
-            mark(&mut places, place)?;
+        if let Some(place) = ruled.index_of(ids[left]) {
+            mark(&mut indices, place)?;
         }
     }
-    Ok(places)
+    Ok(indices)
 }
 
 fn group_at(groups: &[Shared<GroupRow>], place: usize) -> &GroupRow
@@ -107,21 +110,21 @@ fn group_at(groups: &[Shared<GroupRow>], place: usize) -> &GroupRow
     groups[place].get()
 }
 
-// Adds the rows of the groups that a port names, whose places these are.
+// Adds the rows of the groups that a port names, whose indices these are.
 fn add_groups(
     filters: &mut Seq<FilterRow>,
     ruled: &Ruled,
     port: &PortRow,
-    places: BTreeSet<usize>,
+    indices: BTreeSet<usize>,
 ) -> Result<(), OutOfMemory>
-    requires { (p : ℕ) → contains nat_cmp places p ≡ is_named ruled.now.groups port.now.groups p }
+    requires { (p : ℕ) → contains nat_cmp indices p ≡ is_named ruled.now.groups port.now.groups p }
     ensures { OnOk result
         (filters.new
         ≡ filters.old ++ flat_map (filters_of_group ruled.now port.now) ruled.now.groups) }
 {
     let groups = ruled.rows().groups().rows();
-    let mut places = places;
-    while let Some(place) = take_least(&mut places) {
+    let mut indices = indices;
+    while let Some(place) = take_least(&mut indices) {
         add_group(filters, ruled, port, group_at(groups, place))?;
     }
     Ok(())
@@ -140,8 +143,8 @@ fn add_port(
     if !(is_tap(ruled.rows(), host, port) && port.secured) {
         return Ok(());
     }
-    let places = places_named(alloc, ruled, port.groups.as_slice())?;
-    add_groups(filters, ruled, port, places)
+    let indices = places_named(alloc, ruled, port.groups.as_slice())?;
+    add_groups(filters, ruled, port, indices)
 }
 
 // Adds the rows of all ports.

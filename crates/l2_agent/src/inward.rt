@@ -1,3 +1,5 @@
+//! The table `inward`: the tag for each tunnel number and wire.
+
 ghost use Rattle.std.specs.Prelude.{◌≡◌, IfOk};
 ghost use Rattle.api_types.specs.Live.{segment};
 ghost use Rattle.plane_types.specs.TableRows.{carrier_of as carrier_by_segment, inward_row as inward_row_of, inward_rows as inward_rows_of};

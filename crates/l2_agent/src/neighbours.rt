@@ -1,3 +1,5 @@
+//! The table `neighbours`: who has each address.
+
 ghost use Rattle.std.specs.Prelude.{◌≡◌, ◌++◌, IfOk, OnOk, flat_map, map};
 ghost use Rattle.std.specs.List.{filter_map};
 ghost use Rattle.api_types.specs.declared.port.Fixed.{Fixed as TheFixed};
@@ -103,6 +105,7 @@ fn add_floatings(
         ++ filter_map (floating_neighbour rows.now host.now tags.now) rows.now.floatings) }
 {
     for floating in rows.floatings().rows() {
+        // for the proof: a value of `Addr` is at hand before a row with an address is pushed
         let _address = Addr::V4(floating.address);
         if let Some(row) = floating_row(rows, host, tags, floating) {
             neighbours.push(row)?;

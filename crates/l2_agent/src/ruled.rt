@@ -1,11 +1,11 @@
-//! Groups by their places, and rules by their groups.
+//! Groups by their indices, and rules by their groups.
 
 ghost use Rattle.std.specs.Prelude.{◌≡◌, ◌++◌, ◌∷◌, [], IfOk, None, OnOk, Some, if◌then◌else◌, map, option_copied};
 ghost use Rattle.std.specs.HashMap.{get};
 ghost use Rattle.std.specs.List.{filter};
 ghost use Rattle.api_types.specs.Ident.{Ident};
 ghost use Rattle.api_types.specs.Table.{ident_eq};
-ghost use Rattle.l2_agent.specs.Places.{place_from};
+ghost use Rattle.l2_agent.specs.Indices.{index_from};
 ghost use Rattle.l2_agent.specs.Ruled.{is_of};
 
 use api_types::{GroupRow, Id, Rows, RuleRow, Shared};
@@ -18,7 +18,7 @@ use std::marker::Model;
 #[derive(Drop)]
 pub(crate) struct Ruled<'r> {
     rows: &'r Rows,
-    places: HashMap<Id, usize>,
+    indices: HashMap<Id, usize>,
     rules: HashMap<Id, Vec<&'r RuleRow>>,
 }
 
@@ -29,7 +29,7 @@ impl<'r> Model for Ruled<'r> {
     ghost use Rattle.api_types.specs.Ident.{Ident};
     ghost use Rattle.api_types.specs.RowLists.{RowLists};
     ghost use Rattle.api_types.specs.Table.{ident_eq};
-    ghost use Rattle.l2_agent.specs.Places.{place_from};
+    ghost use Rattle.l2_agent.specs.Indices.{index_from};
     ghost use Rattle.l2_agent.specs.Ruled.{is_of};
 
     ghost Value = { RowLists };
@@ -37,28 +37,28 @@ impl<'r> Model for Ruled<'r> {
     ghost view = { λ r. r.rows.now };
 
     ghost invariant = { λ r.
-        ((n : Ident) → get ident_eq r.places n ≡ place_from 0 r.rows.now.groups n)
+        ((n : Ident) → get ident_eq r.indices n ≡ index_from 0 r.rows.now.groups n)
         × ((g : Ident)
         → elim (get ident_eq r.rules g) [ None ↦ [] | Some v ↦ map (λ x. x.now) v.items ]
         ≡ filter (is_of g) r.rows.now.rules) };
 }
 
-// The place of each group, from the last to the first.
-fn places_of(alloc: Global, groups: &[Shared<GroupRow>]) -> Result<HashMap<Id, usize>, OutOfMemory>
-    ensures { IfOk result (λ m. (n : Ident) → get ident_eq m n ≡ place_from 0 groups.now n) }
+// The index of each group, from the last to the first.
+fn indices_of(alloc: Global, groups: &[Shared<GroupRow>]) -> Result<HashMap<Id, usize>, OutOfMemory>
+    ensures { IfOk result (λ m. (n : Ident) → get ident_eq m n ≡ index_from 0 groups.now n) }
 {
-    let mut places = HashMap::new(alloc);
+    let mut indices = HashMap::new(alloc);
     let mut left = groups.len();
     while left > 0 {
         left -= 1;
         let group = groups[left].get();
-        places.insert(group.id, left)?;
+        indices.insert(group.id, left)?;
     }
-    Ok(places)
+    Ok(indices)
 }
 
 // Takes the rules of a group out.
-fn taken<'r>(
+fn take_rules<'r>(
     alloc: Global,
     by_group: &mut HashMap<Id, Vec<&'r RuleRow>>,
     group: Id,
@@ -88,7 +88,7 @@ fn add_rule<'r>(
         [ None ↦ [] | Some v ↦ map (λ r. r.now) v.items ]
         ++ (if ident_eq rule.now.group q then rule.now ∷ [] else [])) }
 {
-    let mut rules = taken(alloc, by_group, rule.group);
+    let mut rules = take_rules(alloc, by_group, rule.group);
     rules.push(rule)?;
     by_group.insert(rule.group, rules)?;
     Ok(())
@@ -118,7 +118,7 @@ impl<'r> Ruled<'r> {
     {
         Ok(Ruled {
             rows,
-            places: places_of(alloc, rows.groups().rows())?,
+            indices: indices_of(alloc, rows.groups().rows())?,
             rules: rules_by_group(alloc, rows.rules().rows())?,
         })
     }
@@ -130,11 +130,11 @@ impl<'r> Ruled<'r> {
         self.rows
     }
 
-    /// At which place the group with this id stands.
-    pub(crate) fn place(&self, id: Id) -> Option<usize>
-        ensures { result ≡ place_from 0 self.now.groups id }
+    /// At which index the group with this id stands.
+    pub(crate) fn index_of(&self, id: Id) -> Option<usize>
+        ensures { result ≡ index_from 0 self.now.groups id }
     {
-        self.places.get(&id).copied()
+        self.indices.get(&id).copied()
     }
 
     /// The rules of a group, in order of creation.

@@ -1,3 +1,5 @@
+//! The table `tags`: a local tag for each network here, kept from one wiring to the next.
+
 ghost use Rattle.std.specs.Prelude.{◌≡◌, ◌==◌, ◌<◌, ◌≤◌, ◌&&◌, ◌||◌, ℕ, IfNone, IfOk, OnOk, nat_eq, option_map, true};
 ghost use Rattle.std.specs.HashSet.{contains};
 ghost use Rattle.std.specs.List.{list_any};
@@ -6,7 +8,7 @@ ghost use Rattle.api_types.specs.Live.{is_here as is_here_by_rows};
 ghost use Rattle.api_types.specs.Table.{ident_eq};
 ghost use Rattle.api_types.specs.declared.port.PortRow.{PortRow as ThePort};
 ghost use Rattle.plane_types.specs.TableRows.{tag_of as tag_given};
-ghost use Rattle.plane_types.specs.Retagged.{in_turn as given_in_turn, kept_tags as kept_of, next_tag as next_of, retagged as retagged_by_rows, tagged as tagged_by_rows};
+ghost use Rattle.plane_types.specs.NewTags.{in_turn as given_in_turn, kept_tags as kept_of, next_tag as next_of, new_tags as retagged_by_rows, tagged_networks as tagged_by_rows};
 ghost use Rattle.l2_agent.specs.Among.{ids_among};
 ghost use Rattle.l2_agent.specs.Free.{free_from, is_left};
 
@@ -81,8 +83,8 @@ fn networks_among(
 }
 
 // The networks that have a tag on the host, in order of creation.
-#[tactic(auto, unfolding(plane_types::specs::Retagged::tagged))]
-fn tagged(alloc: Global, rows: &Rows, host: &Text) -> Result<Vec<Id>, OutOfMemory>
+#[tactic(auto, unfolding(plane_types::specs::NewTags::tagged_networks))]
+fn find_tagged(alloc: Global, rows: &Rows, host: &Text) -> Result<Vec<Id>, OutOfMemory>
     ensures { IfOk result (λ v. v.items ≡ tagged_by_rows rows.now host.now) }
 {
     let here = networks_here(alloc, rows, host)?;
@@ -91,7 +93,7 @@ fn tagged(alloc: Global, rows: &Rows, host: &Text) -> Result<Vec<Id>, OutOfMemor
 }
 
 // The tags that these networks had.
-#[tactic(auto, unfolding(plane_types::specs::Retagged::kept_tags))]
+#[tactic(auto, unfolding(plane_types::specs::NewTags::kept_tags))]
 fn kept_tags(alloc: Global, old: &TagMap, networks: &[Id]) -> Result<HashSet<u16>, OutOfMemory>
     ensures { IfOk result
         (λ s. (t : ℕ)
@@ -150,7 +152,7 @@ fn next_tag(old: &TagMap, kept: &HashSet<u16>, network: Id, free: u16) -> (Optio
 }
 
 // A row for each network: the tag that it had, else the first one that is free then.
-#[tactic(auto, unfolding(plane_types::specs::Retagged::in_turn))]
+#[tactic(auto, unfolding(plane_types::specs::NewTags::in_turn))]
 fn in_turn(
     alloc: Global,
     rows: &Rows,
@@ -179,8 +181,8 @@ fn in_turn(
 
 /// The tags of a host. A network keeps the tag that it had, and the others take the least free
 /// ones, in order of creation. Its cost grows with the networks, the ports and the old tags.
-#[tactic(auto, unfolding(plane_types::specs::Retagged::retagged))]
-pub(crate) fn retagged(
+#[tactic(auto, unfolding(plane_types::specs::NewTags::new_tags))]
+pub(crate) fn assign_tags(
     alloc: Global,
     rows: &Rows,
     host: &Text,
@@ -188,7 +190,7 @@ pub(crate) fn retagged(
 ) -> Result<Tags, OutOfMemory>
     ensures { IfOk result (λ t. t ≡ retagged_by_rows rows.now host.now old.now) }
 {
-    let networks = tagged(alloc, rows, host)?;
+    let networks = find_tagged(alloc, rows, host)?;
     let old = TagMap::of(alloc, old)?;
     let kept = kept_tags(alloc, &old, networks.as_slice())?;
     let tags = in_turn(alloc, rows, &old, &kept, networks.as_slice())?;

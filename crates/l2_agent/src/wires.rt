@@ -1,3 +1,5 @@
+//! The wire that carries a network.
+
 ghost use Rattle.std.specs.Prelude.{◌≡◌, IfOk};
 ghost use Rattle.api_types.specs.Live.{segment};
 ghost use Rattle.api_types.specs.Wires.{wire_of as wire_by_segment};

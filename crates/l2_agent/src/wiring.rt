@@ -1,15 +1,17 @@
+//! The tables of ports, made in order. Begin here.
+
 ghost use Rattle.std.specs.Prelude.{◌≡◌, IfOk};
 ghost use Rattle.api_types.specs.Consistent.{IsConsistent};
 ghost use Rattle.plane_types.specs.TableRows.{bridge_rows as bridge_rows_of, filter_rows as filter_rows_of, inward_rows as inward_rows_of, neighbour_rows as neighbour_rows_of, set_rows as set_rows_of, tap_rows as tap_rows_of};
 ghost use Rattle.plane_types.specs.Realises.{RealisesTags};
-ghost use Rattle.plane_types.specs.Retagged.{AreTags, retagged as retagged_by_rows};
+ghost use Rattle.plane_types.specs.NewTags.{AreTags, new_tags as retagged_by_rows};
 
 use crate::bridge::bridge_rows;
 use crate::filters::filter_rows;
 use crate::inward::inward_rows;
 use crate::neighbours::neighbour_rows;
 use crate::sets::set_rows;
-use crate::tags::retagged;
+use crate::tags::assign_tags;
 use crate::taps::tap_rows;
 use api_types::Rows;
 use net_addr::{OutOfMemory, Seq, Text};
@@ -53,7 +55,7 @@ pub fn wire_ports(
     ensures neighbours { IfOk result
         (λ t. t.neighbours ≡ neighbour_rows_of rows.now host.now t.tags) }
 {
-    let tags = retagged(alloc, rows, host, old.as_slice())?;
+    let tags = assign_tags(alloc, rows, host, old.as_slice())?;
     let taps = tap_rows(alloc, rows, host, tags.as_slice())?;
     let filters = filter_rows(alloc, rows, host)?;
     let sets = set_rows(alloc, rows, filters.as_slice())?;

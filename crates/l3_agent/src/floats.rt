@@ -1,5 +1,7 @@
+//! The table `floats`: floating addresses that routers here translate.
+
 ghost use Rattle.std.specs.Prelude.{◌≡◌, IfOk};
-ghost use Rattle.api_types.specs.Holders.{router_named};
+ghost use Rattle.api_types.specs.RowsWith.{router_with};
 ghost use Rattle.plane_types.specs.TableRows.{float_row_by, float_rows as float_rows_of, is_hosted as is_hosted_by_rows};
 
 use crate::routers::is_hosted;
@@ -11,7 +13,7 @@ use std::alloc::Global;
 
 // Whether the router with this id stands on the host.
 fn is_hosted_here(rows: &Rows, host: &Text, router: Id) -> bool
-    ensures { result ≡ is_hosted_by_rows host.now (router_named rows.now router) }
+    ensures { result ≡ is_hosted_by_rows host.now (router_with rows.now router) }
 {
     match named_router(rows, router) {
         Some(router) => is_hosted(host, router),

@@ -1,3 +1,5 @@
+//! The ports of a router, as its table has them.
+
 ghost use Rattle.std.specs.Prelude.{◌≡◌, IfOk, map};
 ghost use Rattle.std.specs.List.{filter_map};
 ghost use Rattle.api_types.specs.declared.port.Fixed.{Fixed as TheFixed};
@@ -53,7 +55,7 @@ fn router_port(
 }
 
 // The row of a port, where the host has a tag for its network.
-fn tagged(
+fn row_of_port(
     alloc: Global,
     rows: &Rows,
     tags: &TagMap,
@@ -79,7 +81,7 @@ fn rows_of_ports(
 {
     let mut ports = Seq::new(alloc);
     for port in legs {
-        if let Some(row) = tagged(alloc, rows, tags, port)? {
+        if let Some(row) = row_of_port(alloc, rows, tags, port)? {
             ports.push(row)?;
         }
     }
@@ -98,7 +100,7 @@ pub(crate) fn router_ports(
         (λ p. p ≡ filter_map (tagged_by legs.now tags.now) (legs_of legs.now router.now)) }
 {
     let name = router.id.print(alloc)?;
-    match legs.named(name.as_str()) {
+    match legs.ports_of(name.as_str()) {
         Some(ports) => rows_of_ports(alloc, legs.rows(), tags, ports.as_slice()),
         None => Ok(Seq::new(alloc)),
     }

@@ -1,6 +1,8 @@
+//! The table `routers`: the routers here.
+
 ghost use Rattle.std.specs.Prelude.{◌≡◌, IfOk};
 ghost use Rattle.api_types.specs.RouterRows.{has_snat as snat_of};
-ghost use Rattle.plane_types.specs.TableRows.{hosted, router_row as router_row_of, router_rows as router_rows_of};
+ghost use Rattle.plane_types.specs.TableRows.{is_on_host, router_row as router_row_of, router_rows as router_rows_of};
 
 use crate::ports::router_ports;
 use api_types::{Gateway, RouterRow};
@@ -11,7 +13,7 @@ use std::alloc::Global;
 
 /// Whether a router stands on the host.
 pub(crate) fn is_hosted(host: &Text, router: &RouterRow) -> bool
-    ensures { result ≡ hosted host.now router.now }
+    ensures { result ≡ is_on_host host.now router.now }
 {
     match &router.host {
         Some(at) => *at == *host,

@@ -1,3 +1,5 @@
+//! The table `routes`: the routes of the routers here.
+
 ghost use Rattle.std.specs.Prelude.{◌≡◌, ◌++◌, IfOk, OnOk, map};
 ghost use Rattle.api_types.specs.RouterRows.{ways_of as ways_by_rows};
 ghost use Rattle.plane_types.specs.TableRows.{route_row, route_rows as route_rows_of};
@@ -15,7 +17,7 @@ fn ways(alloc: Global, legs: &Legs, router: &RouterRow) -> Result<Vec<Way>, OutO
     ensures { IfOk result (λ v. map way_of v.items ≡ ways_by_rows legs.now router.now) }
 {
     let name = router.id.print(alloc)?;
-    match legs.named(name.as_str()) {
+    match legs.ports_of(name.as_str()) {
         Some(ports) => ways_by(alloc, legs.rows(), ports.as_slice(), router),
         None => ways_by(alloc, legs.rows(), &[], router),
     }

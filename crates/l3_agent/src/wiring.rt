@@ -1,3 +1,5 @@
+//! The tables of routers, made in order. Begin here.
+
 ghost use Rattle.std.specs.Prelude.{◌≡◌, IfOk};
 ghost use Rattle.plane_types.specs.TableRows.{float_rows as float_rows_of, route_rows as route_rows_of, router_rows as router_rows_of};
 

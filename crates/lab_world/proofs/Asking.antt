@@ -7,8 +7,8 @@ use Rattle.api_types.specs.declared.refusal.PolicyRule.TheVariants.{AdminOnly}
 use Rattle.api_types.specs.declared.refusal.Refusal.{Refusal}
 use Rattle.api_types.specs.declared.refusal.Refusal.TheVariants.{Forbidden, NoHost, NoMessage}
 use Rattle.plane_types.specs.Hosts.{all_entries}
-use Rattle.plane_types.specs.Node.{heard}
-use Rattle.plane_types.specs.Told.{fabric_verdict, rows_verdict}
+use Rattle.plane_types.specs.Node.{hearing}
+use Rattle.plane_types.specs.Verdicts.{fabric_verdict, rows_verdict}
 use Rattle.plane_types.specs.declared.ask.HostState.{HostState}
 use Rattle.plane_types.specs.declared.ask.LabAnswer.{LabAnswer}
 use Rattle.plane_types.specs.declared.ask.LabAnswer.TheVariants.{Hosts, Seen, Told}
@@ -43,7 +43,7 @@ pub stepped_told : (w : World) (s : Step) (states : List HostState) → states �
 stepped_told w s states is = ap (λ x. Answered (Hosts x) (step w s)) (sym is)
 
 -- a change that is kept is told, and one that isn't is refused
-pub delivered_told : (w : World) (name : List ℕ) (number : ℕ) (a : Agent) (c : List Item) → change_at w.history number ≡ Some c → delivered w name number a (change_at w.history number) ≡ Answered (Told (heard number a.held)) (step w (Deliver name number))
+pub delivered_told : (w : World) (name : List ℕ) (number : ℕ) (a : Agent) (c : List Item) → change_at w.history number ≡ Some c → delivered w name number a (change_at w.history number) ≡ Answered (Told (hearing number a.held)) (step w (Deliver name number))
 delivered_told w name number a c is = ap (delivered w name number a) is
 
 pub undelivered : (w : World) (name : List ℕ) (number : ℕ) (a : Agent) → change_at w.history number ≡ None → delivered w name number a (change_at w.history number) ≡ Barred (NoMessage number (first_kept w.history) w.history.version)

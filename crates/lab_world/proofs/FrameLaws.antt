@@ -6,7 +6,7 @@ use Rattle.api_types.specs.declared.call.Caller.{Caller}
 use Rattle.api_ml2.specs.Carrying.{carries}
 use Rattle.plane_types.specs.Crossing.{CrossesAtRouters}
 use Rattle.plane_types.specs.Hosts.{Host, all_entries}
-use Rattle.plane_types.specs.Told.{fabric_verdict, hosts_after, kept_from, made_at, rows_verdict, without_hosts}
+use Rattle.plane_types.specs.Verdicts.{fabric_verdict, hosts_after, with_made_from, made_at, rows_verdict, without_hosts}
 use Rattle.plane_types.specs.declared.ask.LabAnswer.TheVariants.{Seen}
 use Rattle.plane_types.specs.declared.ask.LabCall.TheVariants.{Frames}
 use Rattle.plane_types.specs.declared.event.Event.{Event}
@@ -44,7 +44,7 @@ fresh_few hosts event bits = (bounded-by_tables hosts event bits).fresh
 
 -- ---- behind an event
 
-added_seats : (place : ℕ) (agents : List Agent) (fresh : List Made) → map seat (add_from place agents fresh) ≡ kept_from place (map seat agents) fresh
+added_seats : (place : ℕ) (agents : List Agent) (fresh : List Made) → map seat (add_from place agents fresh) ≡ with_made_from place (map seat agents) fresh
 added_seats place [] fresh = refl
 added_seats place (a ∷ agents) fresh = λ j. record { name = a.name; tables = a.tables; entries = a.entries ++ filter_map (made_at place) fresh } ∷ added_seats (suc place) agents fresh j
 

@@ -7,8 +7,8 @@ use Rattle.api_types.specs.declared.change.Item.{Item}
 use Rattle.api_types.specs.declared.refusal.Refusal.{Refusal}
 use Rattle.api_types.specs.declared.refusal.Refusal.TheVariants.{NoHost, NoMessage, OutOfMemory}
 use Rattle.net_settings.specs.Settings.{SettingsParts}
-use Rattle.plane_types.specs.Node.{Node, heard, host_of, resynced, told, with_entries}
-use Rattle.plane_types.specs.Told.{fabric_verdict}
+use Rattle.plane_types.specs.Node.{Node, hearing, host_of, after_resync, after_change, with_entries}
+use Rattle.plane_types.specs.Verdicts.{fabric_verdict}
 use Rattle.plane_types.specs.declared.ask.Heard.{Heard}
 use Rattle.plane_types.specs.declared.ask.HostState.{HostState}
 use Rattle.plane_types.specs.declared.ask.LabAnswer.{LabAnswer}
@@ -71,11 +71,11 @@ module _ (settings : SettingsParts) (rows : RowLists) (version : ℕ) (kept : Ke
       (told_at name at (Restart name) states admin named (told ∙ states_named name None restarted (λ a. refl) nodes))
 
   pub resyncs : (name : List ℕ) (at : ℕ) (states : List HostState) (new : List Node) (w : World) → world_seen settings rows version kept nodes manual ≡ w → caller.admin ≡ true → IsNamedAt name nodes at
-      → states ≡ map (state_with name (Some version)) nodes → IsDoneAt (λ n m. m ≡ resynced n version rows m.spare) at nodes new
+      → states ≡ map (state_with name (Some version)) nodes → IsDoneAt (λ n m. m ≡ after_resync n version rows m.spare) at nodes new
       → AreParts settings rows version kept new manual × IsHandled (ByLab (lab_outcome w caller (call.Resync name))) w (world_seen settings rows version kept new manual) (LabDone (Hosts states))
   resyncs name at states new w is admin named told d =
       behind (Resync name) (call.Resync name) (Hosts states) new w is
-      (by_step settings rows version kept nodes manual are (Resync name) (at_host name (rewired version rows) (map agent_of nodes)) refl tt new (done name (rewired version rows) (λ n m. m ≡ resynced n version rows m.spare) at new (λ n m same. ap agent_of same) named d))
+      (by_step settings rows version kept nodes manual are (Resync name) (at_host name (rewired version rows) (map agent_of nodes)) refl tt new (done name (rewired version rows) (λ n m. m ≡ after_resync n version rows m.spare) at new (λ n m same. ap agent_of same) named d))
       (told_at name at (Resync name) states admin named (told ∙ states_named name (Some version) (rewired version rows) (λ a. refl) nodes))
 
   pub forgets : (name : List ℕ) (at : ℕ) (states : List HostState) (new : List Node) (w : World) → world_seen settings rows version kept nodes manual ≡ w → caller.admin ≡ true → IsNamedAt name nodes at
@@ -95,15 +95,15 @@ module _ (settings : SettingsParts) (rows : RowLists) (version : ℕ) (kept : Ke
       (admitted caller (stepped old Settle) admin ∙ stepped_told old Settle states (told ∙ states_settled old.history nodes (settle_syncs old)))
 
   pub delivers : (name : List ℕ) (at number : ℕ) (c : List Item) (h : Heard) (new : List Node) (w : World) → world_seen settings rows version kept nodes manual ≡ w → caller.admin ≡ true → IsNamedAt name nodes at
-      → change_of version kept.changes number ≡ Some c → IsDoneAt (λ n m. (m ≡ told n number c m.spare) × (h ≡ heard number n.held)) at nodes new
+      → change_of version kept.changes number ≡ Some c → IsDoneAt (λ n m. (m ≡ after_change n number c m.spare) × (h ≡ hearing number n.held)) at nodes new
       → AreParts settings rows version kept new manual × IsHandled (ByLab (lab_outcome w caller (call.Deliver name number))) w (world_seen settings rows version kept new manual) (LabDone (Told h))
   delivers name at number c h new w is admin named there d =
       let n = found_at name nodes at (once_named settings rows version kept nodes manual are name) named in
       let same : d.before ≡ n.0 = some_equal d.before n.0 (sym d.at ∙ n.1) in
-      let answer : h ≡ heard number n.0.held = d.is.1 ∙ ap (λ (m : Node). heard number m.held) same in
+      let answer : h ≡ hearing number n.0.held = d.is.1 ∙ ap (λ (m : Node). hearing number m.held) same in
       behind (Deliver name number) (call.Deliver name number) (Told h) new w is
       (by_step settings rows version kept nodes manual are (Deliver name number) (at_host name (agent_told number c) (map agent_of nodes)) (ap (deliver_kept old name number) there) tt new
-      (done name (agent_told number c) (λ n m. (m ≡ told n number c m.spare) × (h ≡ heard number n.held)) at new (λ n m both. ap agent_of both.0 ∙ told_seen n number c m.spare) named d))
+      (done name (agent_told number c) (λ n m. (m ≡ after_change n number c m.spare) × (h ≡ hearing number n.held)) at new (λ n m both. ap agent_of both.0 ∙ told_seen n number c m.spare) named d))
       (found caller name (host_named old name) (agent_of n.0) (λ a. delivered old name number a (change_at old.history number)) admin n.2
       ∙ delivered_told old name number (agent_of n.0) c there ∙ ap (λ x. Answered (Told x) (step old (Deliver name number))) (sym answer))
 

@@ -12,8 +12,8 @@ use Rattle.api_types.specs.declared.change.Item.{Item}
 use Rattle.net_settings.specs.Settings.{SettingsParts}
 use Rattle.plane_types.specs.Hosts.{Host, is_named}
 use Rattle.plane_types.specs.Node.{CanFollow, Node, host_of}
-use Rattle.plane_types.specs.Placed.{IsPlaced}
-use Rattle.plane_types.specs.Told.{fabric_verdict, kept as kept_at_hosts}
+use Rattle.plane_types.specs.Attached.{IsAttached}
+use Rattle.plane_types.specs.Verdicts.{fabric_verdict, with_made as kept_at_hosts}
 use Rattle.plane_types.specs.declared.event.Event.{Event}
 use Rattle.plane_laws.proofs.Counted.{once-counted}
 use Rattle.plane_laws.proofs.Facts.{AtMostOne}
@@ -108,8 +108,8 @@ module _ (settings : SettingsParts) (rows : RowLists) (version : ℕ) (kept : Ke
   names_differ name = subst (λ (hosts : List Host). count_by (is_named name) hosts ≤ 1) (sym (seats_seen nodes)) (seat_names old are.world.rules are.world.named name)
 
   -- the entries that an event makes are placed where they are kept
-  pub fresh_placed : (event : Event) → Each IsPlaced (kept_at_hosts (map host_of nodes) (fabric_verdict (map host_of nodes) event).fresh)
-  fresh_placed event = stay-placed (map host_of nodes) names_differ (subst (Each IsPlaced) (sym (seats_seen nodes)) (each_map seat IsPlaced (map agent_of nodes) are.world.placed)) event
+  pub fresh_placed : (event : Event) → Each IsAttached (kept_at_hosts (map host_of nodes) (fabric_verdict (map host_of nodes) event).fresh)
+  fresh_placed event = stay-placed (map host_of nodes) names_differ (subst (Each IsAttached) (sym (seats_seen nodes)) (each_map seat IsAttached (map agent_of nodes) are.world.placed)) event
 
   pub sent : (event : Event) (new : List Node) → map agent_of new ≡ add_from 0 (map agent_of nodes) (fabric_verdict (map seat (map agent_of nodes)) event).fresh
       → AreParts settings rows version kept new manual × (world_seen settings rows version kept new manual ≡ step (world_seen settings rows version kept nodes manual) (Send event))

@@ -10,8 +10,8 @@ use Rattle.std.proofs.lemmas.Option.{slice_get-get_or, slice_get-map}
 use Rattle.api_types.proofs.ListLemmas.{none_some, some_equal}
 use Rattle.api_types.specs.Lists.{Each}
 use Rattle.plane_types.specs.Hosts.{Host}
-use Rattle.plane_types.specs.Placed.{IsPlaced, meets, translates}
-use Rattle.plane_types.specs.Told.{kept, kept_from, made_at}
+use Rattle.plane_types.specs.Attached.{IsAttached, meets, translates}
+use Rattle.plane_types.specs.Verdicts.{with_made, with_made_from, made_at}
 use Rattle.plane_types.specs.declared.entry.Entry.{Entry}
 use Rattle.plane_types.specs.declared.lists.TableLists.{TableLists}
 use Rattle.plane_types.specs.declared.verdict.Made.{Made}
@@ -28,7 +28,7 @@ in_front [] more k e at = none_some e _ at
 in_front (x ∷ es) more zero e at = at
 in_front (x ∷ es) more (suc k) e at = in_front es more k e at
 
-front_placed : (name : List ℕ) (t : TableLists) (es more : List Entry) → IsPlaced (record { name = name; tables = t; entries = es ++ more }) → IsPlaced (record { name = name; tables = t; entries = es })
+front_placed : (name : List ℕ) (t : TableLists) (es more : List Entry) → IsAttached (record { name = name; tables = t; entries = es ++ more }) → IsAttached (record { name = name; tables = t; entries = es })
 front_placed name t es more h = record {
   stand = λ k e at. h.stand k e (in_front es more k e at);
   once_outside = λ router kind outer port far far_port. fewer (meets router kind outer port far far_port) es more (h.once_outside router kind outer port far far_port);
@@ -45,7 +45,7 @@ first_given f x xs y h = by (f x) refl
 -- an entry that is made next can be added
 pub next_placed : (n old : Node) (place : ℕ) (fresh : List Made) (i : ℕ) (m : Made) → n ≡ with_entries old n.entries n.spare
     → n.entries ++ filter_map (made_at place) (drop i fresh) ≡ old.entries ++ filter_map (made_at place) fresh → i < length fresh → m ≡ slice_index_or fresh i m → made_at place m ≡ Some m.entry
-    → IsPlaced (host_with old (old.entries ++ filter_map (made_at place) fresh)) → IsPlaced (host_with n (n.entries ++ m.entry ∷ []))
+    → IsAttached (host_with old (old.entries ++ filter_map (made_at place) fresh)) → IsAttached (host_with n (n.entries ++ m.entry ∷ []))
 next_placed n old place fresh i m same all within is hit placed =
     let f : Made → Option Entry = made_at place in
     let split : drop i fresh ≡ m ∷ drop (suc i) fresh = drop-cons fresh i m within ∙ ap (λ x. x ∷ drop (suc i) fresh) (sym is) in
@@ -54,7 +54,7 @@ next_placed n old place fresh i m same all within is hit placed =
     append_assoc n.entries (m.entry ∷ []) (filter_map f (drop (suc i) fresh)) ∙ ap (λ es. n.entries ++ es) (sym shown) ∙ all in
     let here : host_with n ((n.entries ++ m.entry ∷ []) ++ filter_map f (drop (suc i) fresh)) ≡ host_with old (old.entries ++ filter_map f fresh) =
     ap (λ x. host_with x ((n.entries ++ m.entry ∷ []) ++ filter_map f (drop (suc i) fresh))) same ∙ ap (host_with old) whole in
-    front_placed n.name n.tables (n.entries ++ m.entry ∷ []) (filter_map f (drop (suc i) fresh)) (subst IsPlaced (sym here) placed)
+    front_placed n.name n.tables (n.entries ++ m.entry ∷ []) (filter_map f (drop (suc i) fresh)) (subst IsAttached (sym here) placed)
 
 -- ---- places
 
@@ -83,7 +83,7 @@ rest_behind (y ∷ xs) (suc i) x rest h = rest_behind xs i x rest h
 
 -- each host keeps what it made, places counted from any
 kept_at : (place : ℕ) (hosts : List Host) (fresh : List Made) (k at : ℕ) (h : Host) → at ≡ place + k → slice_get hosts k ≡ Some h
-    → slice_get (kept_from place hosts fresh) k ≡ Some (record { name = h.name; tables = h.tables; entries = h.entries ++ filter_map (made_at at) fresh })
+    → slice_get (with_made_from place hosts fresh) k ≡ Some (record { name = h.name; tables = h.tables; entries = h.entries ++ filter_map (made_at at) fresh })
 kept_at place [] fresh k at h is here = none_some h _ here
 kept_at place (g ∷ hosts) fresh zero at h is here =
     let same : g ≡ h = some_equal g h here in
@@ -91,8 +91,8 @@ kept_at place (g ∷ hosts) fresh zero at h is here =
     ap Some ((λ j. record { name = (same j).name; tables = (same j).tables; entries = (same j).entries ++ filter_map (made_at (first j)) fresh }))
 kept_at place (g ∷ hosts) fresh (suc k) at h is here = kept_at (suc place) hosts fresh k at h (omega (arith, is)) here
 
-pub will_be_placed : (old items : List Node) (fresh : List Made) (i : ℕ) (n : Node) → Each IsPlaced (kept (map host_of old) fresh) → slice_get items i ≡ slice_get old i → i < length items → n ≡ slice_index_or items i n
-    → IsPlaced (host_of (with_entries n (n.entries ++ filter_map (made_at i) fresh) 0))
+pub will_be_placed : (old items : List Node) (fresh : List Made) (i : ℕ) (n : Node) → Each IsAttached (with_made (map host_of old) fresh) → slice_get items i ≡ slice_get old i → i < length items → n ≡ slice_index_or items i n
+    → IsAttached (host_of (with_entries n (n.entries ++ filter_map (made_at i) fresh) 0))
 will_be_placed old items fresh i n placed same within is =
     let at : slice_get old i ≡ Some n = sym same ∙ slice_get-get_or items i n within ∙ ap Some (sym is) in
     let there : slice_get (map host_of old) i ≡ Some (host_of n) = slice_get-map host_of old i ∙ ap (option_map host_of) at in

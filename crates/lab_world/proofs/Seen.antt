@@ -12,8 +12,8 @@ use Rattle.api_types.specs.declared.change.Item.{Item}
 use Rattle.net_settings.specs.Settings.{SettingsParts}
 use Rattle.net_settings.specs.declared.settings.Host.{Host as Carrier}
 use Rattle.plane_types.specs.Hosts.{all_entries}
-use Rattle.plane_types.specs.Node.{Node, follows, host_of, resynced, started, told, with_entries}
-use Rattle.plane_types.specs.Told.{made_at}
+use Rattle.plane_types.specs.Node.{Node, follows, host_of, after_resync, first_node, after_change, with_entries}
+use Rattle.plane_types.specs.Verdicts.{made_at}
 use Rattle.plane_types.specs.declared.verdict.Made.{Made}
 use Rattle.bus_core.specs.History.{History}
 use Rattle.world_laws.specs.Agents.{Agent, agent_of, first_agent, rewired, seat, told as agent_told}
@@ -47,10 +47,10 @@ entries_joined (n ∷ nodes) = λ j. n.entries ++ entries_joined nodes j
 
 -- ---- told
 
-pub told_seen : (n : Node) (number : ℕ) (c : List Item) (spare : ℕ) → agent_of (told n number c spare) ≡ agent_told number c (agent_of n)
+pub told_seen : (n : Node) (number : ℕ) (c : List Item) (spare : ℕ) → agent_of (after_change n number c spare) ≡ agent_told number c (agent_of n)
 told_seen n number c spare = by (follows number n.held)
   where
-    by : (b : Bool) → agent_of (cond b (resynced n number (after n.rows c) spare) (record n { spare = spare })) ≡ cond b (rewired number (after n.rows c) (agent_of n)) (agent_of n)
+    by : (b : Bool) → agent_of (cond b (after_resync n number (after n.rows c) spare) (record n { spare = spare })) ≡ cond b (rewired number (after n.rows c) (agent_of n)) (agent_of n)
     by true = refl
     by false = refl
 
@@ -69,7 +69,7 @@ all_told number c (x ∷ old) (y ∷ new) s = (by (s.each 0 x y refl refl), all_
 settled_seen : (h : History) (n : Node) (spare : ℕ) → agent_of (settled_node h.version h.rows n spare) ≡ settled h (agent_of n)
 settled_seen h n spare = by (holds h.version n.held)
   where
-    by : (b : Bool) → agent_of (cond b (record n { spare = spare }) (resynced n h.version h.rows spare)) ≡ cond b (agent_of n) (rewired h.version h.rows (agent_of n))
+    by : (b : Bool) → agent_of (cond b (record n { spare = spare }) (after_resync n h.version h.rows spare)) ≡ cond b (agent_of n) (rewired h.version h.rows (agent_of n))
     by true = refl
     by false = refl
 
@@ -150,7 +150,7 @@ states_settled h (n ∷ nodes) held =
 abbrev pub unspared : Node → Node
 unspared n = record n { spare = 0 }
 
-pub first_seen : (settings : SettingsParts) (rows : RowLists) (nodes : List Node) → map unspared nodes ≡ map (λ (d : Carrier). started d.name 0 rows 0) settings.hosts
+pub first_seen : (settings : SettingsParts) (rows : RowLists) (nodes : List Node) → map unspared nodes ≡ map (λ (d : Carrier). first_node d.name 0 rows 0) settings.hosts
     → map agent_of nodes ≡ map (λ (d : Carrier). first_agent rows 0 d.name) settings.hosts
 first_seen settings rows nodes same = unseen nodes ∙ ap (map agent_of) same ∙ started_seen settings.hosts
   where
@@ -158,6 +158,6 @@ first_seen settings rows nodes same = unseen nodes ∙ ap (map agent_of) same �
     unseen [] = refl
     unseen (n ∷ ns) = λ j. agent_of n ∷ unseen ns j
 
-    started_seen : (hosts : List Carrier) → map agent_of (map (λ (d : Carrier). started d.name 0 rows 0) hosts) ≡ map (λ (d : Carrier). first_agent rows 0 d.name) hosts
+    started_seen : (hosts : List Carrier) → map agent_of (map (λ (d : Carrier). first_node d.name 0 rows 0) hosts) ≡ map (λ (d : Carrier). first_agent rows 0 d.name) hosts
     started_seen [] = refl
     started_seen (d ∷ hosts) = λ j. first_agent rows 0 d.name ∷ started_seen hosts j

@@ -14,8 +14,8 @@ use Rattle.api_types.specs.declared.refusal.Refusal.{Refusal}
 use Rattle.api_types.specs.declared.refusal.Refusal.TheVariants.{Forbidden, Invalid, NoHost, NoMessage, OutOfMemory}
 use Rattle.api_policy.specs.Visibility.{sees_row}
 use Rattle.plane_types.specs.Hosts.{all_entries}
-use Rattle.plane_types.specs.Node.{heard}
-use Rattle.plane_types.specs.Told.{fabric_verdict, rows_verdict}
+use Rattle.plane_types.specs.Node.{hearing}
+use Rattle.plane_types.specs.Verdicts.{fabric_verdict, rows_verdict}
 use Rattle.plane_types.specs.declared.ask.HostState.{HostState}
 use Rattle.plane_types.specs.declared.ask.LabAnswer.{LabAnswer}
 use Rattle.plane_types.specs.declared.ask.LabAnswer.TheVariants.{Hosts, Seen, Tables, Told}
@@ -73,7 +73,7 @@ stepped w s = Answered (hosts_told (step w s)) (step w s)
 -- a host is looked for before the number, which is refused with the first and the last number that are kept
 abbrev pub delivered : World → List ℕ → ℕ → Agent → Option (List Item) → LabOutcome
 delivered w name number a None = Barred (NoMessage number (first_kept w.history) w.history.version)
-delivered w name number a (Some c) = Answered (Told (heard number a.held)) (step w (Deliver name number))
+delivered w name number a (Some c) = Answered (Told (hearing number a.held)) (step w (Deliver name number))
 
 abbrev pub lab_outcome : World → Caller → LabCall → LabOutcome
 lab_outcome w caller (call.Frames event) = unless_barred (event_refusal w.history.rows caller event) (Answered (Seen (fabric_verdict (seats w) event)) (step w (Send event)))

@@ -4,9 +4,9 @@ use Rattle.std.specs.List.{filter_map}
 use Rattle.std.specs.Str.{bytes_eq}
 use Rattle.api_types.specs.RowLists.{RowLists}
 use Rattle.api_types.specs.declared.change.Item.{Item}
-use Rattle.plane_types.specs.Node.{Node, Ready, resynced, told, with_entries}
-use Rattle.plane_types.specs.Told.{made_at}
-use Rattle.plane_types.specs.Wired.{wired}
+use Rattle.plane_types.specs.Node.{Node, Ready, after_resync, after_change, with_entries}
+use Rattle.plane_types.specs.Verdicts.{made_at}
+use Rattle.plane_types.specs.TablesOfRows.{tables_of_rows}
 use Rattle.plane_types.specs.declared.ask.HostState.{HostState}
 use Rattle.plane_types.specs.declared.table.TagRow.{TagRow}
 use Rattle.plane_types.specs.declared.verdict.Made.{Made}
@@ -48,7 +48,7 @@ pub record Stepwise {S : Type 0} (step : ℕ → S → S → Type 0) (old new : 
 
 -- a host is told a change, or found no memory and is as it was
 abbrev pub IsToldNode : ℕ → List Item → Node → Node → Type 0
-IsToldNode number change n m = (m ≡ told n number change m.spare) ⊎ (m ≡ n)
+IsToldNode number change n m = (m ≡ after_change n number change m.spare) ⊎ (m ≡ n)
 
 abbrev pub IsToldAt : ℕ → List Item → ℕ → Node → Node → Type 0
 IsToldAt number change k n m = IsToldNode number change n m
@@ -70,11 +70,11 @@ AreFor ready nodes = map made_for ready ≡ map held_by nodes
 
 -- what each host would be given with rows of a version
 abbrev pub ready_for : ℕ → RowLists → Node → Ready
-ready_for version rows n = record { name = n.name; version = version; rows = rows; tables = wired rows n.name n.tables.tags; old = n.tables.tags }
+ready_for version rows n = record { name = n.name; version = version; rows = rows; tables = tables_of_rows rows n.name n.tables.tags; old = n.tables.tags }
 
 -- given rows of a version, where that isn't held
 abbrev pub settled_node : ℕ → RowLists → Node → ℕ → Node
-settled_node version rows n spare = if holds version n.held then record n { spare = spare } else resynced n version rows spare
+settled_node version rows n spare = if holds version n.held then record n { spare = spare } else after_resync n version rows spare
 
 abbrev pub IsSettledAt : ℕ → List Ready → ℕ → Node → Node → Type 0
 IsSettledAt version ready k n m = (r : Ready) → slice_get ready k ≡ Some r → m ≡ settled_node version r.rows n m.spare

@@ -1,8 +1,10 @@
+//! Loops over all hosts, each as one step of one host.
+
 ghost use Rattle.std.specs.Prelude.{◌≡◌, ◌≤◌, ◌++◌, OnOk, length, map};
 ghost use Rattle.std.specs.List.{filter_map};
 ghost use Rattle.api_types.specs.Lists.{Each};
-ghost use Rattle.plane_types.specs.Placed.{IsPlaced};
-ghost use Rattle.plane_types.specs.Told.{kept, made_at};
+ghost use Rattle.plane_types.specs.Attached.{IsAttached};
+ghost use Rattle.plane_types.specs.Verdicts.{with_made, made_at};
 ghost use Rattle.plane_types.specs.Node.{CanFollow, Node, Ready, host_of, with_entries};
 ghost use Rattle.lab_world.specs.Steps.{AreFor, IsKeptAt, IsSettledAt, IsToldAt, IsToldNode, Stepwise, settled_node};
 
@@ -73,7 +75,7 @@ pub(crate) fn reserve_all(alloc: Global, nodes: &mut [AgentNode]) -> Result<(), 
 /// Adds at each host what it made.
 pub(crate) fn keep_all(nodes: &mut [AgentNode], fresh: &[Made])
     requires room { Each (λ (n : Node). length fresh.now ≤ n.spare) nodes.old }
-    requires placed { Each IsPlaced (kept (map host_of nodes.old) fresh.now) }
+    requires placed { Each IsAttached (with_made (map host_of nodes.old) fresh.now) }
     ensures { Stepwise (IsKeptAt fresh.now) nodes.old nodes.new }
 {
     for (at, node) in nodes.iter_mut().enumerate() {
@@ -84,7 +86,7 @@ pub(crate) fn keep_all(nodes: &mut [AgentNode], fresh: &[Made])
 // Adds what the host at this place made.
 fn add_made(node: &mut AgentNode, at: usize, fresh: &[Made])
     requires room { length fresh.now ≤ node.old.spare }
-    requires placed { IsPlaced
+    requires placed { IsAttached
         (host_of (with_entries node.old (node.old.entries ++ filter_map (made_at at) fresh.now) 0)) }
     ensures { node.new
         ≡ with_entries node.old (node.old.entries ++ filter_map (made_at at) fresh.now)

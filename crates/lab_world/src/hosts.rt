@@ -1,11 +1,13 @@
+//! The hosts in order, each with its agents; frames see them as a fleet.
+
 ghost use Rattle.std.specs.Prelude.{◌≡◌, ◌↔◌, ◌<◌, ◌≤◌, ◌++◌, ◌∷◌, [], ℕ, None, Some, IfNone, IfOk, IfSome, IsTrue, OnErr, OnOk, find, flat_map, if◌then◌else◌, length, map, option_copied, option_map};
 ghost use Rattle.std.specs.Str.{bytes_eq};
 ghost use Rattle.api_types.specs.Consistent.{IsConsistent};
 ghost use Rattle.api_types.specs.Lists.{Each};
 ghost use Rattle.plane_types.specs.Hosts.{is_named};
-ghost use Rattle.plane_types.specs.Placed.{IsPlaced};
-ghost use Rattle.plane_types.specs.Told.{kept};
-ghost use Rattle.plane_types.specs.Node.{CanFollow, Node, Ready, heard as heard_of, host_of, resynced, started, told, with_entries};
+ghost use Rattle.plane_types.specs.Attached.{IsAttached};
+ghost use Rattle.plane_types.specs.Verdicts.{with_made};
+ghost use Rattle.plane_types.specs.Node.{CanFollow, Node, Ready, hearing as heard_of, host_of, after_resync, first_node, after_change, with_entries};
 ghost use Rattle.plane_types.specs.Tables.{Tables};
 ghost use Rattle.lab_world.specs.Steps.{AreFor, AreTold, IsDoneAt, IsKeptAt, IsNamedAt, IsSettledAt, Stepwise, named_node, node_state, ready_for, state_at_version, state_with};
 
@@ -54,7 +56,7 @@ impl Hosts {
     ) -> Result<(), OutOfMemory>
         requires { IsConsistent rows.now }
         ensures ok { OnOk result
-            ((spare : ℕ) × (self.new ≡ self.old ++ started host version rows.now spare ∷ [])) }
+            ((spare : ℕ) × (self.new ≡ self.old ++ first_node host version rows.now spare ∷ [])) }
         ensures err { OnErr result (self.new ≡ self.old) }
     {
         let node = AgentNode::make(alloc, host, rows, version)?;
@@ -129,7 +131,7 @@ impl Hosts {
         ensures ok { IfOk result
             (λ heard.
             IsDoneAt
-            (λ n m. (m ≡ told n number change.now m.spare) × (heard ≡ heard_of number n.held))
+            (λ n m. (m ≡ after_change n number change.now m.spare) × (heard ≡ heard_of number n.held))
             at self.old self.new) }
         ensures err { OnErr result (self.new ≡ self.old) }
     {
@@ -149,7 +151,7 @@ impl Hosts {
         requires within { at < length self.old }
         requires consistent { IsConsistent rows.now }
         ensures ok { OnOk result
-            (IsDoneAt (λ n m. m ≡ resynced n version rows.now m.spare) at self.old self.new) }
+            (IsDoneAt (λ n m. m ≡ after_resync n version rows.now m.spare) at self.old self.new) }
         ensures err { OnErr result (self.new ≡ self.old) }
     {
         self.nodes[at].resync(alloc, version, rows)?;
@@ -184,7 +186,7 @@ impl Hosts {
     /// cost grows with these entries times the hosts.
     pub fn keep(&mut self, fresh: &[Made])
         requires room { Each (λ (n : Node). length fresh.now ≤ n.spare) self.old }
-        requires placed { Each IsPlaced (kept (map host_of self.old) fresh.now) }
+        requires placed { Each IsAttached (with_made (map host_of self.old) fresh.now) }
         ensures { Stepwise (IsKeptAt fresh.now) self.old self.new }
     {
         keep_all(self.nodes.as_mut_slice(), fresh);

@@ -1,3 +1,5 @@
+//! The laws of the world, as contracts of functions that do nothing.
+
 ghost use Rattle.std.specs.Prelude.{◌≡◌, false, not, true};
 ghost use Rattle.api_types.specs.Consistent.{IsConsistent};
 ghost use Rattle.api_types.specs.Lists.{is_empty};

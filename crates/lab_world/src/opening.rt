@@ -1,3 +1,5 @@
+//! Why rows aren't put into service.
+
 use api_check::Inconsistent;
 use api_types::{Id, Kind};
 use net_addr::OutOfMemory;

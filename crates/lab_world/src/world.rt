@@ -1,3 +1,5 @@
+//! The world: machine, messages and hosts, and the one call that answers an ask.
+
 ghost use Rattle.std.specs.Prelude.{◌≡◌, ◌↔◌, ◌≤◌, IfErr, IfOk, IsTrue, None, OnOk, map, true, is_some};
 ghost use Rattle.api_types.specs.Consistent.{IsConsistent};
 ghost use Rattle.api_check.specs.FirstBroken.{first_broken_of};
@@ -5,8 +7,8 @@ ghost use Rattle.net_settings.specs.declared.settings.Host.{Host as Carrier};
 ghost use Rattle.net_settings.specs.Rules.{MeetsRules};
 ghost use Rattle.plane_types.specs.Crossing.{CrossesAtRouters};
 ghost use Rattle.plane_types.specs.Hosts.{all_entries};
-ghost use Rattle.plane_types.specs.Node.{Node, started};
-ghost use Rattle.plane_types.specs.Told.{rows_verdict, without_hosts};
+ghost use Rattle.plane_types.specs.Node.{Node, first_node};
+ghost use Rattle.plane_types.specs.Verdicts.{rows_verdict, without_hosts};
 ghost use Rattle.plane_types.specs.declared.ask.Ask.TheVariants.{Lab as LabAsk};
 ghost use Rattle.plane_types.specs.declared.ask.LabAnswer.TheVariants.{Seen};
 ghost use Rattle.plane_types.specs.declared.ask.LabCall.TheVariants.{Frames};
@@ -197,7 +199,7 @@ fn first_hosts(alloc: Global, rows: &Rows, carriers: &[Host]) -> Result<Hosts, O
     requires { IsConsistent rows.now }
     ensures { IfOk result
         (λ h. map (λ (n : Node). record n { spare = 0 }) h
-        ≡ map (λ (d : Carrier). started d.name 0 rows.now 0) carriers.now) }
+        ≡ map (λ (d : Carrier). first_node d.name 0 rows.now 0) carriers.now) }
 {
     let mut hosts = Hosts::new(alloc);
     for carrier in carriers {

@@ -1,3 +1,5 @@
+//! Addresses of both versions of IP, MACs, prefixes and spans.
+
 ghost use Rattle.std.specs.Prelude.{◌≡◌};
 
 use crate::equal::{Copies, Same};

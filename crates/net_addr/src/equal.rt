@@ -1,3 +1,5 @@
+//! Equal copies, where memory may run out, and equality.
+
 ghost use Rattle.std.specs.Prelude.{◌≡◌, ◌↔◌, IfOk, IsTrue};
 
 use crate::memory::OutOfMemory;

@@ -1,3 +1,5 @@
+//! What prefixes and spans contain, and which addresses are hosts'.
+
 ghost use Rattle.std.specs.Prelude.{◌≡◌, ◌↔◌, ℕ, ◌+◌, ◌-◌, ◌*◌, ◌/◌, ◌%◌, ◌^◌, ◌<◌, ◌≤◌, IsTrue, MatchOption, false, true};
 ghost use Rattle.net_addr.specs.Addresses.{IsAddr, addr_eq, number, width, with_number, same_version, is_v4};
 ghost use Rattle.net_addr.specs.declared.address.Addr.{Addr as Address};

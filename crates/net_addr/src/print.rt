@@ -1,3 +1,5 @@
+//! Addresses of version 4, MACs and prefixes as texts.
+
 ghost use Rattle.std.specs.Prelude.{◌≡◌, IfOk};
 ghost use Rattle.net_addr.specs.Spelling.{SpellsAddress, SpellsMac, addr_text, address_text, mac_text, prefix_text};
 

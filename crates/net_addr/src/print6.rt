@@ -1,3 +1,5 @@
+//! Addresses of version 6 as texts (RFC 5952).
+
 ghost use Rattle.std.specs.Prelude.{◌≡◌, ◌+◌, ◌++◌, ◌≤◌, ◌∷◌, [], length, IfOk, string_bytes, codes};
 ghost use Rattle.net_addr.specs.Printing6.{address6_text, groups, longest, more_text, row_text, zeros, short_text};
 

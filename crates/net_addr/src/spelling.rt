@@ -1,3 +1,5 @@
+//! Grammars of texts: parts, and how far a text spells them.
+
 ghost use Rattle.std.specs.Prelude.{◌≡◌, ◌↔◌, ℕ, ◌+◌, ◌*◌, ◌^◌, ◌<◌, ◌≤◌, [], ◌∷◌, true, MatchOption, IfOk, IfErr, OnErr};
 ghost use Rattle.std.specs.Char.{digit_value};
 ghost use Rattle.net_addr.specs.Spelling.{Spells, IsTextOf, IsLongestStart};

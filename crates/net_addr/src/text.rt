@@ -1,3 +1,5 @@
+//! Texts and bytes, seen as lists.
+
 ghost use Rattle.std.specs.Prelude.{◌≡◌, ◌↔◌, [], IfOk, IsTrue, string_bytes, length};
 
 use crate::equal::{Copies, Same};

@@ -1,2 +1,2 @@
 mod LegLemmas
-mod TurnLemmas
+mod AtPortLemmas

@@ -1,5 +1,7 @@
+//! Asks for addresses and leases, by the rows.
+
 ghost use Rattle.std.specs.Prelude.{◌≡◌, IfOk};
-ghost use Rattle.plane_types.specs.Meaning.{answered as lease_answer, asked as address_asked, lease_asked as lease_asked_of, leased as leased_by, out_of as out_or_dropped};
+ghost use Rattle.plane_types.specs.Meaning.{lease_outcome as lease_answer, address_outcome as address_asked, lease_asked as lease_asked_of, dhcp_outcome as leased_by, out_of as out_or_dropped};
 ghost use Rattle.plane_types.specs.Packets.{address_ask, lease_ask};
 
 use api_types::{Id, Lease, PortRow, Rows};
@@ -31,7 +33,7 @@ pub(crate) fn out_of(
 
 /// What an ask for an address (RFC 826, RFC 4861) by a port of a host comes to: its holder's MAC,
 /// where that is joined with the asker.
-pub(crate) fn asked(rows: &Rows, network: Id, host: &Text, src: Mac, ends: &Ends) -> Outcome
+pub(crate) fn answer_arp(rows: &Rows, network: Id, host: &Text, src: Mac, ends: &Ends) -> Outcome
     ensures { result ≡ address_asked rows.now network host.now (address_ask src ends.now) }
 {
     match joined_with(rows, host, holder(rows, network, &ends.destination())) {
@@ -49,7 +51,7 @@ pub(crate) fn asked(rows: &Rows, network: Id, host: &Text, src: Mac, ends: &Ends
     }
 }
 
-fn answered(lease: Option<Lease>) -> Outcome
+fn answer_lease(lease: Option<Lease>) -> Outcome
     ensures { result ≡ lease_answer lease }
 {
     match lease {
@@ -59,7 +61,7 @@ fn answered(lease: Option<Lease>) -> Outcome
 }
 
 /// What a DHCP port answers to an ask for a lease: what the live port with the MAC is leased.
-pub(crate) fn leased(
+pub(crate) fn answer_dhcp(
     alloc: Global,
     rows: &Rows,
     network: Id,
@@ -70,8 +72,8 @@ pub(crate) fn leased(
     ensures { IfOk result (λ o. o ≡ leased_by rows.now network (lease_ask src from) dhcp.now) }
 {
     match port_at(rows, network, src) {
-        Some(port) => Ok(answered(lease_for(alloc, rows, dhcp, port)?)),
-        None => Ok(answered(None)),
+        Some(port) => Ok(answer_lease(lease_for(alloc, rows, dhcp, port)?)),
+        None => Ok(answer_lease(None)),
     }
 }
 
@@ -87,7 +89,7 @@ pub(crate) fn lease_asked(
     ensures { IfOk result (λ o. o ≡ lease_asked_of rows.now network host.now (lease_ask src from)) }
 {
     match joined_with(rows, host, dhcp_port(rows, network)) {
-        Some(dhcp) => leased(alloc, rows, network, src, from, dhcp),
+        Some(dhcp) => answer_dhcp(alloc, rows, network, src, from, dhcp),
         None => Ok(out_of(
             rows,
             network,

@@ -1,26 +1,27 @@
+//! An event, by the rows: from a port, or from a wire. Begin here.
+
 ghost use Rattle.std.specs.Prelude.{◌≡◌, ◌++◌, [], ◌∷◌, IfOk, if◌then◌else◌, map, suc};
-ghost use Rattle.api_types.specs.Table.{row_of};
 ghost use Rattle.api_types.specs.declared.group.Direction.TheVariants.{Egress as Outward};
+ghost use Rattle.api_types.specs.RowsWith.{port_with};
 ghost use Rattle.api_types.specs.declared.port.PortRow.{PortRow as ThePort};
-ghost use Rattle.plane_types.specs.Meaning.{dropped as dropped_by, from_live as from_live_by, from_network as from_network_by, from_port as from_port_by, from_sender as from_sender_by, from_wire as from_wire_by, got as got_by, life_of, none_so_far as nothing_so_far, on_path, rows_fate, rows_passage, sent_on as sent_on_by, sent_out as sent_out_by, wire_packet as wire_packet_by};
+ghost use Rattle.plane_types.specs.Meaning.{drop_fate as dropped_by, from_live as from_live_by, from_network as from_network_by, from_port as from_port_by, from_sender as from_sender_by, from_wire as from_wire_by, port_fate as got_by, life_of, none_so_far as nothing_so_far, on_path, rows_fate, rows_passage, sent_on as sent_on_by, sent_out as sent_out_by, wire_packet as wire_packet_by};
 ghost use Rattle.api_types.specs.Wires.{network_on as network_on_wire};
 ghost use Rattle.api_types.specs.Holders.{port_at as port_by_mac};
 ghost use Rattle.plane_types.specs.Packets.{is_unsupported as unsupported};
-ghost use Rattle.plane_types.specs.Told.{of_nobody, rows_verdict};
+ghost use Rattle.plane_types.specs.Verdicts.{of_nobody, rows_verdict};
 ghost use Rattle.plane_types.specs.declared.verdict.DropCause.TheVariants.{Unsupported as DropUnsupported};
 ghost use Rattle.plane_types.specs.Parts.{packet_of};
-ghost use Rattle.net_meaning.specs.Turns.{fate_of, trace_of};
+ghost use Rattle.net_meaning.specs.Views.{fate_of, trace_of};
 
-use crate::ask::{asked, lease_asked, leased, out_of};
+use crate::ask::{answer_arp, answer_dhcp, lease_asked, out_of};
+use crate::at_port::{Fate, Trace, carry_packet};
 use crate::guard::passes_guard;
 use crate::passage::passage_at;
-use crate::turn::{Fate, Trace, got};
 use api_types::{Direction, Id, NetworkRow, PortRow, Rows};
 use net_addr::{OutOfMemory, Seq, Text};
 use plane_rows::{dhcp_port, holder, is_live, joined_with, network_on, port_at};
 use plane_types::{
     AskAnswer, DropCause, Entries, Entry, Event, Frame, Made, Outcome, Packet, Toward, Verdict,
-    is_unsupported,
 };
 use std::alloc::Global;
 
@@ -41,7 +42,7 @@ fn on_network(alloc: Global, network: Id) -> Result<Trace, OutOfMemory>
     Ok(trace)
 }
 
-fn dropped(alloc: Global, cause: DropCause) -> Fate
+fn drop_event(alloc: Global, cause: DropCause) -> Fate
     ensures { fate_of result ≡ dropped_by nothing_so_far cause }
 {
     Fate {
@@ -75,7 +76,7 @@ fn sent_on(
     let network = sender.network;
     let found = port_at(rows, network, packet.dst);
     match joined_with(rows, &sender.host, found) {
-        Some(port) => { got(alloc, rows, entries, life(packet), port, *packet, trace) }
+        Some(port) => { carry_packet(alloc, rows, entries, life(packet), port, *packet, trace) }
         None => Ok(Fate {
             outcome: out_of(
                 rows,
@@ -143,7 +144,7 @@ fn from_sender(
     }
     let network = sender.network;
     let outcome = match frame {
-        Frame::NeighbourAsk { src, ends } => asked(rows, network, &sender.host, src, &ends),
+        Frame::NeighbourAsk { src, ends } => answer_arp(rows, network, &sender.host, src, &ends),
         Frame::Dhcp { src, from } => lease_asked(alloc, rows, network, &sender.host, src, from)?,
         Frame::Ip { .. } | Frame::Other { .. } => Outcome::Dropped(DropCause::Unsupported),
     };
@@ -162,7 +163,7 @@ fn from_live(
         ≡ from_live_by rows.now entries.now (life_of frame) sender.now
         (record { path = sender.now.network ∷ []; fresh = [] }) frame) }
 {
-    let cause = if is_unsupported(&frame) {
+    let cause = if frame.is_unsupported() {
         DropCause::Unsupported
     } else if !passes_guard(sender, &frame) {
         DropCause::Spoof
@@ -186,19 +187,19 @@ fn from_port(
     ensures { IfOk result
         (λ f. fate_of f
         ≡ from_port_by rows.now entries.now (life_of frame) frame
-        (row_of (λ (p : ThePort). p.id) port rows.now.ports)) }
+        (port_with rows.now port)) }
 {
     let ports = rows.ports();
-    let _own_ids = ports.rows();
+    let _own_ids = ports.rows(); // for the proof: no two ports have one id
     match ports.get(port) {
         Some(sender) => {
             if is_live(rows, sender) && !sender.is_router_port() {
                 from_live(alloc, rows, entries, sender, frame)
             } else {
-                Ok(dropped(alloc, DropCause::Dead))
+                Ok(drop_event(alloc, DropCause::Dead))
             }
         }
-        None => Ok(dropped(alloc, DropCause::Dead)),
+        None => Ok(drop_event(alloc, DropCause::Dead)),
     }
 }
 
@@ -217,9 +218,9 @@ fn wire_packet(
     match port_at(rows, network.id, packet.dst) {
         Some(port) => {
             let trace = on_network(alloc, network.id)?;
-            got(alloc, rows, entries, life(packet), port, *packet, trace)
+            carry_packet(alloc, rows, entries, life(packet), port, *packet, trace)
         }
-        None => Ok(dropped(alloc, DropCause::Unknown)),
+        None => Ok(drop_event(alloc, DropCause::Unknown)),
     }
 }
 
@@ -242,14 +243,14 @@ fn from_network(
                 address: ends.destination(),
                 mac: port.mac,
             }),
-            None => return Ok(dropped(alloc, DropCause::Unknown)),
+            None => return Ok(drop_event(alloc, DropCause::Unknown)),
         },
         Frame::Dhcp { src, from } => match dhcp_port(rows, network.id) {
-            Some(dhcp) => leased(alloc, rows, network.id, src, from, dhcp)?,
-            None => return Ok(dropped(alloc, DropCause::Unknown)),
+            Some(dhcp) => answer_dhcp(alloc, rows, network.id, src, from, dhcp)?,
+            None => return Ok(drop_event(alloc, DropCause::Unknown)),
         },
         Frame::Ip { .. } | Frame::Other { .. } => {
-            return Ok(dropped(alloc, DropCause::Unsupported));
+            return Ok(drop_event(alloc, DropCause::Unsupported));
         }
     };
     Ok(Fate {
@@ -272,12 +273,12 @@ fn from_wire(
         else from_wire_by rows.now entries.now (life_of frame) frame
         (network_on_wire rows.now (record { physical = physical.now; tag = tag })))) }
 {
-    if is_unsupported(&frame) {
-        return Ok(dropped(alloc, DropCause::Unsupported));
+    if frame.is_unsupported() {
+        return Ok(drop_event(alloc, DropCause::Unsupported));
     }
     match network_on(rows, physical, tag) {
         Some(network) => from_network(alloc, rows, entries, network, frame),
-        None => Ok(dropped(alloc, DropCause::Unknown)),
+        None => Ok(drop_event(alloc, DropCause::Unknown)),
     }
 }
 
@@ -300,8 +301,8 @@ fn fate_of_event(
     }
 }
 
-// As it is told: no entry names a host that made it.
-fn told(alloc: Global, fresh: &[Entry]) -> Result<Seq<Made>, OutOfMemory>
+// The entries as a verdict lists them: none names a host that made it.
+fn list_made(alloc: Global, fresh: &[Entry]) -> Result<Seq<Made>, OutOfMemory>
     ensures { IfOk result (λ m. m ≡ map of_nobody fresh.now) }
 {
     let mut made = Seq::new(alloc);
@@ -326,7 +327,7 @@ pub fn explain(
     ensures { IfOk result (λ v. v ≡ rows_verdict rows.now entries.now.items event.now) }
 {
     let fate = fate_of_event(alloc, rows, entries.as_slice(), event)?;
-    let fresh = told(alloc, fate.trace.fresh.as_slice())?;
+    let fresh = list_made(alloc, fate.trace.fresh.as_slice())?;
     Ok(Verdict {
         outcome: fate.outcome,
         path: fate.trace.path,

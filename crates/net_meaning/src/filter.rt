@@ -1,3 +1,5 @@
+//! Whether the rules of a port's groups let a packet pass.
+
 ghost use Rattle.std.specs.Prelude.{◌≡◌};
 ghost use Rattle.plane_types.specs.Filter.{far_fits as fits_far, rule_matches as matches_rule, rules_allow as allowed_by_rules};
 ghost use Rattle.api_types.specs.Members.{is_member as is_member_of};

@@ -1,3 +1,5 @@
+//! Whether a port may send a frame, as what it says it is.
+
 ghost use Rattle.std.specs.Prelude.{◌≡◌};
 ghost use Rattle.plane_types.specs.Guard.{guards as guarded, may_ask_lease as may_ask, may_send as may_send_from, passes_guard as passes};
 

@@ -1,7 +1,9 @@
+//! The filter of a port, with tracked flows.
+
 ghost use Rattle.std.specs.Prelude.{◌≡◌, ◌++◌, ◌&&◌};
 ghost use Rattle.plane_types.specs.Entries.{has_flow as flow_is_there, opposite as other_way};
 ghost use Rattle.plane_types.specs.Filter.{rules_allow as allowed_by_rules};
-ghost use Rattle.plane_types.specs.Keys.{reversed};
+ghost use Rattle.plane_types.specs.Keys.{answer_key};
 ghost use Rattle.plane_types.specs.Meaning.{rows_passage};
 ghost use Rattle.plane_types.specs.Parts.{packet_of, passage_of};
 
@@ -20,8 +22,8 @@ fn is_answer(
 ) -> bool
     ensures { result
         ≡ (flow_is_there (entries.now ++ fresh.now) port.now.id (other_way direction)
-        (reversed key.now)
-        && allowed_by_rules rows.now port.now (other_way direction) (reversed key.now)) }
+        (answer_key key.now)
+        && allowed_by_rules rows.now port.now (other_way direction) (answer_key key.now)) }
 {
     let asked = key.reversed();
     let way = opposite(direction);

@@ -1,3 +1,5 @@
+//! What a router does with a packet, by the rows.
+
 ghost use Rattle.std.specs.Prelude.{◌≡◌, ◌++◌, IfOk, Some, find, if◌then◌else◌, map, option_map};
 ghost use Rattle.std.specs.List.{list_any};
 ghost use Rattle.std.specs.Option.{unwrap_or};
@@ -6,10 +8,10 @@ ghost use Rattle.api_types.specs.declared.port.PortRow.{PortRow as ThePort};
 ghost use Rattle.api_types.specs.Holders.{holds as holds_address};
 ghost use Rattle.api_types.specs.RouterRows.{gateway_address as gateway_by_rows, leg_of, legs_of, router_view, ways_of as ways_by_rows};
 ghost use Rattle.plane_types.specs.Ends.{destination as destined_to};
-ghost use Rattle.plane_types.specs.Routing.{answers as answers_to, best_way as best_of_ways, better as better_of, destined as destined_by, beats as way_beats, routed as routed_by_view, routed_to as to_by_view, routed_way as way_by_view, sent as sent_by};
+ghost use Rattle.plane_types.specs.Routing.{answers as answers_to, best_way as best_of_ways, better as better_of, new_destination as destined_by, beats as way_beats, routing_of as routed_by_view, routed_to as to_by_view, routed_way as way_by_view, sending_of as sent_by};
 ghost use Rattle.plane_rows.specs.Ways.{way_of};
 ghost use Rattle.plane_types.specs.Parts.{changed_of, destined_of, packet_of, sourced_of, use_of};
-ghost use Rattle.net_meaning.specs.Turns.{routed_of};
+ghost use Rattle.net_meaning.specs.Views.{routed_of};
 
 use crate::source::find_source;
 use crate::uses::{answering, valid_uses};
@@ -18,7 +20,7 @@ use net_addr::{Addr, OutOfMemory};
 use plane_rows::{Way, fixed_behind, gateway_address, is_own_address, leg, ways_of};
 use plane_types::{
     Changed, Destined, DropCause, Entry, Outcome, Packet, Sourced, Use, answered_to, lower,
-    rank_place, with_ends,
+    rank_number, with_ends,
 };
 use std::alloc::Global;
 
@@ -83,7 +85,7 @@ fn beats(a: &Way, b: &Way) -> bool
     ensures { result ≡ way_beats (way_of a.now) (way_of b.now) }
 {
     b.prefix.len < a.prefix.len
-        || (a.prefix.len == b.prefix.len && rank_place(a.rank) <= rank_place(b.rank))
+        || (a.prefix.len == b.prefix.len && rank_number(a.rank) <= rank_number(b.rank))
 }
 
 fn better(way: &Way, other: &Option<Way>) -> Way
@@ -231,7 +233,7 @@ fn routed_to<'r>(
 
 /// What a router does with a packet that came by a port of it. Its cost grows with the entries and
 /// the ports, and with what `plane_rows::ways_by` costs for the router's.
-#[tactic(auto, unfolding(plane_types::specs::Routing::routed, api_types::specs::RouterRows::router_view))]
+#[tactic(auto, unfolding(plane_types::specs::Routing::routing_of, api_types::specs::RouterRows::router_view))]
 pub(crate) fn route<'r>(
     alloc: Global,
     rows: &'r Rows,

@@ -1,10 +1,12 @@
+//! The source with which a packet leaves a router, by the rows.
+
 ghost use Rattle.std.specs.Prelude.{◌≡◌, ◌&&◌, ◌||◌, find, not, map, option_map};
 ghost use Rattle.net_addr.specs.Addresses.{addr_eq};
 ghost use Rattle.net_addr.specs.declared.address.Addr.TheVariants.{V4};
 ghost use Rattle.plane_types.specs.Ends.{source as sent_from};
 ghost use Rattle.plane_types.specs.Packets.{key_of};
 ghost use Rattle.api_types.specs.RouterRows.{floats_of, gateway_address as gateway_by_rows, leg_of, router_view};
-ghost use Rattle.plane_types.specs.Routing.{by_float as changed_by_float, is_gateway_live, new_port as new_port_of, sourced as sourced_by, sourced_float as sourced_by_float, sourced_gateway as sourced_by_gateway, sourced_new as sourced_anew};
+ghost use Rattle.plane_types.specs.Routing.{by_float as changed_by_float, is_gateway_live, new_port as new_port_of, new_source as sourced_by, sourced_float as sourced_by_float, sourced_gateway as sourced_by_gateway, sourced_new as sourced_anew};
 ghost use Rattle.api_types.specs.RouterViews.{Float};
 ghost use Rattle.plane_types.specs.Parts.{changed_of, packet_of, sourced_of, use_of};
 
@@ -13,8 +15,7 @@ use api_types::{Id, PortRow, RouterRow, Rows};
 use net_addr::Addr4;
 use plane_rows::{floating_for, gateway_address, has_live_gateway};
 use plane_types::{
-    Changed, Destined, Entry, Packet, Sourced, Use, by_any, by_float, kept_source, sourced_at,
-    with_ends,
+    Changed, Destined, Entry, Packet, Sourced, Use, kept_source, sourced_at, with_ends,
 };
 
 // With a new entry, where a port is left.
@@ -71,7 +72,7 @@ fn is_translated(rows: &Rows, router: &RouterRow, out: &PortRow, by: Changed) ->
         && (router_view rows.now router.now).snat
         && is_gateway_live (router_view rows.now router.now)) }
 {
-    (!out.is_interface() || by_float(by))
+    (!out.is_interface() || by.is_floating())
         && translates(router)
         && has_live_gateway(rows, router)
 }
@@ -122,7 +123,7 @@ pub(crate) fn find_source(
         ≡ sourced_by (router_view rows.now router.now) (map use_of uses.now) (leg_of port.now)
         (leg_of out.now) (changed_of destined.now.by) (packet_of destined.now.packet) }
 {
-    let leaves = !out.is_interface() || by_any(destined.by);
+    let leaves = !out.is_interface() || destined.by.is_any();
     if destined.packet.ends.are_four() && port.is_interface() && leaves {
         sourced_float(rows, router, uses, out, destined)
     } else {

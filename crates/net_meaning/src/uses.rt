@@ -1,3 +1,5 @@
+//! The valid translation entries of a router.
+
 ghost use Rattle.std.specs.Prelude.{◌≡◌, ◌<◌, ◌||◌, ◌++◌, ℕ, IfOk, OnOk, Some, false, find, map, option_map, slice_index_or};
 ghost use Rattle.std.specs.List.{filter_map};
 ghost use Rattle.plane_types.specs.Keys.{key_eq};
@@ -8,7 +10,7 @@ ghost use Rattle.plane_types.specs.Parts.{packet_of, use_if, use_of};
 use api_types::{Id, RouterRow, Rows};
 use net_addr::{Addr4, OutOfMemory};
 use plane_rows::gateway_address;
-use plane_types::{Entry, Key, Packet, Use, answers, has_choice, is_key, takes, use_of_entry};
+use plane_types::{Entry, Key, Packet, Use, is_key, use_of_entry};
 use std::alloc::Global;
 
 /// Whether the router translates sources.
@@ -72,7 +74,7 @@ pub(crate) fn answering(uses: &[Use], outer: Addr4, packet: &Packet) -> Option<U
         ≡ find (answers_to (Some outer) (packet_of packet.now)) (map use_of uses.now) }
 {
     for entry in uses {
-        if answers(outer, packet, entry) {
+        if entry.answers(outer, packet) {
             return Some(*entry);
         }
     }
@@ -97,7 +99,7 @@ fn is_taken(uses: &[Use], key: &Key, port: u16) -> bool
     ensures { result ≡ taken (map use_of uses.now) key.now port }
 {
     for entry in uses {
-        if takes(entry, key, port) {
+        if entry.takes(key, port) {
             return true;
         }
     }
@@ -111,7 +113,7 @@ fn mark(marks: &mut [bool; 65_536], uses: &[Use], key: &Key)
         ≡ (slice_index_or marks.old port false || taken (map use_of uses.now) key.now port) }
 {
     for entry in uses {
-        if takes(entry, key, entry.port) {
+        if entry.takes(key, entry.port) {
             marks[entry.port as usize] = true;
         }
     }
@@ -144,7 +146,7 @@ pub(crate) fn new_port(uses: &[Use], key: &Key) -> Option<u16>
     if !is_taken(uses, key, key.sport) {
         return Some(key.sport);
     }
-    if has_choice(key.kind) {
+    if key.kind.has_choice() {
         least_untaken(uses, key)
     } else {
         None

@@ -1,3 +1,5 @@
+//! The settings of a server that is given none.
+
 ghost use Rattle.std.specs.Prelude.{◌≡◌, IfOk, Ok, []};
 ghost use Rattle.net_settings.specs.Defaults.{default_drivers, default_quotas, default_host, default_hosts, default_parts};
 ghost use Rattle.net_settings.specs.Document.{settings_of};

@@ -1,3 +1,5 @@
+//! The settings that a TOML document gives, or its first bad key. Begin here.
+
 ghost use Rattle.std.specs.Prelude.{◌≡◌, IfOk, IfErr, Ok, Err};
 ghost use Rattle.toml.specs.View.{table_view};
 ghost use Rattle.net_settings.specs.Refusals.{Refuses};

@@ -1,3 +1,5 @@
+//! The key `drivers`.
+
 ghost use Rattle.std.specs.Prelude.{◌≡◌, IfOk, count_by};
 ghost use Rattle.toml.specs.View.{view, table_view};
 ghost use Rattle.net_settings.specs.Drivers.{driver_named, drivers_among, is_driver, is_each_once, drivers_of, drivers_in};

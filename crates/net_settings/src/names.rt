@@ -1,3 +1,5 @@
+//! Names of hosts and physical networks.
+
 ghost use Rattle.std.specs.Prelude.{◌≡◌, IfOk, map};
 ghost use Rattle.std.specs.List.{list_all};
 ghost use Rattle.net_settings.specs.Names.{is_name_byte, is_name, are_different};

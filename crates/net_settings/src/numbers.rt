@@ -1,3 +1,5 @@
+//! The keys `vxlan_first` and `vxlan_last`.
+
 ghost use Rattle.std.specs.Prelude.{◌≡◌};
 ghost use Rattle.toml.specs.View.{view, table_view};
 ghost use Rattle.net_settings.specs.Numbers.{vxlan_number, vxlan_first_in, vxlan_last_in};

@@ -1,3 +1,5 @@
+//! The key `quotas`.
+
 ghost use Rattle.std.specs.Prelude.{◌≡◌};
 ghost use Rattle.toml.specs.View.{view, table_view};
 ghost use Rattle.net_settings.specs.Quotas.{limit_of, limit_at, is_quota, are_quotas, quotas_among, quotas_in};

@@ -1,3 +1,5 @@
+//! Why bytes give no settings.
+
 ghost use Rattle.net_settings.specs.Refusals.{IsNamed};
 
 use net_addr::{OutOfMemory, Text};

@@ -1,3 +1,5 @@
+//! Settings: drivers, vxlan numbers, quotas, hosts.
+
 ghost use Rattle.std.specs.Prelude.{◌≡◌};
 
 use net_addr::{Copies, Names, OutOfMemory, Seq, Text};

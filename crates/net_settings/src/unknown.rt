@@ -1,3 +1,5 @@
+//! The first key that isn't known, in byte order.
+
 ghost use Rattle.std.specs.Prelude.{◌≡◌, IfOk, map, fold};
 ghost use Rattle.toml.specs.View.{view, table_view};
 ghost use Rattle.net_settings.specs.Unknown.{is_key, is_host_key, knows, full_key, lesser, unknown_in, unknown_among, first_unknown};

@@ -32,7 +32,7 @@ use Rattle.api_types.proofs.ListLemmas.{and_both}
 use Rattle.api_types.proofs.NameLemmas.{not_true}
 use Rattle.neutron_serve.specs.Steps.{Steps, fixed_replies, request_outcome}
 use Rattle.neutron_serve.specs.declared.api.Cause.TheVariants.{NoMemory, Step, StoreFault as CauseOfStore}
-use Rattle.plane_types.specs.Told.{fabric_verdict}
+use Rattle.plane_types.specs.Verdicts.{fabric_verdict}
 use Rattle.plane_types.specs.declared.ask.Ask.{Ask}
 use Rattle.plane_types.specs.declared.ask.Ask.TheVariants.{Api, Lab}
 use Rattle.plane_types.specs.declared.ask.LabCall.{LabCall}

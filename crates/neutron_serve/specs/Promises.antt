@@ -14,7 +14,7 @@ use Rattle.api_machine.specs.Footing.{footing}
 use Rattle.plane_types.specs.Crossing.{CrossesAtRouters}
 use Rattle.plane_types.specs.Hosts.{all_entries}
 use Rattle.plane_types.specs.Realises.{Realises}
-use Rattle.plane_types.specs.Told.{fabric_verdict, fabric_verdicts, hosts_after, rows_verdict, rows_verdicts, without_hosts}
+use Rattle.plane_types.specs.Verdicts.{fabric_verdict, fabric_verdicts, hosts_after, rows_verdict, rows_verdicts, without_hosts}
 use Rattle.plane_types.specs.declared.ask.Ask.{Ask}
 use Rattle.plane_types.specs.declared.ask.Ask.TheVariants.{Lab}
 use Rattle.plane_types.specs.declared.ask.LabAnswer.TheVariants.{Seen}

@@ -29,13 +29,14 @@ use Rattle.api_types.specs.declared.port.Fixed.{Fixed}
 use Rattle.api_types.specs.declared.port.Pair.{Pair}
 use Rattle.api_types.specs.declared.port.PortRow.{PortRow}
 use Rattle.plane_types.specs.Ends.{source, destination}
-use Rattle.plane_types.specs.Fabric.{Run, after_step, meant, moved, takes, takes_at, walk, wired}
+use Rattle.plane_types.specs.Fabric.{Run, after_step, meant, next_position, takes, takes_at, walk, over_wire}
 use Rattle.plane_types.specs.Guard.{guards, has_pair_mac, may_ask_lease, may_send}
 use Rattle.api_types.specs.Holders.{has_mac, holder}
 use Rattle.plane_types.specs.Hosts.{Host, is_named}
-use Rattle.api_types.specs.Live.{is_joined, is_live, is_local, joined_with, network_of, segment}
+use Rattle.api_types.specs.Live.{is_joined, is_live, is_local, joined_with, segment}
+use Rattle.api_types.specs.RowsWith.{network_with}
 use Rattle.api_types.specs.Wires.{wire_of}
-use Rattle.plane_types.specs.Meaning.{asked, asked_by, ended, out_or}
+use Rattle.plane_types.specs.Meaning.{address_outcome, asked_by, end_fate, out_or}
 use Rattle.plane_types.specs.Packets.{AddressAsk, address_ask, ask_frame, lease_ask, packet}
 use Rattle.plane_types.specs.Places.{Bridge, Step, ToWire}
 use Rattle.plane_types.specs.TableRows.{allowed_of, tag_of, tap_of}
@@ -74,7 +75,7 @@ guards-same p tag (NeighbourAsk src ends) = may-send-same p (address_ask src end
 guards-same p tag (Dhcp src from) = ap (λ b. if (lease_ask src from).from == 0 then b else may_send_as (allowed_of p) (lease_ask src from).src (V4 (lease_ask src from).from)) (may-lease-same p (lease_ask src from).src) ∙ ap (λ b. if (lease_ask src from).from == 0 then may_ask_lease p (lease_ask src from).src else b) (may-send-same p (lease_ask src from).src (V4 (lease_ask src from).from))
 guards-same p tag (Other s d y) = refl
 
-module _ (rows : RowLists) (hosts : List Host) (good : FrameFacts rows) (synced : SyncedFacts rows hosts) (steps : ℕ) (h : Host) (n : Ident) (net : NetworkRow) (tag : ℕ) (a : AddressAsk) (run : Run) (enough : 0 < steps) (named : find (is_named h.name) hosts ≡ Some h) (there : network_of rows n ≡ Some net) (is_tagged : tag_of h.tables.tags n ≡ Some tag) where
+module _ (rows : RowLists) (hosts : List Host) (good : FrameFacts rows) (synced : SyncedFacts rows hosts) (steps : ℕ) (h : Host) (n : Ident) (net : NetworkRow) (tag : ℕ) (a : AddressAsk) (run : Run) (enough : 0 < steps) (named : find (is_named h.name) hosts ≡ Some h) (there : network_with rows n ≡ Some net) (is_tagged : tag_of h.tables.tags n ≡ Some tag) where
   real : HostFacts rows h.name h.tables
   real = find-each (λ (y : Host). HostFacts rows y.name y.tables) (is_named h.name) hosts h synced.realise named
 
@@ -104,25 +105,25 @@ module _ (rows : RowLists) (hosts : List Host) (good : FrameFacts rows) (synced 
   step-is : (o : Option PortRow) → joined_with rows h.name (holder rows n (destination a.ends)) ≡ o → bridge_step h.tables false tag (ask_frame a) ≡ asked_at false (record { network = n; tag = tag; wire = wire_of (segment rows n) }) a (option_map (row_at tag (destination a.ends)) o)
   step-is o e = ap (bridge_at_tag h.tables false (ask_frame a)) (tag-row rows h.name h.tables.tags real.tags n tag is_tagged) ∙ ap (asked_at false (record { network = n; tag = tag; wire = wire_of (segment rows n) }) a) (neighbour-located rows h.name h.tables real good n tag is_tagged (destination a.ends) ∙ ap (option_map (row_at tag (destination a.ends))) e)
 
-  by-step : (s : Step) → bridge_step h.tables false tag (ask_frame a) ≡ s → meant (walk hosts steps h (Bridge tag (ask_frame a)) run) ≡ meant (moved hosts (walk hosts (steps - 1)) h (after_step h (Bridge tag (ask_frame a)) (plain s) run) s)
-  by-step s e = ap meant (walk-on hosts steps h (Bridge tag (ask_frame a)) run enough) ∙ ap (λ x. meant (moved hosts (walk hosts (steps - 1)) h (after_step h (Bridge tag (ask_frame a)) (plain x) run) x)) e
+  by-step : (s : Step) → bridge_step h.tables false tag (ask_frame a) ≡ s → meant (walk hosts steps h (Bridge tag (ask_frame a)) run) ≡ meant (next_position hosts (walk hosts (steps - 1)) h (after_step h (Bridge tag (ask_frame a)) (plain s) run) s)
+  by-step s e = ap meant (walk-on hosts steps h (Bridge tag (ask_frame a)) run enough) ∙ ap (λ x. meant (next_position hosts (walk hosts (steps - 1)) h (after_step h (Bridge tag (ask_frame a)) (plain x) run) x)) e
 
-  pub arp-law : meant (walk hosts steps h (Bridge tag (ask_frame a)) run) ≡ ended (trace_of run) (asked rows n h.name a)
+  pub arp-law : meant (walk hosts steps h (Bridge tag (ask_frame a)) run) ≡ end_fate (trace_of run) (address_outcome rows n h.name a)
   arp-law = go (joined_with rows h.name (holder rows n (destination a.ends))) refl (wire_of (segment rows n)) refl
     where
-      go : (o : Option PortRow) → joined_with rows h.name (holder rows n (destination a.ends)) ≡ o → (w : Option Wire) → wire_of (segment rows n) ≡ w → meant (walk hosts steps h (Bridge tag (ask_frame a)) run) ≡ ended (trace_of run) (asked rows n h.name a)
+      go : (o : Option PortRow) → joined_with rows h.name (holder rows n (destination a.ends)) ≡ o → (w : Option Wire) → wire_of (segment rows n) ≡ w → meant (walk hosts steps h (Bridge tag (ask_frame a)) run) ≡ end_fate (trace_of run) (address_outcome rows n h.name a)
       go (Some q) e w f =
           by-step (stops (Answered (ArpAnswer (destination a.ends) q.mac))) (step-is (Some q) e)
-          ∙ ap (λ t. ended t (Answered (ArpAnswer (destination a.ends) q.mac))) (trace-plain h (Bridge tag (ask_frame a)) (stops (Answered (ArpAnswer (destination a.ends) q.mac))) run refl)
-          ∙ sym (ap (λ o. ended (trace_of run) (asked_by rows n a o)) e)
+          ∙ ap (λ t. end_fate t (Answered (ArpAnswer (destination a.ends) q.mac))) (trace-plain h (Bridge tag (ask_frame a)) (stops (Answered (ArpAnswer (destination a.ends) q.mac))) run refl)
+          ∙ sym (ap (λ o. end_fate (trace_of run) (asked_by rows n a o)) e)
       go None e None f =
           by-step (drops NoHolder) (step-is None e ∙ ap (λ w. wire_or false n w (TowardAddress (destination a.ends)) (ask_frame a) NoHolder) f)
-          ∙ ap (λ t. ended t (Dropped NoHolder)) (trace-plain h (Bridge tag (ask_frame a)) (drops NoHolder) run refl)
-          ∙ sym (ap (λ o. ended (trace_of run) (asked_by rows n a o)) e ∙ ap (λ w. ended (trace_of run) (out_or w n (TowardAddress (destination a.ends)) (ask_frame a) NoHolder)) f)
+          ∙ ap (λ t. end_fate t (Dropped NoHolder)) (trace-plain h (Bridge tag (ask_frame a)) (drops NoHolder) run refl)
+          ∙ sym (ap (λ o. end_fate (trace_of run) (asked_by rows n a o)) e ∙ ap (λ w. end_fate (trace_of run) (out_or w n (TowardAddress (destination a.ends)) (ask_frame a) NoHolder)) f)
       go None e (Some w) f =
           let none = nobody-asked w f (holder rows n (destination a.ends)) refl e in
           let nobody = find-none_each (λ (x : Host). not (bytes_eq x.name h.name) && takes w (ask_frame a) x) hosts (AllOf-more (λ (y : Host). HostFacts rows y.name y.tables) (λ (x : Host). (not (bytes_eq x.name h.name) && takes w (ask_frame a) x) ≡ false) hosts (λ x r. and_right (not (bytes_eq x.name h.name)) (takes w (ask_frame a) x) (no-taker w f none x r)) synced.realise) in
           by-step (ToWire w n (TowardAddress (destination a.ends)) (ask_frame a)) (step-is None e ∙ ap (λ w. wire_or false n w (TowardAddress (destination a.ends)) (ask_frame a) NoHolder) f)
-          ∙ ap (λ o. meant (wired (walk hosts (steps - 1)) w n (TowardAddress (destination a.ends)) (ask_frame a) (after_step h (Bridge tag (ask_frame a)) (plain (ToWire w n (TowardAddress (destination a.ends)) (ask_frame a))) run) o)) nobody
-          ∙ ap (λ t. ended t (Out n (TowardAddress (destination a.ends)) (ask_frame a))) (trace-plain h (Bridge tag (ask_frame a)) (ToWire w n (TowardAddress (destination a.ends)) (ask_frame a)) run refl)
-          ∙ sym (ap (λ o. ended (trace_of run) (asked_by rows n a o)) e ∙ ap (λ w. ended (trace_of run) (out_or w n (TowardAddress (destination a.ends)) (ask_frame a) NoHolder)) f)
+          ∙ ap (λ o. meant (over_wire (walk hosts (steps - 1)) w n (TowardAddress (destination a.ends)) (ask_frame a) (after_step h (Bridge tag (ask_frame a)) (plain (ToWire w n (TowardAddress (destination a.ends)) (ask_frame a))) run) o)) nobody
+          ∙ ap (λ t. end_fate t (Out n (TowardAddress (destination a.ends)) (ask_frame a))) (trace-plain h (Bridge tag (ask_frame a)) (ToWire w n (TowardAddress (destination a.ends)) (ask_frame a)) run refl)
+          ∙ sym (ap (λ o. end_fate (trace_of run) (asked_by rows n a o)) e ∙ ap (λ w. end_fate (trace_of run) (out_or w n (TowardAddress (destination a.ends)) (ask_frame a) NoHolder)) f)

@@ -9,14 +9,14 @@ use Rattle.net_addr.specs.declared.address.Addr.{Addr}
 use Rattle.api_types.specs.Ident.{Ident}
 use Rattle.api_types.specs.declared.group.Direction.TheVariants.{Egress, Ingress}
 use Rattle.plane_types.specs.Ends.{destination}
-use Rattle.plane_types.specs.Fabric.{FabricFate, Run, after_step, at_inward, at_tap, begun, fabric_fate, finished, from_outside, from_tap, moved, network_at, outside, path_at, step_path, steps_for, taken, takes, tunnelled, walk, wired}
+use Rattle.plane_types.specs.Fabric.{FabricFate, Run, after_step, at_inward, at_tap, run_from, fabric_fate, fate_of_run, from_outside, from_tap, next_position, network_at, outside, path_at, step_path, steps_for, fate_after, takes, over_tunnel, walk, over_wire}
 use Rattle.plane_types.specs.Hosts.{Host, is_named}
 use Rattle.plane_types.specs.Meaning.{life_of}
 use Rattle.plane_types.specs.Packets.{Packet, address_ask, ip_frame, is_unsupported, packet}
 use Rattle.plane_types.specs.Places.{Bridge, DhcpIn, End, Next, Place, RouterIn, Step, TapIn, TapOut, ToTunnel, ToWire, TunnelIn, WireIn}
-use Rattle.plane_types.specs.Routing.{RouteEnds, RouteSends, Routed, routed}
-use Rattle.plane_types.specs.TableStep.{Stepped, asked_at, bridge_at, bridge_at_tag, bridge_step, bridged_by, drops, inward_at, inward_step, lease_answer, lease_at, led, leg_at, neighbour_at, plain, router_at, router_by_leg, router_by_row, sent_at, sent_by, source_of, stops, table_routed, table_step, table_view, tag_row, tagged_leg, tap_at, tap_guards, tap_in, tap_out, tap_passage, tap_sends, unheld, wire_or}
-use Rattle.plane_types.specs.Told.{fabric_verdict, told_fresh}
+use Rattle.plane_types.specs.Routing.{RouteEnds, RouteSends, Routed, routing_of}
+use Rattle.plane_types.specs.TableStep.{Stepped, asked_at, bridge_at, bridge_at_tag, bridge_step, bridged_by, drops, inward_at, inward_step, lease_answer, lease_at, target_step, leg_at, neighbour_at, plain, router_at, router_by_leg, router_by_row, sent_at, sent_by, source_of, stops, table_routed, table_step, table_view, tag_row, tagged_leg, tap_at, tap_guards, tap_in, tap_out, tap_passage, tap_sends, unheld, wire_or}
+use Rattle.plane_types.specs.Verdicts.{fabric_verdict, made_entries}
 use Rattle.plane_types.specs.declared.entry.Entry.{Entry}
 use Rattle.plane_types.specs.declared.event.Event.{Event}
 use Rattle.plane_types.specs.declared.event.Event.TheVariants.{FromPort, FromWire}
@@ -104,7 +104,7 @@ module _ (t : TableLists) (inner : Bool) where
       go false None = tt
       go false (Some x) = (omega arith, omega arith)
 
-  led-carries : (b : Bool) (tag : ℕ) (f : Frame) (to : BridgeTo) → Carries f (led b tag f to)
+  led-carries : (b : Bool) (tag : ℕ) (f : Frame) (to : BridgeTo) → Carries f (target_step b tag f to)
   led-carries b tag (Ip src dst ends ttl part) (ToTap port) = (omega arith, omega arith)
   led-carries b tag (NeighbourAsk src ends) (ToTap port) = (omega arith, omega arith)
   led-carries b tag (Dhcp src from) (ToTap port) = (omega arith, omega arith)
@@ -210,7 +210,7 @@ module _ (h : Host) (entries : List Entry) where
 
       leg : (o : Option RouterPort) → length (router_by_leg h.tables entries r p o).made ≤ 1 → FineStep (RouterIn port router frame) (router_by_leg h.tables entries r p o)
       leg None k = (omega arith, omega arith)
-      leg (Some x) k = by (routed (table_view h.tables r) entries (leg_at x) p) (routed-lives (table_view h.tables r) entries (leg_at x) p) k
+      leg (Some x) k = by (routing_of (table_view h.tables r) entries (leg_at x) p) (routed-lives (table_view h.tables r) entries (leg_at x) p) k
 
   lease-fine : (tag : ℕ) (frame : Frame) (o : Option LeaseRow) → FineStep (DhcpIn tag frame) (plain (lease_answer o))
   lease-fine tag frame None = (omega arith, omega arith)
@@ -239,24 +239,24 @@ module _ (hosts : List Host) where
   walk-within zero h place run = record { path = omega arith; fresh = omega arith }
   walk-within (suc many) h place run = go (table_step h.tables (h.entries ++ run.fresh) place) (step-fine h (h.entries ++ run.fresh) place) (walk-within many)
     where
-      go : (s : Stepped) → Fine h place s.step (length s.made) → ((x : Host) (p : Place) (r : Run) → RunWithin (ids_at p) (entries_at p) r (walk hosts many x p r)) → RunWithin (ids_at place) (entries_at place) run (taken hosts (walk hosts many) h place run s)
+      go : (s : Stepped) → Fine h place s.step (length s.made) → ((x : Host) (p : Place) (r : Run) → RunWithin (ids_at p) (entries_at p) r (walk hosts many x p r)) → RunWithin (ids_at place) (entries_at place) run (fate_after hosts (walk hosts many) h place run s)
       go s fine rest = by s.step fine (length-append run.path (step_path h place s.step)) (length-append run.fresh s.made) refl
         where
-          ends : (r : Run) (o : Outcome) (path made : ℕ) → length r.path ≡ length run.path + path → length r.fresh ≡ length run.fresh + made → path ≤ ids_at place → made ≤ entries_at place → RunWithin (ids_at place) (entries_at place) run (finished r o)
+          ends : (r : Run) (o : Outcome) (path made : ℕ) → length r.path ≡ length run.path + path → length r.fresh ≡ length run.fresh + made → path ≤ ids_at place → made ≤ entries_at place → RunWithin (ids_at place) (entries_at place) run (fate_of_run r o)
           ends r o path made p m a b = record { path = omega (arith, p, a); fresh = omega (arith, m, b) }
 
           goes : (r : Run) (v : FabricFate) (path made ids es : ℕ) → length r.path ≡ length run.path + path → length r.fresh ≡ length run.fresh + made → path + ids ≤ ids_at place → made + es ≤ entries_at place → RunWithin ids es r v → RunWithin (ids_at place) (entries_at place) run v
           goes r v path made ids es p m a b w = record { path = omega (arith, p, a, w.path); fresh = omega (arith, m, b, w.fresh) }
 
-          tunnel : (n : ℕ) (f : Frame) (r : Run) (path made : ℕ) → length r.path ≡ length run.path + path → length r.fresh ≡ length run.fresh + made → path + ids_of f ≤ ids_at place → made + entries_of f ≤ entries_at place → (o : Option Host) → RunWithin (ids_at place) (entries_at place) run (tunnelled (walk hosts many) n f r o)
+          tunnel : (n : ℕ) (f : Frame) (r : Run) (path made : ℕ) → length r.path ≡ length run.path + path → length r.fresh ≡ length run.fresh + made → path + ids_of f ≤ ids_at place → made + entries_of f ≤ entries_at place → (o : Option Host) → RunWithin (ids_at place) (entries_at place) run (over_tunnel (walk hosts many) n f r o)
           tunnel n f r path made p m a b None = ends r (Dropped Unknown) path made p m (omega (arith, a)) (omega (arith, b))
           tunnel n f r path made p m a b (Some x) = goes r (walk hosts many x (TunnelIn n f) r) path made (ids_of f) (entries_at (TunnelIn n f)) p m a (omega (arith, b)) (rest x (TunnelIn n f) r)
 
-          wire : (w : Wire) (n : Ident) (t : Toward) (f : Frame) (r : Run) (path made : ℕ) → length r.path ≡ length run.path + path → length r.fresh ≡ length run.fresh + made → path + ids_of f ≤ ids_at place → made + entries_of f ≤ entries_at place → (o : Option Host) → RunWithin (ids_at place) (entries_at place) run (wired (walk hosts many) w n t f r o)
+          wire : (w : Wire) (n : Ident) (t : Toward) (f : Frame) (r : Run) (path made : ℕ) → length r.path ≡ length run.path + path → length r.fresh ≡ length run.fresh + made → path + ids_of f ≤ ids_at place → made + entries_of f ≤ entries_at place → (o : Option Host) → RunWithin (ids_at place) (entries_at place) run (over_wire (walk hosts many) w n t f r o)
           wire w n t f r path made p m a b None = ends r (Out n t f) path made p m (omega (arith, a)) (omega (arith, b))
           wire w n t f r path made p m a b (Some x) = goes r (walk hosts many x (WireIn w f) r) path made (ids_of f) (entries_at (WireIn w f)) p m a (omega (arith, b)) (rest x (WireIn w f) r)
 
-          by : (step : Step) → Fine h place step (length s.made) → length (after_step h place s run).path ≡ length run.path + length (step_path h place s.step) → length (after_step h place s run).fresh ≡ length run.fresh + length s.made → s.step ≡ step → RunWithin (ids_at place) (entries_at place) run (moved hosts (walk hosts many) h (after_step h place s run) step)
+          by : (step : Step) → Fine h place step (length s.made) → length (after_step h place s run).path ≡ length run.path + length (step_path h place s.step) → length (after_step h place s run).fresh ≡ length run.fresh + length s.made → s.step ≡ step → RunWithin (ids_at place) (entries_at place) run (next_position hosts (walk hosts many) h (after_step h place s run) step)
           by (Next p) f path fresh e = goes (after_step h place s run) (walk hosts many h p (after_step h place s run)) (length (step_path h place (Next p))) (length s.made) (ids_at p) (entries_at p) (path ∙ ap (λ x. length run.path + length (step_path h place x)) e) fresh f.0 f.1 (rest h p (after_step h place s run))
           by (End o way) f path fresh e = ends (after_step h place s run) o (length (step_path h place (End o way))) (length s.made) (path ∙ ap (λ x. length run.path + length (step_path h place x)) e) fresh f.0 f.1
           by (ToTunnel name number g) f path fresh e = tunnel number g (after_step h place s run) (length (step_path h place (ToTunnel name number g))) (length s.made) (path ∙ ap (λ x. length run.path + length (step_path h place x)) e) fresh f.0 f.1 (find (is_named name) hosts)
@@ -278,8 +278,8 @@ module _ (hosts : List Host) where
   abbrev SmallFate : FabricFate → Type 0
   SmallFate v = (length v.run.path ≤ 509) × (length v.run.fresh ≤ 256)
 
-  small-from : (many : ℕ) (h : Host) (place : Place) (path : List Ident) → length path ≤ 1 → ttl_of (frame_at place) ≤ 255 → extra_at place ≤ 1 → SmallFate (walk hosts many h place (begun path))
-  small-from many h place path one fits extra = let w = walk-within many h place (begun path) in (omega (arith, w.path, one, fits), omega (arith, w.fresh, fits, extra))
+  small-from : (many : ℕ) (h : Host) (place : Place) (path : List Ident) → length path ≤ 1 → ttl_of (frame_at place) ≤ 255 → extra_at place ≤ 1 → SmallFate (walk hosts many h place (run_from path))
+  small-from many h place path one fits extra = let w = walk-within many h place (run_from path) in (omega (arith, w.path, one, fits), omega (arith, w.fresh, fits, extra))
 
   tables-small : (event : Event) → HasEightBits event → SmallFate (fabric_fate hosts event)
   unfolding fabric_fate
@@ -302,11 +302,11 @@ module _ (hosts : List Host) where
       go None = (omega arith, omega arith)
       go (Some h) = small-from (steps_for (life_of frame)) h (WireIn (record { physical = physical; tag = tag }) frame) (at_inward h (inward_at h.tables (ByWire (record { physical = physical; tag = tag })))) (begins h (inward_at h.tables (ByWire (record { physical = physical; tag = tag })))) (fits-ttl frame fits) (omega arith)
 
-      start : (b : Bool) → SmallFate (if b then finished (begun []) (Dropped Unsupported) else outside hosts (record { physical = physical; tag = tag }) frame)
+      start : (b : Bool) → SmallFate (if b then fate_of_run (run_from []) (Dropped Unsupported) else outside hosts (record { physical = physical; tag = tag }) frame)
       start true = (omega arith, omega arith)
       start false = go (find (takes (record { physical = physical; tag = tag }) frame) hosts)
 
-told-long : (hosts : List Host) (es : List Entry) (names : List (List ℕ)) → length (told_fresh hosts es names) ≡ length es
+told-long : (hosts : List Host) (es : List Entry) (names : List (List ℕ)) → length (made_entries hosts es names) ≡ length es
 told-long hosts [] names = refl
 told-long hosts (e ∷ es) [] = ap suc (told-long hosts es [])
 told-long hosts (e ∷ es) (name ∷ names) = ap suc (told-long hosts es names)

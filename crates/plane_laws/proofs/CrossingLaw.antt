@@ -4,6 +4,7 @@ use Rattle.std.specs.Prelude.{find, is_some, ◌&&◌, ◌==◌, if◌then◌els
 use Rattle.std.proofs.lemmas.Bool.{and_parts, and_from}
 use Rattle.std.proofs.lemmas.List.{append-nil}
 use Rattle.api_types.proofs.NameLemmas.{ident_same, ident_itself}
+use Rattle.api_types.specs.RowsWith.{port_with, router_with, network_with}
 use Rattle.plane_laws.proofs.ListLemmas.{find-passes, find-only, list_any-found}
 use Rattle.plane_laws.proofs.Neighbours.{holder-at}
 use Rattle.plane_laws.proofs.RouterTables.{Lower, routed-lower}
@@ -12,21 +13,21 @@ use Rattle.net_addr.specs.declared.address.Addr.{Addr}
 use Rattle.api_types.specs.Ident.{Ident}
 use Rattle.api_types.specs.Owners.{device_is, is_router_port}
 use Rattle.api_types.specs.RowLists.{RowLists}
-use Rattle.api_types.specs.Table.{ident_eq, row_of}
+use Rattle.api_types.specs.Table.{ident_eq}
 use Rattle.api_types.specs.declared.group.Direction.TheVariants.{Ingress}
 use Rattle.api_types.specs.declared.network.NetworkRow.{NetworkRow}
 use Rattle.api_types.specs.declared.port.PortRow.{PortRow}
 use Rattle.api_types.specs.declared.router.RouterRow.{RouterRow}
 use Rattle.plane_types.specs.Crossing.{CrossesFrom, EndsOn, PathCrosses, is_network, is_on, joins_networks, last_from, leg_on, not_delivered}
-use Rattle.api_types.specs.Holders.{has_mac, holder, router_named, router_of}
+use Rattle.api_types.specs.Holders.{has_mac, holder, router_of}
 use Rattle.api_types.specs.Consistent.Carried.{is_bound}
-use Rattle.api_types.specs.Live.{is_live, joined_with, network_of, network_up, segment}
+use Rattle.api_types.specs.Live.{is_live, joined_with, network_up, segment}
 use Rattle.api_types.specs.Wires.{wire_of}
-use Rattle.plane_types.specs.Meaning.{Fate, Trace, at_router, delivered_by, ended, got, handed, handed_out, handed_to, out_or, received, rows_passage, with_fresh, with_path}
+use Rattle.plane_types.specs.Meaning.{Fate, Trace, at_router, delivered_by, end_fate, port_fate, after_router, handed_out, handed_to, out_or, at_receiver, rows_passage, with_fresh, with_path}
 use Rattle.plane_types.specs.Packets.{Packet, ip_frame}
 use Rattle.plane_types.specs.Passage.{Passage}
 use Rattle.api_types.specs.RouterRows.{is_leg_of, leg_of, legs_of, router_view}
-use Rattle.plane_types.specs.Routing.{RouteEnds, RouteSends, Routed, routed}
+use Rattle.plane_types.specs.Routing.{RouteEnds, RouteSends, Routed, routing_of}
 use Rattle.plane_types.specs.declared.entry.Entry.{Entry}
 use Rattle.api_types.specs.declared.wire.Wire.{Wire}
 use Rattle.plane_types.specs.declared.verdict.DropCause.TheVariants.{Ingress as IngressFilter, NoHolder}
@@ -41,7 +42,7 @@ FateCrosses rows v = PathCrosses rows v.path v.outcome
 -- a live port's network is there
 pub live-network : (rows : RowLists) (p : PortRow) → is_live rows p ≡ true → is_network rows p.network ≡ true
 unfolding is_live
-live-network rows p live = go (network_of rows p.network) (and_parts (p.up && is_bound p.vif) (network_up (network_of rows p.network)) live).1
+live-network rows p live = go (network_with rows p.network) (and_parts (p.up && is_bound p.vif) (network_up (network_with rows p.network)) live).1
   where
     go : (o : Option NetworkRow) → network_up o ≡ true → is_some o ≡ true
     go None e = cc
@@ -62,17 +63,17 @@ ends-on rows n (Out m t f) h = tt
 ends-on rows n (Dropped c) h = tt
 
 module _ (rows : RowLists) (good : FrameFacts rows) (entries : List Entry) where
-  stays : (n : Ident) (t : Trace) (o : Outcome) → not_delivered o ≡ true → Goes rows n t (ended t o)
+  stays : (n : Ident) (t : Trace) (o : Outcome) → not_delivered o ≡ true → Goes rows n t (end_fate t o)
   stays n t o h = record { added = []; path = sym (append-nil t.path); crosses = tt; on = ends-on rows n o h }
 
   module _ (test : PortRow → Bool) (q : PortRow) (found : find test rows.ports ≡ Some q) (live : is_live rows q ≡ true) where
-    arrives : (p : Packet) (t : Trace) → Goes rows q.network t (received rows entries q p t)
+    arrives : (p : Packet) (t : Trace) → Goes rows q.network t (at_receiver rows entries q p t)
     arrives p t = go (rows_passage rows (entries ++ t.fresh) q Ingress p)
       where
-        is : is_on q.network (row_of (λ (z : PortRow). z.id) q.id rows.ports) ≡ true
+        is : is_on q.network (port_with rows q.id) ≡ true
         is = ap (is_on q.network) (find-only test (has_id q.id) rows.ports q (good.port_ids q.id) found (ident_itself q.id)) ∙ ident_itself q.network
 
-        by : (b : Bool) (made : List Entry) → Goes rows q.network t (if b then ended (with_fresh t made) (Delivered q.id (ip_frame p)) else ended t (Dropped IngressFilter))
+        by : (b : Bool) (made : List Entry) → Goes rows q.network t (if b then end_fate (with_fresh t made) (Delivered q.id (ip_frame p)) else end_fate t (Dropped IngressFilter))
         by true made = record { added = []; path = sym (append-nil t.path); crosses = tt; on = is }
         by false made = stays q.network t (Dropped IngressFilter) refl
 
@@ -80,7 +81,7 @@ module _ (rows : RowLists) (good : FrameFacts rows) (entries : List Entry) where
         go y = by y.passes y.made
 
     module _ (router : is_router_port q.owner ≡ true) (r : RouterRow) (router_is : router_of rows q ≡ Some r) where
-      named : router_named rows r.id ≡ Some r
+      named : router_with rows r.id ≡ Some r
       named = find-only (λ (z : RouterRow). device_is q.device z.id) (λ (z : RouterRow). ident_eq r.id z.id) rows.routers r (good.router_ids r.id) router_is (ident_itself r.id)
 
       mine : is_leg_of rows r q ≡ true
@@ -89,8 +90,8 @@ module _ (rows : RowLists) (good : FrameFacts rows) (entries : List Entry) where
       first : leg_on rows r q.network ≡ true
       first = list_any-found test (λ (p : PortRow). is_leg_of rows r p && ident_eq q.network p.network) rows.ports q found (and_from (is_leg_of rows r q) (ident_eq q.network q.network) mine (ident_itself q.network))
 
-      module _ (many : ℕ) (rest : (test : PortRow → Bool) (q : PortRow) → find test rows.ports ≡ Some q → is_live rows q ≡ true → (p : Packet) (t : Trace) → Goes rows q.network t (got rows entries many q p t)) where
-        onward : (t : Trace) (hop : Addr) (p : Packet) (port : Ident) (made : List Entry) (o : PortRow) → find (has_id port) (legs_of rows r) ≡ Some o → Goes rows q.network t (handed_out rows (got rows entries many) r hop p (with_fresh t made) (Some o))
+      module _ (many : ℕ) (rest : (test : PortRow → Bool) (q : PortRow) → find test rows.ports ≡ Some q → is_live rows q ≡ true → (p : Packet) (t : Trace) → Goes rows q.network t (port_fate rows entries many q p t)) where
+        onward : (t : Trace) (hop : Addr) (p : Packet) (port : Ident) (made : List Entry) (o : PortRow) → find (has_id port) (legs_of rows r) ≡ Some o → Goes rows q.network t (handed_out rows (port_fate rows entries many) r hop p (with_fresh t made) (Some o))
         unfolding legs_of
         onward t hop p port made o leg = go (joined_with rows o.host (holder rows o.network hop)) refl
           where
@@ -106,7 +107,7 @@ module _ (rows : RowLists) (good : FrameFacts rows) (entries : List Entry) where
             second : leg_on rows r o.network ≡ true
             second = list_any-found (has_id o.id) (λ (p : PortRow). is_leg_of rows r p && ident_eq o.network p.network) rows.ports o by_id (and_from (is_leg_of rows r o) (ident_eq o.network o.network) is_leg (ident_itself o.network))
 
-            crossing : joins_networks rows q.network o.network (router_named rows r.id) ≡ true
+            crossing : joins_networks rows q.network o.network (router_with rows r.id) ≡ true
             crossing = ap (joins_networks rows q.network o.network) named ∙ and_from (leg_on rows r q.network && leg_on rows r o.network) (is_network rows o.network)
                 (and_from (leg_on rows r q.network) (leg_on rows r o.network) first second) (live-network rows o live_too)
 
@@ -114,7 +115,7 @@ module _ (rows : RowLists) (good : FrameFacts rows) (entries : List Entry) where
             out None = refl
             out (Some w) = refl
 
-            go : (j : Option PortRow) → joined_with rows o.host (holder rows o.network hop) ≡ j → Goes rows q.network t (handed_to rows (got rows entries many) o.network hop p (with_path (with_fresh t made) (r.id ∷ o.network ∷ [])) j)
+            go : (j : Option PortRow) → joined_with rows o.host (holder rows o.network hop) ≡ j → Goes rows q.network t (handed_to rows (port_fate rows entries many) o.network hop p (with_path (with_fresh t made) (r.id ∷ o.network ∷ [])) j)
             go None e = record { added = r.id ∷ o.network ∷ []; path = refl; crosses = (crossing, tt); on = ends-on rows o.network (out_or (wire_of (segment rows o.network)) o.network (TowardAddress hop) (ip_frame (record p { dst = 0 })) NoHolder) (out (wire_of (segment rows o.network))) }
             go (Some q2) e =
                 let at = holder-at rows good o.network hop q2 (joined-found rows o.host (holder rows o.network hop) q2 e).0 in
@@ -122,31 +123,31 @@ module _ (rows : RowLists) (good : FrameFacts rows) (entries : List Entry) where
                 let same : o.network ≡ q2.network = ident_same o.network q2.network (and_parts (ident_eq o.network q2.network) (q2.mac == q2.mac) parts.0).0 in
                 then_on q2 same (rest (has_mac rows o.network q2.mac) q2 at parts.1 (record p { dst = q2.mac }) (with_path (with_fresh t made) (r.id ∷ o.network ∷ [])))
               where
-                then_on : (q2 : PortRow) → o.network ≡ q2.network → Goes rows q2.network (with_path (with_fresh t made) (r.id ∷ o.network ∷ [])) (got rows entries many q2 (record p { dst = q2.mac }) (with_path (with_fresh t made) (r.id ∷ o.network ∷ []))) → Goes rows q.network t (got rows entries many q2 (record p { dst = q2.mac }) (with_path (with_fresh t made) (r.id ∷ o.network ∷ [])))
+                then_on : (q2 : PortRow) → o.network ≡ q2.network → Goes rows q2.network (with_path (with_fresh t made) (r.id ∷ o.network ∷ [])) (port_fate rows entries many q2 (record p { dst = q2.mac }) (with_path (with_fresh t made) (r.id ∷ o.network ∷ []))) → Goes rows q.network t (port_fate rows entries many q2 (record p { dst = q2.mac }) (with_path (with_fresh t made) (r.id ∷ o.network ∷ [])))
                 then_on q2 same g = record {
                   added = r.id ∷ o.network ∷ g.added;
                   path = g.path ∙ append_assoc t.path (r.id ∷ o.network ∷ []) g.added;
                   crosses = (crossing, subst (λ n. CrossesFrom rows n g.added) (sym same) g.crosses);
-                  on = subst (λ n. EndsOn rows (last_from n g.added) (got rows entries many q2 (record p { dst = q2.mac }) (with_path (with_fresh t made) (r.id ∷ o.network ∷ []))).outcome) (sym same) g.on;
+                  on = subst (λ n. EndsOn rows (last_from n g.added) (port_fate rows entries many q2 (record p { dst = q2.mac }) (with_path (with_fresh t made) (r.id ∷ o.network ∷ []))).outcome) (sym same) g.on;
                 }
 
-        by-routed : (t : Trace) (n : ℕ) (x : Routed) → Lower n x → Goes rows q.network t (handed rows (got rows entries many) r t x)
+        by-routed : (t : Trace) (n : ℕ) (x : Routed) → Lower n x → Goes rows q.network t (after_router rows (port_fate rows entries many) r t x)
         by-routed t n (RouteEnds o) low = stays q.network t o low
         by-routed t n (RouteSends made out hop p) low = go (find (has_id out.port) (legs_of rows r)) refl
           where
-            go : (o : Option PortRow) → find (has_id out.port) (legs_of rows r) ≡ o → Goes rows q.network t (handed_out rows (got rows entries many) r hop p (with_fresh t made) o)
+            go : (o : Option PortRow) → find (has_id out.port) (legs_of rows r) ≡ o → Goes rows q.network t (handed_out rows (port_fate rows entries many) r hop p (with_fresh t made) o)
             go None e = record { added = []; path = sym (append-nil t.path); crosses = tt; on = tt }
             go (Some o) e = onward t hop p out.port made o e
 
-  pub got-goes : (many : ℕ) (test : PortRow → Bool) (q : PortRow) → find test rows.ports ≡ Some q → is_live rows q ≡ true → (p : Packet) (t : Trace) → Goes rows q.network t (got rows entries many q p t)
-  unfolding got
+  pub got-goes : (many : ℕ) (test : PortRow → Bool) (q : PortRow) → find test rows.ports ≡ Some q → is_live rows q ≡ true → (p : Packet) (t : Trace) → Goes rows q.network t (port_fate rows entries many q p t)
+  unfolding port_fate
   got-goes zero test q found live p t = record { added = []; path = sym (append-nil t.path); crosses = tt; on = tt }
   got-goes (suc many) test q found live p t = go (is_router_port q.owner) refl (got-goes many)
     where
-      by : is_router_port q.owner ≡ true → ((test : PortRow → Bool) (q : PortRow) → find test rows.ports ≡ Some q → is_live rows q ≡ true → (p : Packet) (t : Trace) → Goes rows q.network t (got rows entries many q p t)) → (o : Option RouterRow) → router_of rows q ≡ o → Goes rows q.network t (at_router rows entries (got rows entries many) q p t o)
+      by : is_router_port q.owner ≡ true → ((test : PortRow → Bool) (q : PortRow) → find test rows.ports ≡ Some q → is_live rows q ≡ true → (p : Packet) (t : Trace) → Goes rows q.network t (port_fate rows entries many q p t)) → (o : Option RouterRow) → router_of rows q ≡ o → Goes rows q.network t (at_router rows entries (port_fate rows entries many) q p t o)
       by e rest None f = record { added = []; path = sym (append-nil t.path); crosses = tt; on = tt }
-      by e rest (Some r) f = by-routed test q found live e r f many rest t p.ttl (routed (router_view rows r) (entries ++ t.fresh) (leg_of q) p) (routed-lower (router_view rows r) (entries ++ t.fresh) (leg_of q) p)
+      by e rest (Some r) f = by-routed test q found live e r f many rest t p.ttl (routing_of (router_view rows r) (entries ++ t.fresh) (leg_of q) p) (routed-lower (router_view rows r) (entries ++ t.fresh) (leg_of q) p)
 
-      go : (b : Bool) → is_router_port q.owner ≡ b → ((test : PortRow → Bool) (q : PortRow) → find test rows.ports ≡ Some q → is_live rows q ≡ true → (p : Packet) (t : Trace) → Goes rows q.network t (got rows entries many q p t)) → Goes rows q.network t (if b then at_router rows entries (got rows entries many) q p t (router_of rows q) else received rows entries q p t)
+      go : (b : Bool) → is_router_port q.owner ≡ b → ((test : PortRow → Bool) (q : PortRow) → find test rows.ports ≡ Some q → is_live rows q ≡ true → (p : Packet) (t : Trace) → Goes rows q.network t (port_fate rows entries many q p t)) → Goes rows q.network t (if b then at_router rows entries (port_fate rows entries many) q p t (router_of rows q) else at_receiver rows entries q p t)
       go true e rest = by e rest (router_of rows q) refl
       go false e rest = arrives test q found live p t

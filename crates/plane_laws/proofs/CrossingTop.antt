@@ -3,6 +3,7 @@ use Rattle.std.proofs.Common.{◌≡◌, ℕ, List, [], ◌∷◌, ◌++◌, Boo
 use Rattle.std.specs.Prelude.{is_some, ◌<◌, ◌^◌, length, option_and_then, ◌&&◌, ◌==◌, if◌then◌else◌}
 use Rattle.std.proofs.lemmas.Bool.{and_parts}
 use Rattle.api_types.proofs.NameLemmas.{ident_itself, ident_same}
+use Rattle.api_types.specs.RowsWith.{port_with}
 use Rattle.plane_laws.proofs.ListLemmas.{find-only, find-passes}
 use Rattle.plane_laws.proofs.FactsHold.{frame-facts}
 use Rattle.plane_laws.proofs.Theorem.{tables-mean-rows}
@@ -11,7 +12,7 @@ use Rattle.plane_laws.proofs.CrossingLaw.{FateCrosses, Goes, ends-on, got-goes, 
 use Rattle.api_types.specs.Consistent.{IsConsistent}
 use Rattle.api_types.specs.Ident.{Ident}
 use Rattle.api_types.specs.RowLists.{RowLists}
-use Rattle.api_types.specs.Table.{ident_eq, row_of}
+use Rattle.api_types.specs.Table.{ident_eq}
 use Rattle.api_types.specs.declared.group.Direction.TheVariants.{Egress}
 use Rattle.api_types.specs.declared.network.NetworkRow.{NetworkRow}
 use Rattle.api_types.specs.declared.network.Segment.{Segment}
@@ -24,11 +25,11 @@ use Rattle.plane_types.specs.Hosts.{Host, all_entries}
 use Rattle.api_types.specs.Live.{is_live, joined_with, segment}
 use Rattle.api_types.specs.Owners.{is_router_port}
 use Rattle.api_types.specs.Wires.{is_wire, wire_of, network_on}
-use Rattle.plane_types.specs.Meaning.{Fate, answered, asked, asked_by, dropped, ended, from_port, from_sender, from_wire, got, lease_asked, lease_asked_by, leased, life_of, may_begin, none_so_far, out_of, out_or, rows_fate, rows_passage, sent_on, sent_out, sent_to, wire_ask, wire_lease, wire_packet}
+use Rattle.plane_types.specs.Meaning.{Fate, lease_outcome, address_outcome, asked_by, drop_fate, end_fate, from_port, from_sender, from_wire, port_fate, lease_asked, lease_asked_by, dhcp_outcome, life_of, may_begin, none_so_far, out_of, out_or, rows_fate, rows_passage, sent_on, sent_out, sent_to, wire_ask, wire_lease, wire_packet}
 use Rattle.api_types.specs.Leases.{lease_for}
 use Rattle.plane_types.specs.Packets.{Packet, address_ask, ask_frame, dhcp_frame, ip_frame, is_unsupported, lease_ask, packet}
 use Rattle.plane_types.specs.Passage.{Passage}
-use Rattle.plane_types.specs.Told.{fabric_verdict, rows_verdict}
+use Rattle.plane_types.specs.Verdicts.{fabric_verdict, rows_verdict}
 use Rattle.plane_types.specs.declared.entry.Entry.{Entry}
 use Rattle.plane_types.specs.declared.event.Event.{Event}
 use Rattle.plane_types.specs.declared.event.Event.TheVariants.{FromPort, FromWire}
@@ -48,42 +49,42 @@ out-not : (w : Option Wire) (n : Ident) (t : Toward) (f : Frame) (c : DropCause)
 out-not None n t f c = refl
 out-not (Some w) n t f c = refl
 
-answered-not : (o : Option Lease) → not_delivered (answered o) ≡ true
+answered-not : (o : Option Lease) → not_delivered (lease_outcome o) ≡ true
 answered-not None = refl
 answered-not (Some l) = refl
 
 module _ (rows : RowLists) (good : FrameFacts rows) (entries : List Entry) where
-  one : (n : Ident) → is_network rows n ≡ true → (fresh : List Entry) (o : Outcome) → not_delivered o ≡ true → FateCrosses rows (ended (record { path = n ∷ []; fresh = fresh }) o)
+  one : (n : Ident) → is_network rows n ≡ true → (fresh : List Entry) (o : Outcome) → not_delivered o ≡ true → FateCrosses rows (end_fate (record { path = n ∷ []; fresh = fresh }) o)
   one n there fresh o h = (there, tt, ends-on rows n o h)
 
   from-goes : (n : Ident) → is_network rows n ≡ true → (fresh : List Entry) (v : Fate) → Goes rows n (record { path = n ∷ []; fresh = fresh }) v → FateCrosses rows v
   from-goes n there fresh v g = subst (λ path. PathCrosses rows path v.outcome) (sym g.path) (there, g.crosses, g.on)
 
-  packet-case : (n : Ident) → is_network rows n ≡ true → (fresh : List Entry) (many : ℕ) (x : Packet) (mac : ℕ) (q : PortRow) → port_at rows n mac ≡ Some q → FateCrosses rows (got rows entries many q x (record { path = n ∷ []; fresh = fresh }))
+  packet-case : (n : Ident) → is_network rows n ≡ true → (fresh : List Entry) (many : ℕ) (x : Packet) (mac : ℕ) (q : PortRow) → port_at rows n mac ≡ Some q → FateCrosses rows (port_fate rows entries many q x (record { path = n ∷ []; fresh = fresh }))
   packet-case n there fresh many x mac q e =
       let parts = and_parts (ident_eq n q.network && (q.mac == mac)) (is_live rows q) (find-passes (has_mac rows n mac) rows.ports q e) in
       let same : n ≡ q.network = ident_same n q.network (and_parts (ident_eq n q.network) (q.mac == mac) parts.0).0 in
-      from-goes n there fresh (got rows entries many q x (record { path = n ∷ []; fresh = fresh }))
-      (subst (λ m. Goes rows m (record { path = n ∷ []; fresh = fresh }) (got rows entries many q x (record { path = n ∷ []; fresh = fresh }))) (sym same)
+      from-goes n there fresh (port_fate rows entries many q x (record { path = n ∷ []; fresh = fresh }))
+      (subst (λ m. Goes rows m (record { path = n ∷ []; fresh = fresh }) (port_fate rows entries many q x (record { path = n ∷ []; fresh = fresh }))) (sym same)
       (got-goes rows good entries many (has_mac rows n mac) q e parts.1 x (record { path = n ∷ []; fresh = fresh })))
 
-  sends : (p : PortRow) → is_live rows p ≡ true → (fresh : List Entry) (many : ℕ) (x : Packet) → FateCrosses rows (sent_on rows (got rows entries many) p.network p.host x (record { path = p.network ∷ []; fresh = fresh }))
+  sends : (p : PortRow) → is_live rows p ≡ true → (fresh : List Entry) (many : ℕ) (x : Packet) → FateCrosses rows (sent_on rows (port_fate rows entries many) p.network p.host x (record { path = p.network ∷ []; fresh = fresh }))
   sends p live fresh many x = go (joined_with rows p.host (port_at rows p.network x.dst)) refl
     where
-      go : (o : Option PortRow) → joined_with rows p.host (port_at rows p.network x.dst) ≡ o → FateCrosses rows (sent_to rows (got rows entries many) p.network x (record { path = p.network ∷ []; fresh = fresh }) o)
+      go : (o : Option PortRow) → joined_with rows p.host (port_at rows p.network x.dst) ≡ o → FateCrosses rows (sent_to rows (port_fate rows entries many) p.network x (record { path = p.network ∷ []; fresh = fresh }) o)
       go None e = one p.network (live-network rows p live) fresh (out_of rows p.network (TowardMac x.dst) (ip_frame x) Unknown) (out-not (wire_of (segment rows p.network)) p.network (TowardMac x.dst) (ip_frame x) Unknown)
       go (Some q) e = packet-case p.network (live-network rows p live) fresh many x x.dst q (joined-found rows p.host (port_at rows p.network x.dst) q e).0
 
   sender : (p : PortRow) → is_live rows p ≡ true → (many : ℕ) (frame : Frame) → FateCrosses rows (from_sender rows entries many p (record { path = p.network ∷ []; fresh = [] }) frame)
   sender p live many (Ip src dst ends ttl part) = go (rows_passage rows (entries ++ []) p Egress (packet src dst ends ttl part))
     where
-      by : (b : Bool) (made : List Entry) → FateCrosses rows (if b then sent_on rows (got rows entries many) p.network p.host (packet src dst ends ttl part) (record { path = p.network ∷ []; fresh = [] ++ made }) else dropped (record { path = p.network ∷ []; fresh = [] }) EgressFilter)
+      by : (b : Bool) (made : List Entry) → FateCrosses rows (if b then sent_on rows (port_fate rows entries many) p.network p.host (packet src dst ends ttl part) (record { path = p.network ∷ []; fresh = [] ++ made }) else drop_fate (record { path = p.network ∷ []; fresh = [] }) EgressFilter)
       by true made = sends p live ([] ++ made) many (packet src dst ends ttl part)
       by false made = (live-network rows p live, tt, tt)
 
-      go : (y : Passage) → FateCrosses rows (sent_out rows (got rows entries many) p (packet src dst ends ttl part) (record { path = p.network ∷ []; fresh = [] }) y)
+      go : (y : Passage) → FateCrosses rows (sent_out rows (port_fate rows entries many) p (packet src dst ends ttl part) (record { path = p.network ∷ []; fresh = [] }) y)
       go y = by y.passes y.made
-  sender p live many (NeighbourAsk src ends) = one p.network (live-network rows p live) [] (asked rows p.network p.host (address_ask src ends)) (go (joined_with rows p.host (holder rows p.network (destination ends))))
+  sender p live many (NeighbourAsk src ends) = one p.network (live-network rows p live) [] (address_outcome rows p.network p.host (address_ask src ends)) (go (joined_with rows p.host (holder rows p.network (destination ends))))
     where
       go : (o : Option PortRow) → not_delivered (asked_by rows p.network (address_ask src ends) o) ≡ true
       go None = out-not (wire_of (segment rows p.network)) p.network (TowardAddress (destination (address_ask src ends).ends)) (ask_frame (address_ask src ends)) NoHolder
@@ -102,7 +103,7 @@ module _ (rows : RowLists) (good : FrameFacts rows) (entries : List Entry) where
       alive : may_begin rows p ≡ true → is_live rows p ≡ true
       alive e = (and_parts (is_live rows p) (not (is_router_port p.owner)) e).0
 
-      go : (b : Bool) → may_begin rows p ≡ b → (u g : Bool) → FateCrosses rows (if b then (if u then dropped (record { path = p.network ∷ []; fresh = [] }) Unsupported else if not g then dropped (record { path = p.network ∷ []; fresh = [] }) Spoof else from_sender rows entries many p (record { path = p.network ∷ []; fresh = [] }) frame) else dropped none_so_far Dead)
+      go : (b : Bool) → may_begin rows p ≡ b → (u g : Bool) → FateCrosses rows (if b then (if u then drop_fate (record { path = p.network ∷ []; fresh = [] }) Unsupported else if not g then drop_fate (record { path = p.network ∷ []; fresh = [] }) Spoof else from_sender rows entries many p (record { path = p.network ∷ []; fresh = [] }) frame) else drop_fate none_so_far Dead)
       go false e u g = refl
       go true e true g = (live-network rows p (alive e), tt, tt)
       go true e false false = (live-network rows p (alive e), tt, tt)
@@ -124,12 +125,12 @@ module _ (rows : RowLists) (good : FrameFacts rows) (entries : List Entry) where
     where
       go : (o : Option PortRow) → FateCrosses rows (wire_lease rows n (lease_ask src from) o)
       go None = refl
-      go (Some d) = one n.id (there n refl) [] (leased rows n.id (lease_ask src from) d) (answered-not (option_and_then (lease_for rows d) (port_at rows n.id (lease_ask src from).src)))
+      go (Some d) = one n.id (there n refl) [] (dhcp_outcome rows n.id (lease_ask src from) d) (answered-not (option_and_then (lease_for rows d) (port_at rows n.id (lease_ask src from).src)))
   wire many (Other s d y) (Some n) there = refl
 
   pub crosses-law : (e : Event) → FateCrosses rows (rows_fate rows entries e)
   unfolding rows_fate
-  crosses-law (FromPort i frame) = port (life_of frame) frame (row_of (λ (p : PortRow). p.id) i rows.ports)
+  crosses-law (FromPort i frame) = port (life_of frame) frame (port_with rows i)
   crosses-law (FromWire physical tag frame) = go (is_unsupported frame)
     where
       wire_test : NetworkRow → Bool
@@ -138,7 +139,7 @@ module _ (rows : RowLists) (good : FrameFacts rows) (entries : List Entry) where
       found : (n : NetworkRow) → network_on rows (record { physical = physical; tag = tag }) ≡ Some n → is_network rows n.id ≡ true
       found n e = ap is_some (find-only wire_test (λ (m : NetworkRow). ident_eq n.id m.id) rows.networks n (good.network_ids n.id) e (ident_itself n.id))
 
-      go : (b : Bool) → FateCrosses rows (if b then dropped none_so_far Unsupported else from_wire rows entries (life_of frame) frame (network_on rows (record { physical = physical; tag = tag })))
+      go : (b : Bool) → FateCrosses rows (if b then drop_fate none_so_far Unsupported else from_wire rows entries (life_of frame) frame (network_on rows (record { physical = physical; tag = tag })))
       go true = refl
       go false = wire (life_of frame) frame (network_on rows (record { physical = physical; tag = tag })) found
 

@@ -23,7 +23,7 @@ use Rattle.plane_types.specs.Hosts.{Host, all_entries, is_named}
 use Rattle.plane_types.specs.Keys.{key_eq}
 use Rattle.api_types.specs.Live.{is_live, is_at, is_here}
 use Rattle.plane_types.specs.Routing.{uses_at, uses_by}
-use Rattle.plane_types.specs.TableRows.{hosted, is_host_of, is_tap}
+use Rattle.plane_types.specs.TableRows.{is_on_host, is_host_of, is_tap}
 use Rattle.plane_types.specs.declared.entry.Entry.{Entry}
 use Rattle.plane_types.specs.declared.entry.Entry.TheVariants.{Flow, Snat}
 use Rattle.plane_types.specs.declared.frame.Key.{Key}
@@ -82,7 +82,7 @@ module _ (rows : RowLists) (hosts : List Host) (good : FrameFacts rows) (synced 
         (AllOf-more (EntriesStand rows) (λ x. is_named q.host x ≡ false → list_any (is_flow q.id d k) x.entries ≡ false) hosts (λ x stand away. list_any-none_each (is_flow q.id d k) x.entries (AllOf-more (λ e. stands_at rows x.name e ≡ true) (λ e. is_flow q.id d k e ≡ false) x.entries (foreign x away) stand)) synced.stand)))
         ∙ sym (list_any-append (is_flow q.id d k) (all_entries hosts) fresh)
 
-  module _ (test : RouterRow → Bool) (r : RouterRow) (found : find test rows.routers ≡ Some r) (name : List ℕ) (here : hosted name r ≡ true) where
+  module _ (test : RouterRow → Bool) (r : RouterRow) (found : find test rows.routers ≡ Some r) (name : List ℕ) (here : is_on_host name r ≡ true) where
     no-uses : (o : ℕ) (x : Host) → is_named name x ≡ false → (es : List Entry) → AllOf (λ e. stands_at rows x.name e ≡ true) es → uses_at r.id o es ≡ []
     no-uses o x away [] stand = refl
     no-uses o x away (Flow p d k ∷ es) stand = no-uses o x away es stand.1
@@ -93,7 +93,7 @@ module _ (rows : RowLists) (hosts : List Host) (good : FrameFacts rows) (synced 
         go true c e rest =
             let same : r.id ≡ s = ident_same r.id s e in
             let by_id : find (λ (z : RouterRow). ident_eq s z.id) rows.routers ≡ Some r = find-only test (λ (z : RouterRow). ident_eq s z.id) rows.routers r (good.router_ids s) found (subst (λ i. ident_eq i r.id ≡ true) same (ident_itself r.id)) in
-            let there : hosted x.name r ≡ true = any-only (λ (z : RouterRow). ident_eq s z.id) (hosted x.name) rows.routers r (good.router_ids s) by_id stand.0 in
+            let there : is_on_host x.name r ≡ true = any-only (λ (z : RouterRow). ident_eq s z.id) (is_on_host x.name) rows.routers r (good.router_ids s) by_id stand.0 in
             let both : is_named name x ≡ true = both_hosts r.host here there in
             cc
           where

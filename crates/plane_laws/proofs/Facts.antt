@@ -6,10 +6,11 @@ use Rattle.net_addr.specs.Addresses.{addr_eq}
 use Rattle.net_addr.specs.declared.address.Addr.{Addr}
 use Rattle.net_addr.specs.declared.address.Addr.TheVariants.{V4}
 use Rattle.api_types.specs.Consistent.Carried.{is_bound}
+use Rattle.api_types.specs.RowsWith.{port_with, network_with}
 use Rattle.api_types.specs.Ident.{Ident}
 use Rattle.api_types.specs.Owners.{device_is, is_dhcp_of, is_router_port}
 use Rattle.api_types.specs.RowLists.{RowLists}
-use Rattle.api_types.specs.Table.{ident_eq, row_of}
+use Rattle.api_types.specs.Table.{ident_eq}
 use Rattle.api_types.specs.declared.floating.FloatingRow.{FloatingRow}
 use Rattle.api_types.specs.declared.group.GroupRow.{GroupRow}
 use Rattle.api_types.specs.declared.group.RuleRow.{RuleRow}
@@ -18,9 +19,9 @@ use Rattle.api_types.specs.declared.port.PortRow.{PortRow}
 use Rattle.api_types.specs.declared.router.RouterRow.{RouterRow}
 use Rattle.api_types.specs.Holders.{holds, router_of}
 use Rattle.plane_types.specs.Hosts.{Host}
-use Rattle.api_types.specs.Live.{is_live, network_of, segment}
+use Rattle.api_types.specs.Live.{is_live, segment}
 use Rattle.api_types.specs.Wires.{wire_of}
-use Rattle.plane_types.specs.TableRows.{bridge_rows, carrier_of, filter_rows, float_rows, hosted, inward_rows, is_hosted, is_tagged, is_tap, lease_rows, neighbour_rows, route_rows, router_rows, set_rows, tap_rows}
+use Rattle.plane_types.specs.TableRows.{bridge_rows, carrier_of, filter_rows, float_rows, is_on_host, inward_rows, is_hosted, is_tagged, is_tap, lease_rows, neighbour_rows, route_rows, router_rows, set_rows, tap_rows}
 use Rattle.plane_types.specs.TableStep.{carrier_eq}
 use Rattle.plane_types.specs.declared.entry.Entry.{Entry}
 use Rattle.plane_types.specs.declared.entry.Entry.TheVariants.{Flow, Snat}
@@ -81,7 +82,7 @@ own_port_stands f None = false
 own_port_stands f (Some p) = ident_eq f.network p.network && holds p (V4 f.address) && not (is_bound p.vif)
 
 abbrev pub OwnPortStands : RowLists → FloatingRow → Type 0
-OwnPortStands rows f = own_port_stands f (row_of (λ (p : PortRow). p.id) f.own_port rows.ports) ≡ true
+OwnPortStands rows f = own_port_stands f (port_with rows f.own_port) ≡ true
 
 abbrev pub RouterPortStands : RowLists → PortRow → Type 0
 RouterPortStands rows p = is_router_port p.owner ≡ true → is_live rows p ≡ true → is_hosted p.host (router_of rows p) ≡ true
@@ -91,7 +92,7 @@ pub record FrameFacts (rows : RowLists) : Type 0 where
   pub network_ids : (i : Ident) → AtMostOne (λ (n : NetworkRow). ident_eq i n.id) rows.networks
   pub router_ids : (i : Ident) → AtMostOne (λ (r : RouterRow). ident_eq i r.id) rows.routers
   pub router_names : (text : List ℕ) → AtMostOne (λ (r : RouterRow). device_is text r.id) rows.routers
-  pub networks_stand : AllOf (λ (p : PortRow). is_some (network_of rows p.network) ≡ true) rows.ports
+  pub networks_stand : AllOf (λ (p : PortRow). is_some (network_with rows p.network) ≡ true) rows.ports
   pub groups_stand : AllOf (λ (r : RuleRow). list_any (λ (g : GroupRow). ident_eq r.group g.id) rows.groups ≡ true) rows.rules
   pub remotes_stand : AllOf (λ (r : RuleRow). RemoteStands rows r.remote_group) rows.rules
   pub macs : (n : Ident) (mac : ℕ) → AtMostOne (λ (p : PortRow). ident_eq n p.network && (p.mac == mac)) rows.ports
@@ -108,7 +109,7 @@ is_tap_id rows host i p = ident_eq i p.id && is_tap rows host p
 
 abbrev pub stands_at : RowLists → List ℕ → Entry → Bool
 stands_at rows host (Flow port d k) = list_any (is_tap_id rows host port) rows.ports
-stands_at rows host (Snat r k o p) = list_any (λ (x : RouterRow). ident_eq r x.id && hosted host x) rows.routers
+stands_at rows host (Snat r k o p) = list_any (λ (x : RouterRow). ident_eq r x.id && is_on_host host x) rows.routers
 
 abbrev pub EntriesStand : RowLists → Host → Type 0
 EntriesStand rows h = AllOf (λ e. stands_at rows h.name e ≡ true) h.entries

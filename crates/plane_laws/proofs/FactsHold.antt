@@ -38,7 +38,8 @@ use Rattle.api_types.specs.declared.port.Vif.TheVariants.{Failed, Ovs, Unbound}
 use Rattle.api_types.specs.declared.project.ProjectRow.{ProjectRow}
 use Rattle.api_types.specs.declared.router.RouterRow.{RouterRow}
 use Rattle.api_types.specs.Holders.{holds, router_of}
-use Rattle.api_types.specs.Live.{is_live, network_of, network_up, segment, segment_of}
+use Rattle.api_types.specs.Live.{is_live, network_up, segment, segment_of}
+use Rattle.api_types.specs.RowsWith.{network_with}
 use Rattle.api_types.specs.Wires.{tag_eq}
 use Rattle.plane_types.specs.TableRows.{carrier_of, is_host_of, is_hosted}
 use Rattle.plane_types.specs.declared.table.Carrier.{Carrier}
@@ -65,8 +66,8 @@ module _ (rows : RowLists) (good : IsConsistent rows) where
   router-ids : (i : Ident) → AtMostOne (λ (r : RouterRow). ident_eq i r.id) rows.routers
   router-ids i = once-counted (λ (r : RouterRow). ident_eq i r.id) rows.routers (omega (arith, good.numbered.ids i))
 
-  networks-stand : AllOf (λ (p : PortRow). is_some (network_of rows p.network) ≡ true) rows.ports
-  networks-stand = AllOf-more (λ p. list_any (λ (n : NetworkRow). ident_eq p.network n.id) rows.networks ≡ true) (λ p. is_some (network_of rows p.network) ≡ true) rows.ports
+  networks-stand : AllOf (λ (p : PortRow). is_some (network_with rows p.network) ≡ true) rows.ports
+  networks-stand = AllOf-more (λ p. list_any (λ (n : NetworkRow). ident_eq p.network n.id) rows.networks ≡ true) (λ p. is_some (network_with rows p.network) ≡ true) rows.ports
       (λ p h. find-some (λ (n : NetworkRow). ident_eq p.network n.id) rows.networks ∙ h) (all-of _ rows.ports good.named.networks.of_ports)
 
   remotes-stand : AllOf (λ (r : RuleRow). RemoteStands rows r.remote_group) rows.rules
@@ -132,17 +133,17 @@ module _ (rows : RowLists) (good : IsConsistent rows) where
       by false e = omega (arith, e)
 
   dhcp-ports : (n : Ident) → AtMostOne (is_dhcp_of n) rows.ports
-  dhcp-ports n = go (network_of rows n) refl
+  dhcp-ports n = go (network_with rows n) refl
     where
-      go : (o : Option NetworkRow) → network_of rows n ≡ o → AtMostOne (is_dhcp_of n) rows.ports
+      go : (o : Option NetworkRow) → network_with rows n ≡ o → AtMostOne (is_dhcp_of n) rows.ports
       go (Some net) e =
           let same : n ≡ net.id = ident_same n net.id (find-passes (λ (m : NetworkRow). ident_eq n m.id) rows.networks net e) in
           once-counted (is_dhcp_of n) rows.ports (subst (λ i. count_by (is_dhcp_of i) rows.ports ≤ 1) (sym same)
           (find-each (λ (m : NetworkRow). count_by (is_dhcp_of m.id) rows.ports ≤ 1) (λ (m : NetworkRow). ident_eq n m.id) rows.networks net (all-of _ rows.networks dhcp-once) e))
       go None e = AtMostOne-less_each (λ p. false) (is_dhcp_of n) rows.ports
-          (AllOf-more (λ (p : PortRow). is_some (network_of rows p.network) ≡ true) (λ p. is_dhcp_of n p ≡ true → false ≡ true) rows.ports
+          (AllOf-more (λ (p : PortRow). is_some (network_with rows p.network) ≡ true) (λ p. is_dhcp_of n p ≡ true → false ≡ true) rows.ports
           (λ p there h. let same : n ≡ p.network = ident_same n p.network (and_both (ident_eq n p.network) (is_dhcp p.owner) h).0 in
-          ap is_some (sym e) ∙ ap (λ i. is_some (network_of rows i)) same ∙ there) networks-stand)
+          ap is_some (sym e) ∙ ap (λ i. is_some (network_with rows i)) same ∙ there) networks-stand)
           (AtMostOne-none (λ p. false) rows.ports (λ p h. false_true ⊥ h))
 
   -- routers by the texts of their ids
@@ -189,7 +190,7 @@ module _ (rows : RowLists) (good : IsConsistent rows) where
 
   live-bound : (p : PortRow) → is_live rows p ≡ true → is_bound p.vif ≡ true
   unfolding is_live
-  live-bound p h = (and_both p.up (is_bound p.vif) (and_both (p.up && is_bound p.vif) (network_up (network_of rows p.network)) h).0).1
+  live-bound p h = (and_both p.up (is_bound p.vif) (and_both (p.up && is_bound p.vif) (network_up (network_with rows p.network)) h).0).1
 
   on-host : (p : PortRow) (o : Option (List ℕ)) → is_some_so (bytes_eq p.host) o ≡ true → is_host_of p.host o ≡ true
   on-host p None h = h

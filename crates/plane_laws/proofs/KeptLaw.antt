@@ -15,10 +15,10 @@ use Rattle.api_types.specs.RowLists.{RowLists}
 use Rattle.api_types.specs.declared.network.Segment.{Segment}
 use Rattle.plane_types.specs.Fabric.{fabric_fate}
 use Rattle.plane_types.specs.Hosts.{Host, is_named}
-use Rattle.plane_types.specs.Placed.{IsPlaced}
+use Rattle.plane_types.specs.Attached.{IsAttached}
 use Rattle.plane_types.specs.Realises.{Realises}
 use Rattle.plane_types.specs.Synced.{AreSynced}
-use Rattle.plane_types.specs.Told.{hosts_after, kept_from, made_at, place_among, told_fresh}
+use Rattle.plane_types.specs.Verdicts.{hosts_after, with_made_from, made_at, index_among, made_entries}
 use Rattle.plane_types.specs.declared.entry.Entry.{Entry}
 use Rattle.plane_types.specs.declared.event.Event.{Event}
 use Rattle.plane_laws.proofs.Facts.{AllOf, AtMostOne}
@@ -44,7 +44,7 @@ suc-zero n = grind (arith, nat_tests)
 -- the hosts from a place on are found there by their names
 abbrev At : List Host → ℕ → List Host → Type 0
 At all place [] = ⊤
-At all place (x ∷ xs) = ((name : List ℕ) → option_eq (λ a b. a == b) (place_among name all) (Some place) ≡ is_named name x) × At all (suc place) xs
+At all place (x ∷ xs) = ((name : List ℕ) → option_eq (λ a b. a == b) (index_among name all) (Some place) ≡ is_named name x) × At all (suc place) xs
 
 unfound : {X : Type 0} (T : X → Bool) (xs : List X) → find T xs ≡ None → AllOf (λ x. T x ≡ false) xs
 unfound T [] h = tt
@@ -56,9 +56,9 @@ unfound T (x ∷ xs) h = go (T x) refl h (unfound T xs)
 
 shift : (h : Host) (all xs : List Host) (place : ℕ) → AllOf (λ (x : Host). is_named h.name x ≡ false) xs → At all place xs → At (h ∷ all) (suc place) xs
 shift h all [] place apart at = tt
-shift h all (x ∷ xs) place apart at = ((λ name. go name (is_named name h) refl (place_among name all) refl), shift h all xs (suc place) apart.1 at.1)
+shift h all (x ∷ xs) place apart at = ((λ name. go name (is_named name h) refl (index_among name all) refl), shift h all xs (suc place) apart.1 at.1)
   where
-    go : (name : List ℕ) (b : Bool) → is_named name h ≡ b → (o : Option ℕ) → place_among name all ≡ o → option_eq (λ a b. a == b) (if b then Some zero else option_map suc o) (Some (suc place)) ≡ is_named name x
+    go : (name : List ℕ) (b : Bool) → is_named name h ≡ b → (o : Option ℕ) → index_among name all ≡ o → option_eq (λ a b. a == b) (if b then Some zero else option_map suc o) (Some (suc place)) ≡ is_named name x
     go name true e o f = zero-suc place ∙ sym (ap (λ m. is_named m x) (bytes_same name h.name e) ∙ apart.0)
     go name false e None f = ap (λ o. option_eq (λ a b. a == b) o (Some place)) (sym f) ∙ at.0 name
     go name false e (Some n) f = suc-same n place ∙ ap (λ o. option_eq (λ a b. a == b) o (Some place)) (sym f) ∙ at.0 name
@@ -66,7 +66,7 @@ shift h all (x ∷ xs) place apart at = ((λ name. go name (is_named name h) ref
 places : (hosts : List Host) → ((name : List ℕ) → AtMostOne (is_named name) hosts) → At hosts 0 hosts
 places [] names = tt
 places (h ∷ hosts) names =
-    ((λ name. head name (is_named name h) (place_among name hosts)), shift h hosts hosts 0 (unfound (is_named h.name) hosts ((names h.name).0 (bytes_itself h.name))) (places hosts (λ name. (names name).1)))
+    ((λ name. head name (is_named name h) (index_among name hosts)), shift h hosts hosts 0 (unfound (is_named h.name) hosts ((names h.name).0 (bytes_itself h.name))) (places hosts (λ name. (names name).1)))
   where
     head : (name : List ℕ) (b : Bool) (o : Option ℕ) → option_eq (λ a b. a == b) (if b then Some zero else option_map suc o) (Some 0) ≡ b
     head name true o = refl
@@ -78,18 +78,18 @@ module _ (all : List Host) (fresh : List Entry) (makers : List (List ℕ)) where
   none-made name [] = refl
   none-made name (e ∷ es) = refl
 
-  picked : (x : Host) (place : ℕ) → ((name : List ℕ) → option_eq (λ a b. a == b) (place_among name all) (Some place) ≡ is_named name x) → (es : List Entry) (ms : List (List ℕ)) → filter_map (made_at place) (told_fresh all es ms) ≡ made_by x.name es ms
+  picked : (x : Host) (place : ℕ) → ((name : List ℕ) → option_eq (λ a b. a == b) (index_among name all) (Some place) ≡ is_named name x) → (es : List Entry) (ms : List (List ℕ)) → filter_map (made_at place) (made_entries all es ms) ≡ made_by x.name es ms
   picked x place at [] ms = refl
   picked x place at (e ∷ es) [] = picked x place at es [] ∙ none-made x.name es
   picked x place at (e ∷ es) (m ∷ ms) =
-      ap (λ b. cons_option (if b then Some e else None) (filter_map (made_at place) (told_fresh all es ms))) (at m ∙ bytes-swap m x.name)
+      ap (λ b. cons_option (if b then Some e else None) (filter_map (made_at place) (made_entries all es ms))) (at m ∙ bytes-swap m x.name)
       ∙ go (bytes_eq x.name m) (picked x place at es ms)
     where
-      go : (b : Bool) → filter_map (made_at place) (told_fresh all es ms) ≡ made_by x.name es ms → cons_option (if b then Some e else None) (filter_map (made_at place) (told_fresh all es ms)) ≡ (if b then e ∷ made_by x.name es ms else made_by x.name es ms)
+      go : (b : Bool) → filter_map (made_at place) (made_entries all es ms) ≡ made_by x.name es ms → cons_option (if b then Some e else None) (filter_map (made_at place) (made_entries all es ms)) ≡ (if b then e ∷ made_by x.name es ms else made_by x.name es ms)
       go true rest = ap (λ xs. e ∷ xs) rest
       go false rest = rest
 
-  kept-from : (place : ℕ) (xs : List Host) → At all place xs → kept_from place xs (told_fresh all fresh makers) ≡ map (with_made fresh makers) xs
+  kept-from : (place : ℕ) (xs : List Host) → At all place xs → with_made_from place xs (made_entries all fresh makers) ≡ map (with_made fresh makers) xs
   kept-from place [] at = refl
   kept-from place (x ∷ xs) at = λ j. record { name = x.name; tables = x.tables; entries = x.entries ++ picked x place at.0 fresh makers j } ∷ kept-from (suc place) xs at.1 j
 
@@ -108,13 +108,13 @@ count-map p f (x ∷ xs) =
     sum_by-cons (λ y. cond {A = ℕ} (p y) 1 0) (f x) (map f xs) ∙ ap (λ n. cond {A = ℕ} (p (f x)) 1 0 + n) (count-map p f xs) ∙ sym (sum_by-cons (λ y. cond {A = ℕ} (p (f y)) 1 0) x xs)
 
 -- over any tables
-pub stay-placed : (hosts : List Host) → ((name : List ℕ) → count_by (is_named name) hosts ≤ 1) → Each IsPlaced hosts → (event : Event) → Each IsPlaced (hosts_after hosts event)
+pub stay-placed : (hosts : List Host) → ((name : List ℕ) → count_by (is_named name) hosts ≤ 1) → Each IsAttached hosts → (event : Event) → Each IsAttached (hosts_after hosts event)
 stay-placed hosts names placed event =
     let once = λ (name : List ℕ). once-counted (is_named name) hosts (names name) in
-    let run = fate-placed hosts once event (all-of IsPlaced hosts placed) in
-    subst (Each IsPlaced) (sym (after-is hosts once event))
-    (each-of IsPlaced (map (with_made (fabric_fate hosts event).run.fresh (fabric_fate hosts event).run.makers) hosts)
-    (AllOf-map IsPlaced (with_made (fabric_fate hosts event).run.fresh (fabric_fate hosts event).run.makers) hosts run.all))
+    let run = fate-placed hosts once event (all-of IsAttached hosts placed) in
+    subst (Each IsAttached) (sym (after-is hosts once event))
+    (each-of IsAttached (map (with_made (fabric_fate hosts event).run.fresh (fabric_fate hosts event).run.makers) hosts)
+    (AllOf-map IsAttached (with_made (fabric_fate hosts event).run.fresh (fabric_fate hosts event).run.makers) hosts run.all))
 
 -- hosts that hold the rows hold them still
 pub stay-synced : (carry : List ℕ → Segment → Bool) (rows : RowLists) (hosts : List Host) → AreSynced carry rows hosts → (event : Event) → AreSynced carry rows (hosts_after hosts event)

@@ -18,13 +18,13 @@ use Rattle.api_types.specs.declared.group.Direction.TheVariants.{Ingress}
 use Rattle.api_types.specs.declared.port.PortRow.{PortRow}
 use Rattle.api_types.specs.declared.router.RouterRow.{RouterRow}
 use Rattle.plane_types.specs.Entries.{has_flow, opposite}
-use Rattle.plane_types.specs.Fabric.{Run, meant, taken, walk}
+use Rattle.plane_types.specs.Fabric.{Run, meant, fate_after, walk}
 use Rattle.plane_types.specs.Filter.{rules_allow}
 use Rattle.api_types.specs.Holders.{router_of}
 use Rattle.plane_types.specs.Hosts.{Host, all_entries, is_named}
-use Rattle.plane_types.specs.Keys.{reversed}
+use Rattle.plane_types.specs.Keys.{answer_key}
 use Rattle.api_types.specs.Live.{is_live, is_at, is_here}
-use Rattle.plane_types.specs.Meaning.{at_router, delivered_by, ended, got, received, rows_passage, with_fresh}
+use Rattle.plane_types.specs.Meaning.{at_router, delivered_by, end_fate, port_fate, at_receiver, rows_passage, with_fresh}
 use Rattle.plane_types.specs.Packets.{Packet, ip_frame, key_of}
 use Rattle.plane_types.specs.Passage.{Passage, passage}
 use Rattle.plane_types.specs.Places.{TapOut}
@@ -45,10 +45,10 @@ shape i d k x y f g = if x then record { passes = true; made = if f then [] else
 pub passage-same : (secured : Bool) (a b : Direction → Key → Bool) (es fs : List Entry) (i : Ident) (d : Direction) (k : Key) → (secured ≡ true → (d : Direction) (k : Key) → a d k ≡ b d k) → ((d : Direction) (k : Key) → has_flow es i d k ≡ has_flow fs i d k) → passage secured a es i d k ≡ passage secured b fs i d k
 passage-same false a b es fs i d k same flows = refl
 passage-same true a b es fs i d k same flows =
-    ap (λ x. shape i d k x (a (opposite d) (reversed k)) (has_flow es i d k) (has_flow es i (opposite d) (reversed k))) (same refl d k)
-    ∙ ap (λ y. shape i d k (b d k) y (has_flow es i d k) (has_flow es i (opposite d) (reversed k))) (same refl (opposite d) (reversed k))
-    ∙ ap (λ f. shape i d k (b d k) (b (opposite d) (reversed k)) f (has_flow es i (opposite d) (reversed k))) (flows d k)
-    ∙ ap (λ g. shape i d k (b d k) (b (opposite d) (reversed k)) (has_flow fs i d k) g) (flows (opposite d) (reversed k))
+    ap (λ x. shape i d k x (a (opposite d) (answer_key k)) (has_flow es i d k) (has_flow es i (opposite d) (answer_key k))) (same refl d k)
+    ∙ ap (λ y. shape i d k (b d k) y (has_flow es i d k) (has_flow es i (opposite d) (answer_key k))) (same refl (opposite d) (answer_key k))
+    ∙ ap (λ f. shape i d k (b d k) (b (opposite d) (answer_key k)) f (has_flow es i (opposite d) (answer_key k))) (flows d k)
+    ∙ ap (λ g. shape i d k (b d k) (b (opposite d) (answer_key k)) (has_flow fs i d k) g) (flows (opposite d) (answer_key k))
 
 module _ (rows : RowLists) (hosts : List Host) (good : FrameFacts rows) (synced : SyncedFacts rows hosts) where
   -- the tap of a live port that is no router's, and what it passes
@@ -80,33 +80,33 @@ module _ (rows : RowLists) (hosts : List Host) (good : FrameFacts rows) (synced 
         (λ secured d k. allows-located rows good h.name h.tables real-at test q found tap-here secured d k)
         (λ d k. flows-located rows hosts good synced test q found d k h named fresh)
 
-    pub received-law : (steps : ℕ) (p : Packet) (run : Run) → 0 < steps → meant (walk hosts steps h (TapOut q.id (ip_frame p)) run) ≡ received rows (all_entries hosts) q p (trace_of run)
+    pub received-law : (steps : ℕ) (p : Packet) (run : Run) → 0 < steps → meant (walk hosts steps h (TapOut q.id (ip_frame p)) run) ≡ at_receiver rows (all_entries hosts) q p (trace_of run)
     received-law steps p run more =
         ap meant (walk-on hosts steps h (TapOut q.id (ip_frame p)) run more)
-        ∙ ap (λ s. meant (taken hosts (walk hosts (steps - 1)) h (TapOut q.id (ip_frame p)) run s)) (ap (tap_out h.tables (h.entries ++ run.fresh) (ip_frame p)) tap-found ∙ ap (tap_delivers q.id (ip_frame p)) (passage-here Ingress p run.fresh))
+        ∙ ap (λ s. meant (fate_after hosts (walk hosts (steps - 1)) h (TapOut q.id (ip_frame p)) run s)) (ap (tap_out h.tables (h.entries ++ run.fresh) (ip_frame p)) tap-found ∙ ap (tap_delivers q.id (ip_frame p)) (passage-here Ingress p run.fresh))
         ∙ by (rows_passage rows (all_entries hosts ++ run.fresh) q Ingress p)
       where
-        go : (b : Bool) (made : List Entry) → meant (taken hosts (walk hosts (steps - 1)) h (TapOut q.id (ip_frame p)) run (if b then record { step = stops (Delivered q.id (ip_frame p)); made = made } else plain (drops IngressFilter))) ≡ (if b then ended (with_fresh (trace_of run) made) (Delivered q.id (ip_frame p)) else ended (trace_of run) (Dropped IngressFilter))
-        go true made = ap (λ t. ended t (Delivered q.id (ip_frame p))) (trace-step h (TapOut q.id (ip_frame p)) (record { step = stops (Delivered q.id (ip_frame p)); made = made }) run [] refl ∙ no-path (with_fresh (trace_of run) made))
-        go false made = ap (λ t. ended t (Dropped IngressFilter)) (trace-plain h (TapOut q.id (ip_frame p)) (drops IngressFilter) run refl)
+        go : (b : Bool) (made : List Entry) → meant (fate_after hosts (walk hosts (steps - 1)) h (TapOut q.id (ip_frame p)) run (if b then record { step = stops (Delivered q.id (ip_frame p)); made = made } else plain (drops IngressFilter))) ≡ (if b then end_fate (with_fresh (trace_of run) made) (Delivered q.id (ip_frame p)) else end_fate (trace_of run) (Dropped IngressFilter))
+        go true made = ap (λ t. end_fate t (Delivered q.id (ip_frame p))) (trace-step h (TapOut q.id (ip_frame p)) (record { step = stops (Delivered q.id (ip_frame p)); made = made }) run [] refl ∙ no-path (with_fresh (trace_of run) made))
+        go false made = ap (λ t. end_fate t (Dropped IngressFilter)) (trace-plain h (TapOut q.id (ip_frame p)) (drops IngressFilter) run refl)
 
-        by : (y : Passage) → meant (taken hosts (walk hosts (steps - 1)) h (TapOut q.id (ip_frame p)) run (tap_delivers q.id (ip_frame p) y)) ≡ delivered_by q p (trace_of run) y
+        by : (y : Passage) → meant (fate_after hosts (walk hosts (steps - 1)) h (TapOut q.id (ip_frame p)) run (tap_delivers q.id (ip_frame p) y)) ≡ delivered_by q p (trace_of run) y
         by y = go y.passes y.made
 
   -- the induction over the time to live
   pub lands-law : (many : ℕ) → Lands rows hosts many
-  unfolding got
+  unfolding port_fate
   lands-law zero steps test q h to p run enough found live named is lives = absurd (omega arith)
   lands-law (suc many) steps test q h to p run enough found live named is lives = by (is_router_port q.owner) refl is (lands-law many)
     where
-      routed_by : is_router_port q.owner ≡ true → Lands rows hosts many → (o : Option RouterRow) → router_of rows q ≡ o → to_router q o ≡ Some to → meant (walk hosts steps h (place_of to p) run) ≡ at_router rows (all_entries hosts) (got rows (all_entries hosts) many) q p (trace_of run) o
+      routed_by : is_router_port q.owner ≡ true → Lands rows hosts many → (o : Option RouterRow) → router_of rows q ≡ o → to_router q o ≡ Some to → meant (walk hosts steps h (place_of to p) run) ≡ at_router rows (all_entries hosts) (port_fate rows (all_entries hosts) many) q p (trace_of run) o
       routed_by router rest None e f = cc
       routed_by router rest (Some r) e f =
           let same : to ≡ ToRouter r.id q.id = cc in
           ap (λ x. meant (walk hosts steps h (place_of x p) run)) same
           ∙ router-law rows hosts good synced many rest steps (omega arith) h test q found live router named r e p lives run
 
-      by : (b : Bool) → is_router_port q.owner ≡ b → (if b then to_router q (router_of rows q) else Some (ToTap q.id)) ≡ Some to → Lands rows hosts many → meant (walk hosts steps h (place_of to p) run) ≡ (if b then at_router rows (all_entries hosts) (got rows (all_entries hosts) many) q p (trace_of run) (router_of rows q) else received rows (all_entries hosts) q p (trace_of run))
+      by : (b : Bool) → is_router_port q.owner ≡ b → (if b then to_router q (router_of rows q) else Some (ToTap q.id)) ≡ Some to → Lands rows hosts many → meant (walk hosts steps h (place_of to p) run) ≡ (if b then at_router rows (all_entries hosts) (port_fate rows (all_entries hosts) many) q p (trace_of run) (router_of rows q) else at_receiver rows (all_entries hosts) q p (trace_of run))
       by true e f rest = routed_by e rest (router_of rows q) refl f
       by false e f rest =
           let same : to ≡ ToTap q.id = cc in

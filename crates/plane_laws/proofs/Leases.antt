@@ -21,12 +21,13 @@ use Rattle.api_types.specs.declared.network.NetworkRow.{NetworkRow}
 use Rattle.api_types.specs.declared.network.Segment.{Segment}
 use Rattle.api_types.specs.declared.network.Segment.TheVariants.{Flat, Local, Vlan, Vxlan}
 use Rattle.api_types.specs.declared.port.PortRow.{PortRow}
-use Rattle.plane_types.specs.Fabric.{Run, after_step, meant, moved, step_path, taken, takes, takes_at, takes_to, tunnelled, walk, wired}
+use Rattle.plane_types.specs.Fabric.{Run, after_step, meant, next_position, step_path, fate_after, takes, takes_at, takes_to, over_tunnel, walk, over_wire}
 use Rattle.api_types.specs.Holders.{dhcp_port, has_mac, is_live_dhcp_of, port_at, router_of}
 use Rattle.plane_types.specs.Hosts.{Host, bridge_before, bridge_key_eq, is_named}
-use Rattle.api_types.specs.Live.{is_joined, is_live, is_local, joined_with, network_of, segment, is_at}
+use Rattle.api_types.specs.Live.{is_joined, is_live, is_local, joined_with, segment, is_at}
+use Rattle.api_types.specs.RowsWith.{network_with}
 use Rattle.api_types.specs.Wires.{wire_of}
-use Rattle.plane_types.specs.Meaning.{answered, ended, lease_asked, lease_asked_by, leased, out_of, out_or}
+use Rattle.plane_types.specs.Meaning.{lease_outcome, end_fate, lease_asked, lease_asked_by, dhcp_outcome, out_of, out_or}
 use Rattle.api_types.specs.Leases.{lease_for}
 use Rattle.plane_types.specs.Packets.{LeaseAsk, dhcp_frame}
 use Rattle.plane_types.specs.Places.{Bridge, DhcpIn, Next, Place, Step, ToTunnel, ToWire, TunnelIn, WireIn}
@@ -162,15 +163,15 @@ dhcp-end rows host d e here = ap (λ b. if b then to_here rows d else to_there (
 module _ (rows : RowLists) (hosts : List Host) (good : FrameFacts rows) (synced : SyncedFacts rows hosts) where
   -- at the lease place
   module _ (x : Host) (real : HostFacts rows x.name x.tables) (n : Ident) (d : PortRow) (found : dhcp_port rows n ≡ Some d) (here : is_at x.name d ≡ true) (a : LeaseAsk) where
-    pub at-leases : (steps : ℕ) (tag : ℕ) (run : Run) → tag_of x.tables.tags n ≡ Some tag → 0 < steps → meant (walk hosts steps x (DhcpIn tag (dhcp_frame a)) run) ≡ ended (trace_of run) (leased rows n a d)
+    pub at-leases : (steps : ℕ) (tag : ℕ) (run : Run) → tag_of x.tables.tags n ≡ Some tag → 0 < steps → meant (walk hosts steps x (DhcpIn tag (dhcp_frame a)) run) ≡ end_fate (trace_of run) (dhcp_outcome rows n a d)
     at-leases steps tag run is more =
         ap meant (walk-on hosts steps x (DhcpIn tag (dhcp_frame a)) run more)
-        ∙ ap (λ o. meant (taken hosts (walk hosts (steps - 1)) x (DhcpIn tag (dhcp_frame a)) run (plain (lease_answer o)))) (lease-located rows x.name x.tables real good n tag is d found here a.src)
+        ∙ ap (λ o. meant (fate_after hosts (walk hosts (steps - 1)) x (DhcpIn tag (dhcp_frame a)) run (plain (lease_answer o)))) (lease-located rows x.name x.tables real good n tag is d found here a.src)
         ∙ go (option_and_then (lease_for rows d) (port_at rows n a.src))
       where
-        go : (o : Option Lease) → meant (taken hosts (walk hosts (steps - 1)) x (DhcpIn tag (dhcp_frame a)) run (plain (lease_answer (option_map (λ l. record { tag = tag; mac = a.src; lease = l }) o)))) ≡ ended (trace_of run) (answered o)
-        go None = ap (λ t. ended t (Dropped NoLease)) (trace-plain x (DhcpIn tag (dhcp_frame a)) (drops NoLease) run refl)
-        go (Some l) = ap (λ t. ended t (Answered (LeaseAnswer l))) (trace-plain x (DhcpIn tag (dhcp_frame a)) (stops (Answered (LeaseAnswer l))) run refl)
+        go : (o : Option Lease) → meant (fate_after hosts (walk hosts (steps - 1)) x (DhcpIn tag (dhcp_frame a)) run (plain (lease_answer (option_map (λ l. record { tag = tag; mac = a.src; lease = l }) o)))) ≡ end_fate (trace_of run) (lease_outcome o)
+        go None = ap (λ t. end_fate t (Dropped NoLease)) (trace-plain x (DhcpIn tag (dhcp_frame a)) (drops NoLease) run refl)
+        go (Some l) = ap (λ t. end_fate t (Answered (LeaseAnswer l))) (trace-plain x (DhcpIn tag (dhcp_frame a)) (stops (Answered (LeaseAnswer l))) run refl)
 
     tag_there : (tag : ℕ) × (tag_of x.tables.tags n ≡ Some tag)
     tag_there =
@@ -190,15 +191,15 @@ module _ (rows : RowLists) (hosts : List Host) (good : FrameFacts rows) (synced 
     -- by a carrier
     pub lease-carried : (steps : ℕ) (place : Place) (run : Run) (c : Carrier) → 2 ≤ steps → carrier_of (segment rows n) ≡ Some c → carrier_eq c c ≡ true
         → table_step x.tables (x.entries ++ run.fresh) place ≡ plain (inward_step x.tables (dhcp_frame a) (inward_at x.tables c)) → ((s : Step) → step_path x place s ≡ [])
-        → meant (walk hosts steps x place run) ≡ ended (trace_of run) (leased rows n a d)
+        → meant (walk hosts steps x place run) ≡ end_fate (trace_of run) (dhcp_outcome rows n a d)
     lease-carried steps place run c enough segment_is self step quiet =
         ap meant (walk-on hosts steps x place run (omega arith))
-        ∙ ap (λ s. meant (taken hosts (walk hosts (steps - 1)) x place run s)) (step ∙ ap plain (ap (inward_step x.tables (dhcp_frame a)) (inward-located rows x.name x.tables real good n tag_there.0 c tag_there.1 segment_is self) ∙ lease-step true tag_there.0 tag_there.1))
+        ∙ ap (λ s. meant (fate_after hosts (walk hosts (steps - 1)) x place run s)) (step ∙ ap plain (ap (inward_step x.tables (dhcp_frame a)) (inward-located rows x.name x.tables real good n tag_there.0 c tag_there.1 segment_is self) ∙ lease-step true tag_there.0 tag_there.1))
         ∙ at-leases (steps - 1) tag_there.0 (after_step x place (plain (Next (DhcpIn tag_there.0 (dhcp_frame a)))) run) tag_there.1 (omega arith)
-        ∙ ap (λ t. ended t (leased rows n a d)) (trace-plain x place (Next (DhcpIn tag_there.0 (dhcp_frame a))) run (quiet (Next (DhcpIn tag_there.0 (dhcp_frame a)))))
+        ∙ ap (λ t. end_fate t (dhcp_outcome rows n a d)) (trace-plain x place (Next (DhcpIn tag_there.0 (dhcp_frame a))) run (quiet (Next (DhcpIn tag_there.0 (dhcp_frame a)))))
 
   -- a host takes the ask from a wire where the DHCP port is there
-  pub lease-takes : (n : Ident) (net : NetworkRow) → network_of rows n ≡ Some net → (w : Wire) → wire_of (segment rows n) ≡ Some w → (a : LeaseAsk) (x : Host) → HostFacts rows x.name x.tables → takes w (dhcp_frame a) x ≡ at_opt x.name (dhcp_port rows n)
+  pub lease-takes : (n : Ident) (net : NetworkRow) → network_with rows n ≡ Some net → (w : Wire) → wire_of (segment rows n) ≡ Some w → (a : LeaseAsk) (x : Host) → HostFacts rows x.name x.tables → takes w (dhcp_frame a) x ≡ at_opt x.name (dhcp_port rows n)
   lease-takes n net there w f a x real = go (tag_of x.tables.tags n) refl
     where
       carrier : carrier_of (segment rows n) ≡ Some (ByWire w)
@@ -227,15 +228,15 @@ module _ (rows : RowLists) (hosts : List Host) (good : FrameFacts rows) (synced 
       go None e = ap (takes_at x.tables (dhcp_frame a)) (inward-none rows x.name x.tables real good n net (ByWire w) there e carrier (wire_self w)) ∙ untagged e (dhcp_port rows n) refl
       go (Some tag) e = ap (takes_at x.tables (dhcp_frame a)) (inward-located rows x.name x.tables real good n tag (ByWire w) e carrier (wire_self w)) ∙ with_tag tag e (dhcp_port rows n) refl
 
-  module _ (steps : ℕ) (h : Host) (n : Ident) (net : NetworkRow) (tag : ℕ) (a : LeaseAsk) (run : Run) (enough : 3 ≤ steps) (named : find (is_named h.name) hosts ≡ Some h) (there : network_of rows n ≡ Some net) (is_tagged : tag_of h.tables.tags n ≡ Some tag) where
+  module _ (steps : ℕ) (h : Host) (n : Ident) (net : NetworkRow) (tag : ℕ) (a : LeaseAsk) (run : Run) (enough : 3 ≤ steps) (named : find (is_named h.name) hosts ≡ Some h) (there : network_with rows n ≡ Some net) (is_tagged : tag_of h.tables.tags n ≡ Some tag) where
     real : HostFacts rows h.name h.tables
     real = find-each (λ (y : Host). HostFacts rows y.name y.tables) (is_named h.name) hosts h synced.realise named
 
-    by-step : (s : Step) → bridge_step h.tables false tag (dhcp_frame a) ≡ s → meant (walk hosts steps h (Bridge tag (dhcp_frame a)) run) ≡ meant (moved hosts (walk hosts (steps - 1)) h (after_step h (Bridge tag (dhcp_frame a)) (plain s) run) s)
-    by-step s e = ap meant (walk-on hosts steps h (Bridge tag (dhcp_frame a)) run (omega arith)) ∙ ap (λ x. meant (moved hosts (walk hosts (steps - 1)) h (after_step h (Bridge tag (dhcp_frame a)) (plain x) run) x)) e
+    by-step : (s : Step) → bridge_step h.tables false tag (dhcp_frame a) ≡ s → meant (walk hosts steps h (Bridge tag (dhcp_frame a)) run) ≡ meant (next_position hosts (walk hosts (steps - 1)) h (after_step h (Bridge tag (dhcp_frame a)) (plain s) run) s)
+    by-step s e = ap meant (walk-on hosts steps h (Bridge tag (dhcp_frame a)) run (omega arith)) ∙ ap (λ x. meant (next_position hosts (walk hosts (steps - 1)) h (after_step h (Bridge tag (dhcp_frame a)) (plain x) run) x)) e
 
     abbrev Goal : Type 0
-    Goal = meant (walk hosts steps h (Bridge tag (dhcp_frame a)) run) ≡ ended (trace_of run) (lease_asked rows n h.name a)
+    Goal = meant (walk hosts steps h (Bridge tag (dhcp_frame a)) run) ≡ end_fate (trace_of run) (lease_asked rows n h.name a)
 
     missing : bridge_at h.tables tag AtDhcp ≡ None → bridge_step h.tables false tag (dhcp_frame a) ≡ wire_or false n (wire_of (segment rows n)) TowardDhcp (dhcp_frame a) NoLease
     missing e = ap (bridge_at_tag h.tables false (dhcp_frame a)) (tag-row rows h.name h.tables.tags real.tags n tag is_tagged) ∙ ap (bridged_by false (record { network = n; tag = tag; wire = wire_of (segment rows n) }) TowardDhcp (dhcp_frame a) NoLease) e
@@ -249,17 +250,17 @@ module _ (rows : RowLists) (hosts : List Host) (good : FrameFacts rows) (synced 
         none : bridge_at h.tables tag AtDhcp ≡ None
         none = dhcp-located rows h.name h.tables real good n tag is_tagged ∙ ap (option_and_then (dhcp_row rows h.name h.tables.tags)) e
 
-        meaning : ended (trace_of run) (lease_asked rows n h.name a) ≡ ended (trace_of run) (out_of rows n TowardDhcp (dhcp_frame a) NoLease)
-        meaning = ap (λ o. ended (trace_of run) (lease_asked_by rows n a (joined_with rows h.name o))) e
+        meaning : end_fate (trace_of run) (lease_asked rows n h.name a) ≡ end_fate (trace_of run) (out_of rows n TowardDhcp (dhcp_frame a) NoLease)
+        meaning = ap (λ o. end_fate (trace_of run) (lease_asked_by rows n a (joined_with rows h.name o))) e
 
         by : (o : Option Wire) → wire_of (segment rows n) ≡ o → Goal
-        by None f = by-step (drops NoLease) (missing none ∙ ap (λ w. wire_or false n w TowardDhcp (dhcp_frame a) NoLease) f) ∙ ap (λ t. ended t (Dropped NoLease)) (trace-plain h (Bridge tag (dhcp_frame a)) (drops NoLease) run refl) ∙ sym (meaning ∙ ap (λ w. ended (trace_of run) (out_or w n TowardDhcp (dhcp_frame a) NoLease)) f)
+        by None f = by-step (drops NoLease) (missing none ∙ ap (λ w. wire_or false n w TowardDhcp (dhcp_frame a) NoLease) f) ∙ ap (λ t. end_fate t (Dropped NoLease)) (trace-plain h (Bridge tag (dhcp_frame a)) (drops NoLease) run refl) ∙ sym (meaning ∙ ap (λ w. end_fate (trace_of run) (out_or w n TowardDhcp (dhcp_frame a) NoLease)) f)
         by (Some w) f =
             let nobody = find-none_each (λ (x : Host). not (bytes_eq x.name h.name) && takes w (dhcp_frame a) x) hosts (AllOf-more (λ (x : Host). takes w (dhcp_frame a) x ≡ false) (λ (x : Host). (not (bytes_eq x.name h.name) && takes w (dhcp_frame a) x) ≡ false) hosts (λ x k. and_right (not (bytes_eq x.name h.name)) (takes w (dhcp_frame a) x) k) (takers w f None e)) in
             by-step (ToWire w n TowardDhcp (dhcp_frame a)) (missing none ∙ ap (λ w. wire_or false n w TowardDhcp (dhcp_frame a) NoLease) f)
-            ∙ ap (λ o. meant (wired (walk hosts (steps - 1)) w n TowardDhcp (dhcp_frame a) (after_step h (Bridge tag (dhcp_frame a)) (plain (ToWire w n TowardDhcp (dhcp_frame a))) run) o)) nobody
-            ∙ ap (λ t. ended t (Out n TowardDhcp (dhcp_frame a))) (trace-plain h (Bridge tag (dhcp_frame a)) (ToWire w n TowardDhcp (dhcp_frame a)) run refl)
-            ∙ sym (meaning ∙ ap (λ w. ended (trace_of run) (out_or w n TowardDhcp (dhcp_frame a) NoLease)) f)
+            ∙ ap (λ o. meant (over_wire (walk hosts (steps - 1)) w n TowardDhcp (dhcp_frame a) (after_step h (Bridge tag (dhcp_frame a)) (plain (ToWire w n TowardDhcp (dhcp_frame a))) run) o)) nobody
+            ∙ ap (λ t. end_fate t (Out n TowardDhcp (dhcp_frame a))) (trace-plain h (Bridge tag (dhcp_frame a)) (ToWire w n TowardDhcp (dhcp_frame a)) run refl)
+            ∙ sym (meaning ∙ ap (λ w. end_fate (trace_of run) (out_or w n TowardDhcp (dhcp_frame a) NoLease)) f)
 
     somebody : (d : PortRow) → dhcp_port rows n ≡ Some d → Goal
     somebody d e = by (is_at h.name d) refl
@@ -282,22 +283,22 @@ module _ (rows : RowLists) (hosts : List Host) (good : FrameFacts rows) (synced 
         joined-is : is_joined rows d h.name ≡ (not (is_local (segment rows n)) || is_at h.name d)
         joined-is = ap (λ i. not (is_local (segment rows i)) || is_at h.name d) (sym same)
 
-        meaning : (b : Bool) → is_joined rows d h.name ≡ b → ended (trace_of run) (lease_asked rows n h.name a) ≡ ended (trace_of run) (lease_asked_by rows n a (if b then Some d else None))
-        meaning b j = ap (λ o. ended (trace_of run) (lease_asked_by rows n a (joined_with rows h.name o))) e ∙ ap (λ c. ended (trace_of run) (lease_asked_by rows n a (if c then Some d else None))) j
+        meaning : (b : Bool) → is_joined rows d h.name ≡ b → end_fate (trace_of run) (lease_asked rows n h.name a) ≡ end_fate (trace_of run) (lease_asked_by rows n a (if b then Some d else None))
+        meaning b j = ap (λ o. end_fate (trace_of run) (lease_asked_by rows n a (joined_with rows h.name o))) e ∙ ap (λ c. end_fate (trace_of run) (lease_asked_by rows n a (if c then Some d else None))) j
 
         away-none : is_at h.name d ≡ false → to_there (segment rows n) d ≡ None → bridge_at h.tables tag AtDhcp ≡ None
         away-none away k = row-located rows h.name h.tables real good n tag is_tagged d e None (ap (λ b. if b then to_here rows d else to_there (segment rows d.network) d) away ∙ ap (λ i. to_there (segment rows i) d) (sym same) ∙ k)
 
-        by_wire : is_at h.name d ≡ false → (w : Wire) → wire_of (segment rows n) ≡ Some w → meant (walk hosts steps h (Bridge tag (dhcp_frame a)) run) ≡ ended (trace_of run) (leased rows n a d)
+        by_wire : is_at h.name d ≡ false → (w : Wire) → wire_of (segment rows n) ≡ Some w → meant (walk hosts steps h (Bridge tag (dhcp_frame a)) run) ≡ end_fate (trace_of run) (dhcp_outcome rows n a d)
         by_wire away w f =
             let taker : find (λ (x : Host). not (bytes_eq x.name h.name) && takes w (dhcp_frame a) x) hosts ≡ Some home.0 =
             find-same_each (λ (x : Host). not (bytes_eq x.name h.name) && takes w (dhcp_frame a) x) (is_named d.host) hosts
             (AllOf-more (λ (x : Host). takes w (dhcp_frame a) x ≡ is_at x.name d) (λ (x : Host). (not (bytes_eq x.name h.name) && takes w (dhcp_frame a) x) ≡ is_named d.host x) hosts (λ x k. other_taker x k) (takers w f (Some d) e))
             ∙ home.1 in
             by-step (ToWire w n TowardDhcp (dhcp_frame a)) (missing (away-none away (wire_away (segment rows n) w d f)) ∙ ap (λ w. wire_or false n w TowardDhcp (dhcp_frame a) NoLease) f)
-            ∙ ap (λ o. meant (wired (walk hosts (steps - 1)) w n TowardDhcp (dhcp_frame a) (after_step h (Bridge tag (dhcp_frame a)) (plain (ToWire w n TowardDhcp (dhcp_frame a))) run) o)) taker
+            ∙ ap (λ o. meant (over_wire (walk hosts (steps - 1)) w n TowardDhcp (dhcp_frame a) (after_step h (Bridge tag (dhcp_frame a)) (plain (ToWire w n TowardDhcp (dhcp_frame a))) run) o)) taker
             ∙ lease-carried home.0 home_real n d e home_at a (steps - 1) (WireIn w (dhcp_frame a)) (after_step h (Bridge tag (dhcp_frame a)) (plain (ToWire w n TowardDhcp (dhcp_frame a))) run) (ByWire w) (omega arith) (wire_carrier (segment rows n) w f) (wire_self w) refl (λ s. refl)
-            ∙ ap (λ t. ended t (leased rows n a d)) (trace-plain h (Bridge tag (dhcp_frame a)) (ToWire w n TowardDhcp (dhcp_frame a)) run refl)
+            ∙ ap (λ t. end_fate t (dhcp_outcome rows n a d)) (trace-plain h (Bridge tag (dhcp_frame a)) (ToWire w n TowardDhcp (dhcp_frame a)) run refl)
           where
             other_taker : (x : Host) → takes w (dhcp_frame a) x ≡ is_at x.name d → (not (bytes_eq x.name h.name) && takes w (dhcp_frame a) x) ≡ bytes_eq d.host x.name
             other_taker x k = ap (λ b. not (bytes_eq x.name h.name) && b) k ∙ go (bytes_eq x.name h.name) (bytes_eq d.host x.name) refl refl
@@ -307,13 +308,13 @@ module _ (rows : RowLists) (hosts : List Host) (good : FrameFacts rows) (synced 
                 go false c k l = refl
                 go true true k l = let bad : is_at h.name d ≡ true = subst (λ m. bytes_eq d.host m ≡ true) (bytes_same x.name h.name k) l in cc
 
-        by_tunnel : is_at h.name d ≡ false → (m : ℕ) → segment rows n ≡ Vxlan m → meant (walk hosts steps h (Bridge tag (dhcp_frame a)) run) ≡ ended (trace_of run) (leased rows n a d)
+        by_tunnel : is_at h.name d ≡ false → (m : ℕ) → segment rows n ≡ Vxlan m → meant (walk hosts steps h (Bridge tag (dhcp_frame a)) run) ≡ end_fate (trace_of run) (dhcp_outcome rows n a d)
         by_tunnel away m f =
             let row = row-located rows h.name h.tables real good n tag is_tagged d e (Some (ToHost d.host m)) (ap (λ b. if b then to_here rows d else to_there (segment rows d.network) d) away ∙ ap (λ i. to_there (segment rows i) d) (sym same) ∙ ap (λ s. to_there s d) f) in
             by-step (ToTunnel d.host m (dhcp_frame a)) (ap (bridge_at_tag h.tables false (dhcp_frame a)) (tag-row rows h.name h.tables.tags real.tags n tag is_tagged) ∙ ap (bridged_by false (record { network = n; tag = tag; wire = wire_of (segment rows n) }) TowardDhcp (dhcp_frame a) NoLease) row)
-            ∙ ap (λ o. meant (tunnelled (walk hosts (steps - 1)) m (dhcp_frame a) (after_step h (Bridge tag (dhcp_frame a)) (plain (ToTunnel d.host m (dhcp_frame a))) run) o)) home.1
+            ∙ ap (λ o. meant (over_tunnel (walk hosts (steps - 1)) m (dhcp_frame a) (after_step h (Bridge tag (dhcp_frame a)) (plain (ToTunnel d.host m (dhcp_frame a))) run) o)) home.1
             ∙ lease-carried home.0 home_real n d e home_at a (steps - 1) (TunnelIn m (dhcp_frame a)) (after_step h (Bridge tag (dhcp_frame a)) (plain (ToTunnel d.host m (dhcp_frame a))) run) (ByTunnel m) (omega arith) (ap carrier_of f) (eq-eqb m m refl) refl (λ s. refl)
-            ∙ ap (λ t. ended t (leased rows n a d)) (trace-plain h (Bridge tag (dhcp_frame a)) (ToTunnel d.host m (dhcp_frame a)) run refl)
+            ∙ ap (λ t. end_fate t (dhcp_outcome rows n a d)) (trace-plain h (Bridge tag (dhcp_frame a)) (ToTunnel d.host m (dhcp_frame a)) run refl)
 
         joined_far : is_local (segment rows n) ≡ false → is_joined rows d h.name ≡ true
         joined_far k = joined-is ∙ ap (λ b. not b || is_at h.name d) k
@@ -321,8 +322,8 @@ module _ (rows : RowLists) (hosts : List Host) (good : FrameFacts rows) (synced 
         far : is_at h.name d ≡ false → (s : Segment) → segment rows n ≡ s → Goal
         far away Local f =
             by-step (drops NoLease) (missing (away-none away (ap (λ s. to_there s d) f)) ∙ ap (λ s. wire_or false n (wire_of s) TowardDhcp (dhcp_frame a) NoLease) f)
-            ∙ ap (λ t. ended t (Dropped NoLease)) (trace-plain h (Bridge tag (dhcp_frame a)) (drops NoLease) run refl)
-            ∙ sym (meaning false (joined-is ∙ ap (λ s. not (is_local s) || is_at h.name d) f ∙ away) ∙ ap (λ s. ended (trace_of run) (out_or (wire_of s) n TowardDhcp (dhcp_frame a) NoLease)) f)
+            ∙ ap (λ t. end_fate t (Dropped NoLease)) (trace-plain h (Bridge tag (dhcp_frame a)) (drops NoLease) run refl)
+            ∙ sym (meaning false (joined-is ∙ ap (λ s. not (is_local s) || is_at h.name d) f ∙ away) ∙ ap (λ s. end_fate (trace_of run) (out_or (wire_of s) n TowardDhcp (dhcp_frame a) NoLease)) f)
         far away (Flat x) f = by_wire away (record { physical = x; tag = None }) (ap wire_of f) ∙ sym (meaning true (joined_far (ap is_local f)))
         far away (Vlan x v) f = by_wire away (record { physical = x; tag = Some v }) (ap wire_of f) ∙ sym (meaning true (joined_far (ap is_local f)))
         far away (Vxlan m) f = by_tunnel away m f ∙ sym (meaning true (joined_far (ap is_local f)))
@@ -332,7 +333,7 @@ module _ (rows : RowLists) (hosts : List Host) (good : FrameFacts rows) (synced 
         by true here =
             by-step (Next (DhcpIn tag (dhcp_frame a))) (lease-step h real n d e here a false tag is_tagged)
             ∙ at-leases h real n d e here a (steps - 1) tag (after_step h (Bridge tag (dhcp_frame a)) (plain (Next (DhcpIn tag (dhcp_frame a)))) run) is_tagged (omega arith)
-            ∙ ap (λ t. ended t (leased rows n a d)) (trace-plain h (Bridge tag (dhcp_frame a)) (Next (DhcpIn tag (dhcp_frame a))) run refl)
+            ∙ ap (λ t. end_fate t (dhcp_outcome rows n a d)) (trace-plain h (Bridge tag (dhcp_frame a)) (Next (DhcpIn tag (dhcp_frame a))) run refl)
             ∙ sym (meaning true (joined-is ∙ or_right (not (is_local (segment rows n))) (is_at h.name d) here))
 
     lease-law-at : Goal

@@ -35,11 +35,11 @@ use Rattle.plane_types.specs.Hosts.{Host, all_entries, is_named}
 use Rattle.plane_types.specs.Keys.{key_eq}
 use Rattle.api_types.specs.Live.{is_live, is_at, is_here}
 use Rattle.plane_types.specs.Meaning.{Fate, rows_fate}
-use Rattle.plane_types.specs.Placed.{IsPlaced}
+use Rattle.plane_types.specs.Attached.{IsAttached}
 use Rattle.plane_types.specs.Realises.{Realises}
 use Rattle.plane_types.specs.Routing.{Use, uses_at}
-use Rattle.plane_types.specs.TableRows.{hosted, is_host_of, is_tap}
-use Rattle.plane_types.specs.Told.{entries_made, fabric_verdict, fabric_verdicts, hosts_after, hosts_after_all, of_nobody, rows_verdict, rows_verdicts, told_by_rows, without_hosts}
+use Rattle.plane_types.specs.TableRows.{is_on_host, is_host_of, is_tap}
+use Rattle.plane_types.specs.Verdicts.{entries_made, fabric_verdict, fabric_verdicts, hosts_after, hosts_after_all, of_nobody, rows_verdict, rows_verdicts, verdict_of_fate, without_hosts}
 use Rattle.plane_types.specs.declared.entry.Entry.{Entry}
 use Rattle.plane_types.specs.declared.entry.Entry.TheVariants.{Flow, Snat}
 use Rattle.plane_types.specs.declared.event.Event.{Event}
@@ -157,18 +157,18 @@ module _ (rows : RowLists) (good : FrameFacts rows) where
       at-host None h = cc
       at-host (Some m) h = h
 
-      by : (z : Option RouterRow) → find (λ (z : RouterRow). ident_eq r z.id) rows.routers ≡ z → bytes_eq (router_home z) name ≡ false → list_any (λ (z : RouterRow). ident_eq r z.id && hosted name z) rows.routers ≡ true → ⊥
+      by : (z : Option RouterRow) → find (λ (z : RouterRow). ident_eq r z.id) rows.routers ≡ z → bytes_eq (router_home z) name ≡ false → list_any (λ (z : RouterRow). ident_eq r z.id && is_on_host name z) rows.routers ≡ true → ⊥
       by None f off any =
-          let some : is_some (find (λ (z : RouterRow). ident_eq r z.id) rows.routers) ≡ true = find-some (λ (z : RouterRow). ident_eq r z.id) rows.routers ∙ any-weaker (λ (z : RouterRow). ident_eq r z.id && hosted name z) (λ (z : RouterRow). ident_eq r z.id) rows.routers (λ z h. (and_parts (ident_eq r z.id) (hosted name z) h).0) any in
+          let some : is_some (find (λ (z : RouterRow). ident_eq r z.id) rows.routers) ≡ true = find-some (λ (z : RouterRow). ident_eq r z.id) rows.routers ∙ any-weaker (λ (z : RouterRow). ident_eq r z.id && is_on_host name z) (λ (z : RouterRow). ident_eq r z.id) rows.routers (λ z h. (and_parts (ident_eq r z.id) (is_on_host name z) h).0) any in
           let bad : false ≡ true = ap is_some (sym f) ∙ some in cc
       by (Some z) f off any =
-          let there : hosted name z ≡ true = any-only (λ (z : RouterRow). ident_eq r z.id) (hosted name) rows.routers z (good.router_ids r) f any in
+          let there : is_on_host name z ≡ true = any-only (λ (z : RouterRow). ident_eq r z.id) (is_on_host name) rows.routers z (good.router_ids r) f any in
           let at : bytes_eq (host_home z.host) name ≡ true = at-host z.host there in
           cc
 
       go : (b c : Bool) → ident_eq r s ≡ b → if◌then◌else◌ {A = List Use} (b && c) (record { key = k; port = p } ∷ []) [] ≡ []
       go false c e = refl
-      go true c e = absurd (by o found away (subst (λ i. list_any (λ (z : RouterRow). ident_eq i z.id && hosted name z) rows.routers ≡ true) (sym (ident_same r s e)) stood))
+      go true c e = absurd (by o found away (subst (λ i. list_any (λ (z : RouterRow). ident_eq i z.id && is_on_host name z) rows.routers ≡ true) (sym (ident_same r s e)) stood))
 
 -- the entries after an event: kept at the hosts, or joined behind all others, it is the same for each port and router
 module _ (carry : List ℕ → Segment → Bool) (rows : RowLists) (hosts : List Host) (held : HoldRows carry rows hosts) (event : Event) where
@@ -179,7 +179,7 @@ module _ (carry : List ℕ → Segment → Bool) (rows : RowLists) (hosts : List
   stand = synced-facts carry rows hosts held.carried held.synced
 
   placed : RunPlaced hosts (fabric_fate hosts event).run
-  placed = fate-placed hosts stand.names event (all-of IsPlaced hosts held.synced.placed)
+  placed = fate-placed hosts stand.names event (all-of IsAttached hosts held.synced.placed)
 
   made-stand : AllMade (λ e m. stands_at rows m e ≡ true) (fabric_fate hosts event).run.fresh (fabric_fate hosts event).run.makers
   made-stand = AllMade-more (IsMade hosts) (λ e m. stands_at rows m e ≡ true) (fabric_fate hosts event).run.fresh (fabric_fate hosts event).run.makers
@@ -241,7 +241,7 @@ verdicts-same : (rows : RowLists) (a b : List Entry) → SameEntries a b → (ev
 unfolding rows_verdicts
 verdicts-same rows a b same [] = refl
 verdicts-same rows a b same (e ∷ events) =
-    let one : rows_verdict rows a e ≡ rows_verdict rows b e = ap told_by_rows (verdict-same rows a b same e) in
+    let one : rows_verdict rows a e ≡ rows_verdict rows b e = ap verdict_of_fate (verdict-same rows a b same e) in
     ap (λ v. v ∷ rows_verdicts rows (a ++ entries_made v.fresh) events) one
     ∙ ap (λ vs. rows_verdict rows b e ∷ vs) (verdicts-same rows (a ++ entries_made (rows_verdict rows b e).fresh) (b ++ entries_made (rows_verdict rows b e).fresh) (same-more a b (entries_made (rows_verdict rows b e).fresh) same) events)
 

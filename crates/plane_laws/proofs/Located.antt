@@ -15,7 +15,7 @@ use Rattle.api_types.specs.RowLists.{RowLists}
 use Rattle.api_types.specs.Table.{ident_eq}
 use Rattle.api_types.specs.declared.port.PortRow.{PortRow}
 use Rattle.api_types.specs.Holders.{has_mac, port_at}
-use Rattle.plane_types.specs.Hosts.{bridge_before, bridge_key_eq, key_place, pair_before}
+use Rattle.plane_types.specs.Hosts.{bridge_before, bridge_key_eq, key_number, pair_before}
 use Rattle.api_types.specs.Live.{is_live, segment}
 use Rattle.api_types.specs.Wires.{wire_of}
 use Rattle.plane_types.specs.TableRows.{bridge_by, bridge_rows, dhcp_row, end_of, mac_row, tag_of}
@@ -67,7 +67,7 @@ tag-apart rows host tags real n m tag other h k = go (other == tag) (ident_eq n 
         cc
 
 -- bridge
-key_places : (a b : BridgeKey) → bridge_key_eq a b ≡ true → key_place a ≡ key_place b
+key_places : (a b : BridgeKey) → bridge_key_eq a b ≡ true → key_number a ≡ key_number b
 key_places AtDhcp AtDhcp h = refl
 key_places (AtMac a) (AtMac b) h = ap (λ n. n + 1) (eqb-true a b h)
 key_places AtDhcp (AtMac b) h = cc
@@ -80,7 +80,7 @@ pub bridge_apart : (tag : ℕ) (key : BridgeKey) (x y : BridgeRow) → bridge_be
 bridge_apart tag key x y before here = false_from_ne_true ((y.tag == tag) && bridge_key_eq y.key key) (λ there.
     let p = and_parts (x.tag == tag) (bridge_key_eq x.key key) here in
     let q = and_parts (y.tag == tag) (bridge_key_eq y.key key) there in
-    before_differs y.tag (key_place y.key) x.tag (key_place x.key) before
+    before_differs y.tag (key_number y.key) x.tag (key_number x.key) before
     (eqb-true y.tag tag q.0 ∙ sym (eqb-true x.tag tag p.0))
     (key_places y.key key q.1 ∙ sym (key_places x.key key p.1)))
 

@@ -15,12 +15,12 @@ use Rattle.api_types.specs.declared.group.Direction.TheVariants.{Egress, Ingress
 use Rattle.net_addr.specs.Addresses.{addr_eq}
 use Rattle.plane_types.specs.Ends.{are_four, destination, source}
 use Rattle.plane_types.specs.Entries.{has_flow, opposite}
-use Rattle.plane_types.specs.Keys.{key_eq, kind_eq, reversed}
+use Rattle.plane_types.specs.Keys.{key_eq, kind_eq, answer_key}
 use Rattle.plane_types.specs.Packets.{Packet, is_unsupported, key_of, packet}
 use Rattle.plane_types.specs.Passage.{Passage, new_flow, passage}
-use Rattle.plane_types.specs.Placed.{is_placed, meets, translates}
+use Rattle.plane_types.specs.Attached.{is_attached, meets, translates}
 use Rattle.plane_types.specs.Places.{Bridge, DhcpIn, Next, Place, RouterIn, TapIn, TapOut, TunnelIn, WireIn}
-use Rattle.plane_types.specs.Routing.{Changed, Destined, RouteEnds, RouteSends, Routed, Sourced, Use, best_way, by_any, by_float, destined, has_choice, is_gateway_live, is_own, is_taken, kept_source, least_untaken, new_port, routed, routed_out, routed_to, routed_way, sent, sourced, sourced_float, sourced_gateway, sourced_new, sourced_use, uses_at, uses_by}
+use Rattle.plane_types.specs.Routing.{Changed, Destined, RouteEnds, RouteSends, Routed, Sourced, Use, best_way, by_any, by_float, new_destination, has_choice, is_gateway_live, is_own, is_taken, kept_source, least_untaken, new_port, routing_of, routed_out, routed_to, routed_way, sending_of, new_source, sourced_float, sourced_gateway, sourced_new, sourced_use, uses_at, uses_by}
 use Rattle.api_types.specs.RouterViews.{Float, Leg, RouterView, Way}
 use Rattle.plane_types.specs.TableStep.{Stepped, drops, leg_at, plain, router_at, router_by_leg, router_by_row, stops, table_routed, table_step, table_view, tables_allow, tagged_leg, tap_at, tap_guards, tap_in, tap_out, tap_passage, tap_sends}
 use Rattle.plane_types.specs.declared.entry.Entry.{Entry}
@@ -70,7 +70,7 @@ new-free uses k port h = go (is_taken uses k k.sport) (has_choice k.kind) refl h
     go true false e h = cc
 
 module _ (v : RouterView) (uses : List Use) where
-  sourced-gives : (way_in out : Leg) (by : Changed) (p : Packet) → GivesSourced v uses (sourced v uses way_in out by p)
+  sourced-gives : (way_in out : Leg) (by : Changed) (p : Packet) → GivesSourced v uses (new_source v uses way_in out by p)
   sourced-gives way_in out by p = start (are_four p.ends && way_in.inside && (not out.inside || by_any by))
     where
       fresh : (outer : ℕ) → v.gateway ≡ Some outer → v.snat ≡ true → find (λ (u : Use). key_eq u.key (key_of p)) uses ≡ None → (o : Option ℕ) → new_port uses (key_of p) ≡ o → GivesSourced v uses (sourced_new v.id p outer o)
@@ -97,7 +97,7 @@ module _ (v : RouterView) (uses : List Use) where
       start false = tt
       start true = floated (find (λ (f : Float). addr_eq (V4 f.fixed) (source p.ends)) v.floats)
 
-  sent-gives : (out : Leg) (hop : Addr) (o : Option Sourced) → GivesSourced v uses o → GivesRouted v uses (sent out hop o)
+  sent-gives : (out : Leg) (hop : Addr) (o : Option Sourced) → GivesSourced v uses o → GivesRouted v uses (sending_of out hop o)
   sent-gives out hop None g = tt
   sent-gives out hop (Some s) g = g
 
@@ -106,7 +106,7 @@ module _ (v : RouterView) (uses : List Use) where
     where
       out : (hop : Addr) (o : Option Leg) → GivesRouted v uses (routed_out v uses way_in d.by (record (d.packet) { ttl = d.packet.ttl - 1 }) hop o)
       out hop None = tt
-      out hop (Some l) = sent-gives l hop (sourced v uses way_in l d.by (record (d.packet) { ttl = d.packet.ttl - 1 })) (sourced-gives way_in l d.by (record (d.packet) { ttl = d.packet.ttl - 1 }))
+      out hop (Some l) = sent-gives l hop (new_source v uses way_in l d.by (record (d.packet) { ttl = d.packet.ttl - 1 })) (sourced-gives way_in l d.by (record (d.packet) { ttl = d.packet.ttl - 1 }))
 
       way : (o : Option Way) → GivesRouted v uses (routed_way v uses way_in d.by (record (d.packet) { ttl = d.packet.ttl - 1 }) o)
       way None = tt
@@ -117,13 +117,13 @@ module _ (v : RouterView) (uses : List Use) where
       go false true = tt
       go false false = way (best_way (destination d.packet.ends) v.ways)
 
-pub routed-gives : (v : RouterView) (entries : List Entry) (way_in : Leg) (p : Packet) → GivesRouted v (uses_by v.snat v.gateway v.id entries) (routed v entries way_in p)
-unfolding routed
+pub routed-gives : (v : RouterView) (entries : List Entry) (way_in : Leg) (p : Packet) → GivesRouted v (uses_by v.snat v.gateway v.id entries) (routing_of v entries way_in p)
+unfolding routing_of
 routed-gives v entries way_in p = go (not v.up)
   where
-    go : (b : Bool) → GivesRouted v (uses_by v.snat v.gateway v.id entries) (if b then RouteEnds (Dropped RouterDown) else routed_to v (uses_by v.snat v.gateway v.id entries) way_in (destined v (uses_by v.snat v.gateway v.id entries) p))
+    go : (b : Bool) → GivesRouted v (uses_by v.snat v.gateway v.id entries) (if b then RouteEnds (Dropped RouterDown) else routed_to v (uses_by v.snat v.gateway v.id entries) way_in (new_destination v (uses_by v.snat v.gateway v.id entries) p))
     go true = tt
-    go false = to-gives v (uses_by v.snat v.gateway v.id entries) way_in (destined v (uses_by v.snat v.gateway v.id entries) p)
+    go false = to-gives v (uses_by v.snat v.gateway v.id entries) way_in (new_destination v (uses_by v.snat v.gateway v.id entries) p)
 
 -- among entries: what no valid use says, no translation of the router from that address says
 any-if : {X : Type 0} (f : X → Bool) (b : Bool) (x : X) (xs : List X) → list_any f (if b then x ∷ xs else xs) ≡ ((b && f x) || list_any f xs)
@@ -151,7 +151,7 @@ IsApart entries (Snat r k o p) = (list_any (meets r k.kind o p (destination k.en
 
 abbrev pub Admits : TableLists → List Entry → List Entry → Type 0
 Admits t entries [] = ⊤
-Admits t entries (e ∷ []) = (is_placed t e ≡ true) × IsApart entries e
+Admits t entries (e ∷ []) = (is_attached t e ≡ true) × IsApart entries e
 Admits t entries (e ∷ f ∷ es) = ⊥
 
 unused : (uses : List Use) (k : Key) → find (λ (u : Use). key_eq u.key k) uses ≡ None → list_any (λ (u : Use). key_eq u.key k) uses ≡ false
@@ -184,7 +184,7 @@ module _ (t : TableLists) (entries : List Entry) where
       by true = tt
       by false = (there, tt)
 
-      go : (s a : Bool) → Admits t entries (of_passage (if not s then record { passes = true; made = [] } else if a then record { passes = true; made = new_flow entries port d k } else record { passes = has_flow entries port (opposite d) (reversed k) && allows (opposite d) (reversed k); made = [] }))
+      go : (s a : Bool) → Admits t entries (of_passage (if not s then record { passes = true; made = [] } else if a then record { passes = true; made = new_flow entries port d k } else record { passes = has_flow entries port (opposite d) (answer_key k) && allows (opposite d) (answer_key k); made = [] }))
       go false a = tt
       go true true = by (has_flow entries port d k)
       go true false = tt
@@ -238,7 +238,7 @@ module _ (t : TableLists) (entries : List Entry) where
 
       leg : (o : Option RouterPort) → Admits t entries (router_by_leg t entries r p o).made
       leg None = tt
-      leg (Some x) = by (routed (table_view t r) entries (leg_at x) p) (routed-gives (table_view t r) entries (leg_at x) p)
+      leg (Some x) = by (routing_of (table_view t r) entries (leg_at x) p) (routed-gives (table_view t r) entries (leg_at x) p)
 
   pub step-admits : (place : Place) → Admits t entries (table_step t entries place).made
   step-admits (TapIn port frame) = tap-in-admits port frame (tap_at t port) refl
@@ -271,7 +271,7 @@ passage-one secured allows entries port d k = go secured (allows d k)
     by true = omega arith
     by false = omega arith
 
-    go : (s a : Bool) → length (of_passage (if not s then record { passes = true; made = [] } else if a then record { passes = true; made = new_flow entries port d k } else record { passes = has_flow entries port (opposite d) (reversed k) && allows (opposite d) (reversed k); made = [] })) ≤ 1
+    go : (s a : Bool) → length (of_passage (if not s then record { passes = true; made = [] } else if a then record { passes = true; made = new_flow entries port d k } else record { passes = has_flow entries port (opposite d) (answer_key k) && allows (opposite d) (answer_key k); made = [] })) ≤ 1
     go false a = omega arith
     go true true = by (has_flow entries port d k)
     go true false = omega arith

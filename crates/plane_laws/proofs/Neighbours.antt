@@ -7,6 +7,7 @@ use Rattle.std.proofs.lemmas.Bool.{and_parts, and_from, eqb-true, eq-eqb, false_
 use Rattle.std.proofs.lemmas.Option.{same_Some}
 use Rattle.std.proofs.lemmas.List.Folds.{find-append}
 use Rattle.api_types.proofs.NameLemmas.{ident_same}
+use Rattle.api_types.specs.RowsWith.{port_with, network_with}
 use Rattle.plane_laws.proofs.ListLemmas.{find-passes, find-each, find-only, AtMostOne-less, find-filter_map, find-flat_map, find-ascending}
 use Rattle.plane_laws.proofs.Located.{and_true, tag-apart}
 use Rattle.net_addr.proofs.AddrLemmas.{addr_same, addr_itself, before_differs as addr_apart}
@@ -19,7 +20,7 @@ use Rattle.api_types.specs.Consistent.Carried.{is_bound}
 use Rattle.api_types.specs.Ident.{Ident}
 use Rattle.api_types.specs.Lists.{stands}
 use Rattle.api_types.specs.RowLists.{RowLists}
-use Rattle.api_types.specs.Table.{ident_eq, row_of}
+use Rattle.api_types.specs.Table.{ident_eq}
 use Rattle.api_types.specs.declared.floating.FloatingRow.{FloatingRow}
 use Rattle.api_types.specs.declared.port.Fixed.{Fixed}
 use Rattle.api_types.specs.declared.port.PortRow.{PortRow}
@@ -27,7 +28,7 @@ use Rattle.api_types.specs.declared.router.Gateway.{Gateway}
 use Rattle.api_types.specs.declared.router.RouterRow.{RouterRow}
 use Rattle.api_types.specs.Holders.{floating_holder, floats_at, gateway_port, gateway_port_of, has_mac, held_by_floating, holder, holds, holds_live, live_on, port_at, target_router}
 use Rattle.plane_types.specs.Hosts.{neighbour_before}
-use Rattle.api_types.specs.Live.{is_joined, is_live, joined_with, network_of, network_up}
+use Rattle.api_types.specs.Live.{is_joined, is_live, joined_with, network_up}
 use Rattle.plane_types.specs.TableRows.{floating_neighbour, floating_neighbour_by, neighbour_rows, neighbours_by, neighbours_of, tag_of}
 use Rattle.plane_types.specs.TableStep.{neighbour_at}
 use Rattle.plane_types.specs.declared.table.NeighbourRow.{NeighbourRow}
@@ -82,7 +83,7 @@ held-apart : (rows : RowLists) → FrameFacts rows → (n : Ident) (x : Addr) (q
 unfolding is_live
 held-apart rows good n x q found = go (find (floats_at n x) rows.floatings) refl
   where
-    by : (f : FloatingRow) → floats_at n x f ≡ true → (o : Option PortRow) → row_of (λ (p : PortRow). p.id) f.own_port rows.ports ≡ o → own_port_stands f o ≡ true → option_and_then (floating_holder rows) (Some f) ≡ None
+    by : (f : FloatingRow) → floats_at n x f ≡ true → (o : Option PortRow) → port_with rows f.own_port ≡ o → own_port_stands f o ≡ true → option_and_then (floating_holder rows) (Some f) ≡ None
     by f at None e stands = cc
     by f at (Some p) e stands =
         let own = and_parts (ident_eq f.network p.network && holds p (V4 f.address)) (not (is_bound p.vif)) stands in
@@ -93,14 +94,14 @@ held-apart rows good n x q found = go (find (floats_at n x) rows.floatings) refl
         let mine = find-only (λ (z : PortRow). ident_eq f.own_port z.id) (λ (z : PortRow). ident_eq n z.network && holds z x) rows.ports p (good.addresses n x) e here in
         let its = find-only (holds_live rows n x) (λ (z : PortRow). ident_eq n z.network && holds z x) rows.ports q (good.addresses n x) found pass.0 in
         let same : p ≡ q = same_Some p q (sym mine ∙ its) in
-        let bound : is_bound q.vif ≡ true = (and_parts q.up (is_bound q.vif) (and_parts (q.up && is_bound q.vif) (network_up (network_of rows q.network)) pass.1).0).1 in
+        let bound : is_bound q.vif ≡ true = (and_parts q.up (is_bound q.vif) (and_parts (q.up && is_bound q.vif) (network_up (network_with rows q.network)) pass.1).0).1 in
         let unbound : not (is_bound q.vif) ≡ true = ap (λ (z : PortRow). not (is_bound z.vif)) (sym same) ∙ own.1 in
         let bad : false ≡ true = sym (ap not bound) ∙ unbound in
         cc
 
     go : (o : Option FloatingRow) → find (floats_at n x) rows.floatings ≡ o → option_and_then (floating_holder rows) o ≡ None
     go None e = refl
-    go (Some f) e = by f (find-passes (floats_at n x) rows.floatings f e) (row_of (λ (p : PortRow). p.id) f.own_port rows.ports) refl (find-each (OwnPortStands rows) (floats_at n x) rows.floatings f good.own_ports e)
+    go (Some f) e = by f (find-passes (floats_at n x) rows.floatings f e) (port_with rows f.own_port) refl (find-each (OwnPortStands rows) (floats_at n x) rows.floatings f good.own_ports e)
 
 module _ (rows : RowLists) (host : List ℕ) (t : TableLists) (real : HostFacts rows host t) (good : FrameFacts rows) (n : Ident) (tag : ℕ) (tagged : tag_of t.tags n ≡ Some tag) (x : Addr) where
   of-port : (q : PortRow) → find (at_key tag x) (neighbours_of rows host t.tags q) ≡ cond (holds_live rows n x q) (option_map (row_at tag x) (joined_with rows host (Some q))) None

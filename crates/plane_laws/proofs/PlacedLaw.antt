@@ -16,12 +16,12 @@ use Rattle.net_addr.specs.Addresses.{addr_eq}
 use Rattle.net_addr.proofs.AddrLemmas.{addr_same}
 use Rattle.net_addr.specs.declared.address.Addr.{Addr}
 use Rattle.plane_types.specs.Ends.{source, destination}
-use Rattle.plane_types.specs.Fabric.{FabricFate, Run, after_step, at_inward, at_tap, begun, fabric_fate, finished, from_outside, from_tap, moved, outside, place_trail, step_path, steps_for, taken, takes, tunnelled, walk, wired}
+use Rattle.plane_types.specs.Fabric.{FabricFate, Run, after_step, at_inward, at_tap, run_from, fabric_fate, fate_of_run, from_outside, from_tap, next_position, outside, place_trail, step_path, steps_for, fate_after, takes, over_tunnel, walk, over_wire}
 use Rattle.plane_types.specs.Hosts.{Host, is_named}
-use Rattle.plane_types.specs.Keys.{key_eq, kind_eq, kind_place}
+use Rattle.plane_types.specs.Keys.{key_eq, kind_eq, kind_number}
 use Rattle.plane_types.specs.Meaning.{life_of}
 use Rattle.plane_types.specs.Packets.{is_unsupported}
-use Rattle.plane_types.specs.Placed.{IsPlaced, is_placed, meets, translates}
+use Rattle.plane_types.specs.Attached.{IsAttached, is_attached, meets, translates}
 use Rattle.plane_types.specs.Places.{End, Next, Place, Step, TapIn, ToTunnel, ToWire, TunnelIn, WireIn}
 use Rattle.plane_types.specs.TableStep.{Stepped, inward_at, table_step, tap_at}
 use Rattle.plane_types.specs.declared.entry.Entry.{Entry}
@@ -59,11 +59,11 @@ AllMade P (e ∷ es) (m ∷ ms) = P e m × AllMade P es ms
 pub record IsMade (hosts : List Host) (e : Entry) (m : List ℕ) : Type 0 where
   pub host : Host
   pub named : find (is_named m) hosts ≡ Some host
-  pub placed : is_placed host.tables e ≡ true
+  pub placed : is_attached host.tables e ≡ true
 
 pub record RunPlaced (hosts : List Host) (run : Run) : Type 0 where
   pub made : AllMade (IsMade hosts) run.fresh run.makers
-  pub all : AllOf (λ x. IsPlaced (with_made run.fresh run.makers x)) hosts
+  pub all : AllOf (λ x. IsAttached (with_made run.fresh run.makers x)) hosts
 
 -- counting with tests that are alike
 count-none-like : {X : Type 0} (p q : X → Bool) (xs : List X) → ((x : X) → p x ≡ q x) → list_any q xs ≡ false → count_by p xs ≡ 0
@@ -81,10 +81,10 @@ meets-like router kind outer port far far_port r k o p h (Snat s q x y) =
     let er : router ≡ r = ident_same router r ids.0 in
     let eo : outer ≡ o = eqb-true outer o ids.1 in
     let ep : p ≡ port = eqb-true p port one.0 in
-    let ek : kind_place k.kind ≡ kind_place kind = eqb-true (kind_place k.kind) (kind_place kind) one.1 in
+    let ek : kind_number k.kind ≡ kind_number kind = eqb-true (kind_number k.kind) (kind_number kind) one.1 in
     let et : destination k.ends ≡ far = addr_same (destination k.ends) far two.1 in
     let ed : k.dport ≡ far_port = eqb-true k.dport far_port three.1 in
-    λ j. ident_eq (er j) s && (eo j == x) && ((y == sym ep j) && (kind_place q.kind == sym ek j) && addr_eq (destination q.ends) (sym et j) && (q.dport == sym ed j))
+    λ j. ident_eq (er j) s && (eo j == x) && ((y == sym ep j) && (kind_number q.kind == sym ek j) && addr_eq (destination q.ends) (sym et j) && (q.dport == sym ed j))
 
 translates-like : (router : Ident) (key : Key) (outer : ℕ) (r : Ident) (k : Key) (o p : ℕ) → translates router key outer (Snat r k o p) ≡ true → (e : Entry) → translates router key outer e ≡ translates r k o e
 translates-like router key outer r k o p h (Flow q d x) = refl
@@ -97,22 +97,22 @@ translates-like router key outer r k o p h (Snat s q x y) =
     let one = and_both (kind_eq k.kind key.kind) (addr_eq (source k.ends) (source key.ends)) two.0 in
     let er : router ≡ r = ident_same router r ids.0 in
     let eo : outer ≡ o = eqb-true outer o ids.1 in
-    let ek : kind_place k.kind ≡ kind_place key.kind = eqb-true (kind_place k.kind) (kind_place key.kind) one.0 in
+    let ek : kind_number k.kind ≡ kind_number key.kind = eqb-true (kind_number k.kind) (kind_number key.kind) one.0 in
     let ef : source k.ends ≡ source key.ends = addr_same (source k.ends) (source key.ends) one.1 in
     let es : k.sport ≡ key.sport = eqb-true k.sport key.sport two.1 in
     let et : destination k.ends ≡ destination key.ends = addr_same (destination k.ends) (destination key.ends) three.1 in
     let ed : k.dport ≡ key.dport = eqb-true k.dport key.dport four.1 in
-    λ j. ident_eq (er j) s && (eo j == x) && ((kind_place q.kind == sym ek j) && addr_eq (source q.ends) (sym ef j) && (q.sport == sym es j) && addr_eq (destination q.ends) (sym et j) && (q.dport == sym ed j))
+    λ j. ident_eq (er j) s && (eo j == x) && ((kind_number q.kind == sym ek j) && addr_eq (source q.ends) (sym ef j) && (q.sport == sym es j) && addr_eq (destination q.ends) (sym et j) && (q.dport == sym ed j))
 
 -- one more entry that is placed and apart
-pub placed-push : (name : List ℕ) (t : TableLists) (es : List Entry) (e : Entry) → IsPlaced (record { name = name; tables = t; entries = es }) → is_placed t e ≡ true → IsApart es e → IsPlaced (record { name = name; tables = t; entries = es ++ e ∷ [] })
+pub placed-push : (name : List ℕ) (t : TableLists) (es : List Entry) (e : Entry) → IsAttached (record { name = name; tables = t; entries = es }) → is_attached t e ≡ true → IsApart es e → IsAttached (record { name = name; tables = t; entries = es ++ e ∷ [] })
 placed-push name t es (Flow q d k) old stood apart = record {
-  stand = each-push (λ e. is_placed t e ≡ true) es (Flow q d k) old.stand stood;
+  stand = each-push (λ e. is_attached t e ≡ true) es (Flow q d k) old.stand stood;
   once_outside = λ r k o p f g. once-push (meets r k o p f g) es (Flow q d _) (old.once_outside r k o p f g) (λ h. cc);
   once_inside = λ r x o. once-push (translates r x o) es (Flow q d k) (old.once_inside r x o) (λ h. cc);
 }
 placed-push name t es (Snat q k o p) old stood apart = record {
-  stand = each-push (λ e. is_placed t e ≡ true) es (Snat q k o p) old.stand stood;
+  stand = each-push (λ e. is_attached t e ≡ true) es (Snat q k o p) old.stand stood;
   once_outside = λ r kind x y f g. once-push (meets r kind x y f g) es (Snat q k o p) (old.once_outside r kind x y f g)
       (λ h. count-none-like (meets r kind x y f g) (meets q k.kind o p (destination k.ends) k.dport) es (meets-like r kind x y f g q k o p h) apart.0);
   once_inside = λ r key x. once-push (translates r key x) es (Snat q k o p) (old.once_inside r key x)
@@ -164,27 +164,27 @@ module _ (hosts : List Host) (names : (name : List ℕ) → AtMostOne (is_named 
   self-found = each-found (λ (x y : Host). is_named x.name y) hosts (λ x. bytes_itself x.name) (λ x. names x.name)
 
   -- a run with one more entry, made at h
-  more-made : (run : Run) (path : List Ident) (trail : List (List ℕ × ℕ)) (h : Host) (e : Entry) → find (is_named h.name) hosts ≡ Some h → RunPlaced hosts run → is_placed h.tables e ≡ true → IsApart (h.entries ++ run.fresh) e
+  more-made : (run : Run) (path : List Ident) (trail : List (List ℕ × ℕ)) (h : Host) (e : Entry) → find (is_named h.name) hosts ≡ Some h → RunPlaced hosts run → is_attached h.tables e ≡ true → IsApart (h.entries ++ run.fresh) e
       → RunPlaced hosts (record { path = path; fresh = run.fresh ++ e ∷ []; makers = run.makers ++ h.name ∷ []; trail = trail })
   more-made run path trail h e found old stood apart = record {
     made = AllMade-push (IsMade hosts) run.fresh run.makers e h.name old.made (record { host = h; named = found; placed = stood });
     all = at_hosts hosts self-found old.all;
   }
     where
-      at_host : (x : Host) → find (is_named x.name) hosts ≡ Some x → IsPlaced (with_made run.fresh run.makers x) → IsPlaced (with_made (run.fresh ++ e ∷ []) (run.makers ++ h.name ∷ []) x)
+      at_host : (x : Host) → find (is_named x.name) hosts ≡ Some x → IsAttached (with_made run.fresh run.makers x) → IsAttached (with_made (run.fresh ++ e ∷ []) (run.makers ++ h.name ∷ []) x)
       at_host x own placed =
-          subst (λ es. IsPlaced (record { name = x.name; tables = x.tables; entries = x.entries ++ es })) (sym (made_by-push (IsMade hosts) x.name run.fresh run.makers e h.name old.made)) (go (bytes_eq x.name h.name) refl)
+          subst (λ es. IsAttached (record { name = x.name; tables = x.tables; entries = x.entries ++ es })) (sym (made_by-push (IsMade hosts) x.name run.fresh run.makers e h.name old.made)) (go (bytes_eq x.name h.name) refl)
         where
-          go : (b : Bool) → bytes_eq x.name h.name ≡ b → IsPlaced (record { name = x.name; tables = x.tables; entries = x.entries ++ (made_by x.name run.fresh run.makers ++ (if b then e ∷ [] else [])) })
-          go false k = subst (λ es. IsPlaced (record { name = x.name; tables = x.tables; entries = x.entries ++ es })) (sym (append-nil (made_by x.name run.fresh run.makers))) placed
+          go : (b : Bool) → bytes_eq x.name h.name ≡ b → IsAttached (record { name = x.name; tables = x.tables; entries = x.entries ++ (made_by x.name run.fresh run.makers ++ (if b then e ∷ [] else [])) })
+          go false k = subst (λ es. IsAttached (record { name = x.name; tables = x.tables; entries = x.entries ++ es })) (sym (append-nil (made_by x.name run.fresh run.makers))) placed
           go true k =
               let same : x ≡ h = some_equal x h (sym own ∙ ap (λ m. find (is_named m) hosts) (bytes_same x.name h.name k) ∙ found) in
-              subst (λ es. IsPlaced (record { name = x.name; tables = x.tables; entries = es })) (append_assoc x.entries (made_by x.name run.fresh run.makers) (e ∷ []))
+              subst (λ es. IsAttached (record { name = x.name; tables = x.tables; entries = es })) (append_assoc x.entries (made_by x.name run.fresh run.makers) (e ∷ []))
               (placed-push x.name x.tables (x.entries ++ made_by x.name run.fresh run.makers) e placed
-              (subst (λ (y : Host). is_placed y.tables e ≡ true) (sym same) stood)
+              (subst (λ (y : Host). is_attached y.tables e ≡ true) (sym same) stood)
               (apart-fewer x.name x.entries run.fresh run.makers e (subst (λ (y : Host). IsApart (y.entries ++ run.fresh) e) (sym same) apart)))
 
-      at_hosts : (xs : List Host) → AllOf (λ (x : Host). find (is_named x.name) hosts ≡ Some x) xs → AllOf (λ x. IsPlaced (with_made run.fresh run.makers x)) xs → AllOf (λ x. IsPlaced (with_made (run.fresh ++ e ∷ []) (run.makers ++ h.name ∷ []) x)) xs
+      at_hosts : (xs : List Host) → AllOf (λ (x : Host). find (is_named x.name) hosts ≡ Some x) xs → AllOf (λ x. IsAttached (with_made run.fresh run.makers x)) xs → AllOf (λ x. IsAttached (with_made (run.fresh ++ e ∷ []) (run.makers ++ h.name ∷ []) x)) xs
       at_hosts [] own placed = tt
       at_hosts (x ∷ xs) own placed = (at_host x own.0 placed.0, at_hosts xs own.1 placed.1)
 
@@ -192,7 +192,7 @@ module _ (hosts : List Host) (names : (name : List ℕ) → AtMostOne (is_named 
   stepped : (h : Host) (place : Place) (run : Run) → find (is_named h.name) hosts ≡ Some h → RunPlaced hosts run → (step : Step) (made : List Entry) → Admits h.tables (h.entries ++ run.fresh) made → RunPlaced hosts (after_step h place (record { step = step; made = made }) run)
   stepped h place run found old step [] a = record {
     made = subst (λ es. AllMade (IsMade hosts) es (run.makers ++ [])) (sym (append-nil run.fresh)) (subst (λ ms. AllMade (IsMade hosts) run.fresh ms) (sym (append-nil run.makers)) old.made);
-    all = subst (λ es. AllOf (λ x. IsPlaced (with_made es (run.makers ++ []) x)) hosts) (sym (append-nil run.fresh)) (subst (λ ms. AllOf (λ x. IsPlaced (with_made run.fresh ms x)) hosts) (sym (append-nil run.makers)) old.all);
+    all = subst (λ es. AllOf (λ x. IsAttached (with_made es (run.makers ++ []) x)) hosts) (sym (append-nil run.fresh)) (subst (λ ms. AllOf (λ x. IsAttached (with_made run.fresh ms x)) hosts) (sym (append-nil run.makers)) old.all);
   }
   stepped h place run found old step (e ∷ []) a = more-made run (run.path ++ step_path h place step) (run.trail ++ place_trail h place) h e found old a.0 a.1
   stepped h place run found old step (e ∷ f ∷ es) a = absurd a
@@ -206,40 +206,40 @@ module _ (hosts : List Host) (names : (name : List ℕ) → AtMostOne (is_named 
   walk-placed zero h place run found old = old
   walk-placed (suc many) h place run found old = go (table_step h.tables (h.entries ++ run.fresh) place) (step-admits h.tables (h.entries ++ run.fresh) place) (walk-placed many)
     where
-      go : (s : Stepped) → Admits h.tables (h.entries ++ run.fresh) s.made → ((x : Host) (p : Place) (r : Run) → find (is_named x.name) hosts ≡ Some x → RunPlaced hosts r → RunPlaced hosts (walk hosts many x p r).run) → RunPlaced hosts (taken hosts (walk hosts many) h place run s).run
+      go : (s : Stepped) → Admits h.tables (h.entries ++ run.fresh) s.made → ((x : Host) (p : Place) (r : Run) → find (is_named x.name) hosts ≡ Some x → RunPlaced hosts r → RunPlaced hosts (walk hosts many x p r).run) → RunPlaced hosts (fate_after hosts (walk hosts many) h place run s).run
       go s a rest = by s.step (stepped h place run found old s.step s.made a)
         where
-          tunnel : (n : ℕ) (f : Frame) (r : Run) → RunPlaced hosts r → (o : Option Host) (test : Host → Bool) → find test hosts ≡ o → RunPlaced hosts (tunnelled (walk hosts many) n f r o).run
+          tunnel : (n : ℕ) (f : Frame) (r : Run) → RunPlaced hosts r → (o : Option Host) (test : Host → Bool) → find test hosts ≡ o → RunPlaced hosts (over_tunnel (walk hosts many) n f r o).run
           tunnel n f r placed None test e = placed
           tunnel n f r placed (Some x) test e = rest x (TunnelIn n f) r (by-name test x e) placed
 
-          wire : (w : Wire) (n : Ident) (t : Toward) (f : Frame) (r : Run) → RunPlaced hosts r → (o : Option Host) (test : Host → Bool) → find test hosts ≡ o → RunPlaced hosts (wired (walk hosts many) w n t f r o).run
+          wire : (w : Wire) (n : Ident) (t : Toward) (f : Frame) (r : Run) → RunPlaced hosts r → (o : Option Host) (test : Host → Bool) → find test hosts ≡ o → RunPlaced hosts (over_wire (walk hosts many) w n t f r o).run
           wire w n t f r placed None test e = placed
           wire w n t f r placed (Some x) test e = rest x (WireIn w f) r (by-name test x e) placed
 
-          by : (step : Step) → RunPlaced hosts (after_step h place s run) → RunPlaced hosts (moved hosts (walk hosts many) h (after_step h place s run) step).run
+          by : (step : Step) → RunPlaced hosts (after_step h place s run) → RunPlaced hosts (next_position hosts (walk hosts many) h (after_step h place s run) step).run
           by (Next p) placed = rest h p (after_step h place s run) found placed
           by (End o way) placed = placed
           by (ToTunnel name n f) placed = tunnel n f (after_step h place s run) placed (find (is_named name) hosts) (is_named name) refl
           by (ToWire w n t f) placed = wire w n t f (after_step h place s run) placed (find (λ (x : Host). not (bytes_eq x.name h.name) && takes w f x) hosts) (λ (x : Host). not (bytes_eq x.name h.name) && takes w f x) refl
 
-  begins : (path : List Ident) → AllOf IsPlaced hosts → RunPlaced hosts (begun path)
-  begins path placed = record { made = tt; all = AllOf-more IsPlaced (λ x. IsPlaced (with_made [] [] x)) hosts (λ x p. subst (λ es. IsPlaced (record { name = x.name; tables = x.tables; entries = es })) (sym (append-nil x.entries)) p) placed }
+  begins : (path : List Ident) → AllOf IsAttached hosts → RunPlaced hosts (run_from path)
+  begins path placed = record { made = tt; all = AllOf-more IsAttached (λ x. IsAttached (with_made [] [] x)) hosts (λ x p. subst (λ es. IsAttached (record { name = x.name; tables = x.tables; entries = es })) (sym (append-nil x.entries)) p) placed }
 
   -- a run of any event
-  pub fate-placed : (event : Event) → AllOf IsPlaced hosts → RunPlaced hosts (fabric_fate hosts event).run
+  pub fate-placed : (event : Event) → AllOf IsAttached hosts → RunPlaced hosts (fabric_fate hosts event).run
   unfolding fabric_fate
   fate-placed (FromPort port frame) placed = go (find (λ (h : Host). is_some (tap_at h.tables port)) hosts) refl
     where
       go : (o : Option Host) → find (λ (h : Host). is_some (tap_at h.tables port)) hosts ≡ o → RunPlaced hosts (from_tap hosts port frame o).run
       go None e = begins [] placed
-      go (Some h) e = walk-placed (suc (steps_for (life_of frame))) h (TapIn port frame) (begun (at_tap h (tap_at h.tables port))) (by-name (λ (h : Host). is_some (tap_at h.tables port)) h e) (begins (at_tap h (tap_at h.tables port)) placed)
+      go (Some h) e = walk-placed (suc (steps_for (life_of frame))) h (TapIn port frame) (run_from (at_tap h (tap_at h.tables port))) (by-name (λ (h : Host). is_some (tap_at h.tables port)) h e) (begins (at_tap h (tap_at h.tables port)) placed)
   fate-placed (FromWire physical tag frame) placed = start (is_unsupported frame)
     where
       go : (o : Option Host) → find (takes (record { physical = physical; tag = tag }) frame) hosts ≡ o → RunPlaced hosts (from_outside hosts (record { physical = physical; tag = tag }) frame o).run
       go None e = begins [] placed
-      go (Some h) e = walk-placed (steps_for (life_of frame)) h (WireIn (record { physical = physical; tag = tag }) frame) (begun (at_inward h (inward_at h.tables (ByWire (record { physical = physical; tag = tag }))))) (by-name (takes (record { physical = physical; tag = tag }) frame) h e) (begins (at_inward h (inward_at h.tables (ByWire (record { physical = physical; tag = tag })))) placed)
+      go (Some h) e = walk-placed (steps_for (life_of frame)) h (WireIn (record { physical = physical; tag = tag }) frame) (run_from (at_inward h (inward_at h.tables (ByWire (record { physical = physical; tag = tag }))))) (by-name (takes (record { physical = physical; tag = tag }) frame) h e) (begins (at_inward h (inward_at h.tables (ByWire (record { physical = physical; tag = tag })))) placed)
 
-      start : (b : Bool) → RunPlaced hosts (run_of (if b then finished (begun []) (Dropped Unsupported) else outside hosts (record { physical = physical; tag = tag }) frame))
+      start : (b : Bool) → RunPlaced hosts (run_of (if b then fate_of_run (run_from []) (Dropped Unsupported) else outside hosts (record { physical = physical; tag = tag }) frame))
       start true = begins [] placed
       start false = go (find (takes (record { physical = physical; tag = tag }) frame) hosts) refl

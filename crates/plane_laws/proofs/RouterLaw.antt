@@ -20,18 +20,19 @@ use Rattle.api_types.specs.RowLists.{RowLists}
 use Rattle.api_types.specs.declared.network.NetworkRow.{NetworkRow}
 use Rattle.api_types.specs.declared.port.PortRow.{PortRow}
 use Rattle.api_types.specs.declared.router.RouterRow.{RouterRow}
-use Rattle.plane_types.specs.Fabric.{Run, after_step, meant, network_at, step_path, taken, walk}
+use Rattle.plane_types.specs.Fabric.{Run, after_step, meant, network_at, step_path, fate_after, walk}
 use Rattle.api_types.specs.Holders.{holder, port_at, router_of}
 use Rattle.plane_types.specs.Hosts.{Host, all_entries, is_named}
-use Rattle.api_types.specs.Live.{is_joined, is_live, joined_with, network_of, segment}
+use Rattle.api_types.specs.Live.{is_joined, is_live, joined_with, segment}
+use Rattle.api_types.specs.RowsWith.{network_with}
 use Rattle.api_types.specs.Wires.{wire_of}
-use Rattle.plane_types.specs.Meaning.{Trace, ended, got, handed, handed_out, handed_to, out_or, sent_to, with_fresh, with_path}
+use Rattle.plane_types.specs.Meaning.{Trace, end_fate, port_fate, after_router, handed_out, handed_to, out_or, sent_to, with_fresh, with_path}
 use Rattle.plane_types.specs.Packets.{Packet, ip_frame}
 use Rattle.plane_types.specs.Places.{Bridge, End, Next, Place, RouterIn}
 use Rattle.api_types.specs.RouterRows.{gateway_address, has_snat, is_leg_of, leg_of, legs_of, router_view}
-use Rattle.plane_types.specs.Routing.{RouteEnds, RouteSends, Routed, routed, uses_by}
+use Rattle.plane_types.specs.Routing.{RouteEnds, RouteSends, Routed, routing_of, uses_by}
 use Rattle.api_types.specs.RouterViews.{Leg}
-use Rattle.plane_types.specs.TableRows.{hosted, is_hosted, router_port, router_row, tag_of, tagged_by}
+use Rattle.plane_types.specs.TableRows.{is_on_host, is_hosted, router_port, router_row, tag_of, tagged_by}
 use Rattle.plane_types.specs.TableStep.{Stepped, router_by_leg, router_by_row, sent_at, sent_by, table_routed, table_step, tag_row, unheld}
 use Rattle.plane_types.specs.declared.entry.Entry.{Entry}
 use Rattle.api_types.specs.declared.wire.Wire.{Wire}
@@ -90,8 +91,8 @@ module _ (rows : RowLists) (hosts : List Host) (good : FrameFacts rows) (synced 
     self : find (is_named h.name) hosts ≡ Some h
     self = ap (λ m. find (is_named m) hosts) (sym host_is) ∙ named
 
-    here : hosted h.name r ≡ true
-    here = ap (λ m. hosted m r) (sym host_is) ∙ ap (is_hosted q.host) (sym router_is) ∙ find-each (RouterPortStands rows) test rows.ports q good.router_ports found router live
+    here : is_on_host h.name r ≡ true
+    here = ap (λ m. is_on_host m r) (sym host_is) ∙ ap (is_hosted q.host) (sym router_is) ∙ find-each (RouterPortStands rows) test rows.ports q good.router_ports found router live
 
     by_id : find (has_id q.id) rows.ports ≡ Some q
     by_id = find-only test (has_id q.id) rows.ports q (good.port_ids q.id) found (ident_itself q.id)
@@ -107,24 +108,24 @@ module _ (rows : RowLists) (hosts : List Host) (good : FrameFacts rows) (synced 
     unfolding router_view
     view-uses = uses-located rows hosts good synced of_device r router_is h.name here h self (has_snat r.gateway) (gateway_address rows r) run.fresh
 
-    step-is : table_step h.tables (h.entries ++ run.fresh) (RouterIn q.id r.id (ip_frame p)) ≡ table_routed h.tables (router_row rows h.tables.tags r) (routed (router_view rows r) (all_entries hosts ++ run.fresh) (leg_of q) p)
+    step-is : table_step h.tables (h.entries ++ run.fresh) (RouterIn q.id r.id (ip_frame p)) ≡ table_routed h.tables (router_row rows h.tables.tags r) (routing_of (router_view rows r) (all_entries hosts ++ run.fresh) (leg_of q) p)
     step-is =
         let tag = some_of (tag_of h.tables.tags q.network) (leg-tagged rows h.name h.tables real good of_device r router_is here q by_id is_leg) in
         ap (router_by_row h.tables (h.entries ++ run.fresh) q.id p) (router-located rows h.name h.tables real good of_device r router_is here)
         ∙ ap (router_by_leg h.tables (h.entries ++ run.fresh) (router_row rows h.tables.tags r) p) (leg-located rows h.name h.tables real good of_device r router_is here q.id ∙ ap (option_and_then (tagged_by rows h.tables.tags)) leg_found ∙ ap (option_map (λ tag. router_port rows q tag)) tag.1)
-        ∙ ap (λ v. table_routed h.tables (router_row rows h.tables.tags r) (routed v (h.entries ++ run.fresh) (leg_of q) p)) (view-located rows h.name h.tables real good of_device r router_is here)
+        ∙ ap (λ v. table_routed h.tables (router_row rows h.tables.tags r) (routing_of v (h.entries ++ run.fresh) (leg_of q) p)) (view-located rows h.name h.tables real good of_device r router_is here)
         ∙ ap (table_routed h.tables (router_row rows h.tables.tags r)) (routed-same (router_view rows r) (h.entries ++ run.fresh) (all_entries hosts ++ run.fresh) (leg_of q) p view-uses)
 
-    ended-by : (made : List Entry) (o : Outcome) (way : Option Ident) (ids : List Ident) → step_path h (RouterIn q.id r.id (ip_frame p)) (End o way) ≡ ids → meant (taken hosts (walk hosts (steps - 1)) h (RouterIn q.id r.id (ip_frame p)) run (record { step = End o way; made = made })) ≡ ended (with_path (with_fresh (trace_of run) made) ids) o
-    ended-by made o way ids e = ap (λ t. ended t o) (trace-step h (RouterIn q.id r.id (ip_frame p)) (record { step = End o way; made = made }) run ids e)
+    ended-by : (made : List Entry) (o : Outcome) (way : Option Ident) (ids : List Ident) → step_path h (RouterIn q.id r.id (ip_frame p)) (End o way) ≡ ids → meant (fate_after hosts (walk hosts (steps - 1)) h (RouterIn q.id r.id (ip_frame p)) run (record { step = End o way; made = made })) ≡ end_fate (with_path (with_fresh (trace_of run) made) ids) o
+    ended-by made o way ids e = ap (λ t. end_fate t o) (trace-step h (RouterIn q.id r.id (ip_frame p)) (record { step = End o way; made = made }) run ids e)
 
     module _ (made : List Entry) (out : Leg) (hop : Addr) (p2 : Packet) (lower : p2.ttl < p.ttl) where
-      no-leg : find (has_id out.port) (legs_of rows r) ≡ None → meant (taken hosts (walk hosts (steps - 1)) h (RouterIn q.id r.id (ip_frame p)) run (table_routed h.tables (router_row rows h.tables.tags r) (RouteSends made out hop p2))) ≡ handed rows (got rows (all_entries hosts) many) r (trace_of run) (RouteSends made out hop p2)
+      no-leg : find (has_id out.port) (legs_of rows r) ≡ None → meant (fate_after hosts (walk hosts (steps - 1)) h (RouterIn q.id r.id (ip_frame p)) run (table_routed h.tables (router_row rows h.tables.tags r) (RouteSends made out hop p2))) ≡ after_router rows (port_fate rows (all_entries hosts) many) r (trace_of run) (RouteSends made out hop p2)
       no-leg e =
-          ap (λ o. meant (taken hosts (walk hosts (steps - 1)) h (RouterIn q.id r.id (ip_frame p)) run (record { step = sent_at h.tables hop p2 o; made = made }))) (leg-located rows h.name h.tables real good of_device r router_is here out.port ∙ ap (option_and_then (tagged_by rows h.tables.tags)) e)
+          ap (λ o. meant (fate_after hosts (walk hosts (steps - 1)) h (RouterIn q.id r.id (ip_frame p)) run (record { step = sent_at h.tables hop p2 o; made = made }))) (leg-located rows h.name h.tables real good of_device r router_is here out.port ∙ ap (option_and_then (tagged_by rows h.tables.tags)) e)
           ∙ ended-by made (Dropped Unknown) None [] refl
-          ∙ ap (λ t. ended t (Dropped Unknown)) (no-path (with_fresh (trace_of run) made))
-          ∙ sym (ap (handed_out rows (got rows (all_entries hosts) many) r hop p2 (with_fresh (trace_of run) made)) e)
+          ∙ ap (λ t. end_fate t (Dropped Unknown)) (no-path (with_fresh (trace_of run) made))
+          ∙ sym (ap (handed_out rows (port_fate rows (all_entries hosts) many) r hop p2 (with_fresh (trace_of run) made)) e)
 
       module _ (o : PortRow) (leg : find (has_id out.port) (legs_of rows r) ≡ Some o) where
         is_leg2 : is_leg_of rows r o ≡ true
@@ -141,8 +142,8 @@ module _ (rows : RowLists) (hosts : List Host) (good : FrameFacts rows) (synced 
         host2 : o.host ≡ h.name
         host2 = leg-here rows h.name h.tables real good of_device r router_is here o by_id2 is_leg2
 
-        net2 : (net : NetworkRow) × (network_of rows o.network ≡ Some net)
-        net2 = some_of (network_of rows o.network) (find-each (λ (y : PortRow). is_some (network_of rows y.network) ≡ true) (has_id o.id) rows.ports o good.networks_stand by_id2)
+        net2 : (net : NetworkRow) × (network_with rows o.network ≡ Some net)
+        net2 = some_of (network_with rows o.network) (find-each (λ (y : PortRow). is_some (network_with rows y.network) ≡ true) (has_id o.id) rows.ports o good.networks_stand by_id2)
 
         row2 : tag_row h.tables tag2.0 ≡ Some (record { network = o.network; tag = tag2.0; wire = wire_of (segment rows o.network) })
         row2 = tag-row rows h.name h.tables.tags real.tags o.network tag2.0 tag2.1
@@ -150,59 +151,59 @@ module _ (rows : RowLists) (hosts : List Host) (good : FrameFacts rows) (synced 
         after : Trace
         after = with_path (with_fresh (trace_of run) made) (r.id ∷ o.network ∷ [])
 
-        meaning : (j : Option PortRow) → joined_with rows h.name (holder rows o.network hop) ≡ j → handed rows (got rows (all_entries hosts) many) r (trace_of run) (RouteSends made out hop p2) ≡ handed_to rows (got rows (all_entries hosts) many) o.network hop p2 (with_path (with_fresh (trace_of run) made) (r.id ∷ o.network ∷ [])) j
+        meaning : (j : Option PortRow) → joined_with rows h.name (holder rows o.network hop) ≡ j → after_router rows (port_fate rows (all_entries hosts) many) r (trace_of run) (RouteSends made out hop p2) ≡ handed_to rows (port_fate rows (all_entries hosts) many) o.network hop p2 (with_path (with_fresh (trace_of run) made) (r.id ∷ o.network ∷ [])) j
         meaning j e =
-            ap (handed_out rows (got rows (all_entries hosts) many) r hop p2 (with_fresh (trace_of run) made)) leg
-            ∙ ap (λ m. handed_to rows (got rows (all_entries hosts) many) o.network hop p2 (with_path (with_fresh (trace_of run) made) (r.id ∷ o.network ∷ [])) (joined_with rows m (holder rows o.network hop))) host2
-            ∙ ap (handed_to rows (got rows (all_entries hosts) many) o.network hop p2 (with_path (with_fresh (trace_of run) made) (r.id ∷ o.network ∷ []))) e
+            ap (handed_out rows (port_fate rows (all_entries hosts) many) r hop p2 (with_fresh (trace_of run) made)) leg
+            ∙ ap (λ m. handed_to rows (port_fate rows (all_entries hosts) many) o.network hop p2 (with_path (with_fresh (trace_of run) made) (r.id ∷ o.network ∷ [])) (joined_with rows m (holder rows o.network hop))) host2
+            ∙ ap (handed_to rows (port_fate rows (all_entries hosts) many) o.network hop p2 (with_path (with_fresh (trace_of run) made) (r.id ∷ o.network ∷ []))) e
 
         stepped : (j : Option PortRow) → joined_with rows h.name (holder rows o.network hop) ≡ j → table_routed h.tables (router_row rows h.tables.tags r) (RouteSends made out hop p2) ≡ record { step = sent_by h.tables tag2.0 hop p2 (option_map (row_at tag2.0 hop) j); made = made }
         stepped j e =
             ap (λ x. record { step = sent_at h.tables hop p2 x; made = made }) (leg-located rows h.name h.tables real good of_device r router_is here out.port ∙ ap (option_and_then (tagged_by rows h.tables.tags)) leg ∙ ap (option_map (λ tag. router_port rows o tag)) tag2.1)
             ∙ ap (λ x. record { step = sent_by h.tables tag2.0 hop p2 x; made = made }) (neighbour-located rows h.name h.tables real good o.network tag2.0 tag2.1 hop ∙ ap (option_map (row_at tag2.0 hop)) e)
 
-        unheld-by : joined_with rows h.name (holder rows o.network hop) ≡ None → (w : Option Wire) → wire_of (segment rows o.network) ≡ w → meant (taken hosts (walk hosts (steps - 1)) h (RouterIn q.id r.id (ip_frame p)) run (table_routed h.tables (router_row rows h.tables.tags r) (RouteSends made out hop p2))) ≡ handed rows (got rows (all_entries hosts) many) r (trace_of run) (RouteSends made out hop p2)
+        unheld-by : joined_with rows h.name (holder rows o.network hop) ≡ None → (w : Option Wire) → wire_of (segment rows o.network) ≡ w → meant (fate_after hosts (walk hosts (steps - 1)) h (RouterIn q.id r.id (ip_frame p)) run (table_routed h.tables (router_row rows h.tables.tags r) (RouteSends made out hop p2))) ≡ after_router rows (port_fate rows (all_entries hosts) many) r (trace_of run) (RouteSends made out hop p2)
         unheld-by e None f =
-            ap (λ s. meant (taken hosts (walk hosts (steps - 1)) h (RouterIn q.id r.id (ip_frame p)) run s)) (stepped None e ∙ ap (λ x. record { step = unheld hop p2 x; made = made }) (row2 ∙ ap (λ w. Some (record { network = o.network; tag = tag2.0; wire = w })) f))
+            ap (λ s. meant (fate_after hosts (walk hosts (steps - 1)) h (RouterIn q.id r.id (ip_frame p)) run s)) (stepped None e ∙ ap (λ x. record { step = unheld hop p2 x; made = made }) (row2 ∙ ap (λ w. Some (record { network = o.network; tag = tag2.0; wire = w })) f))
             ∙ ended-by made (Dropped NoHolder) (Some o.network) (r.id ∷ o.network ∷ []) refl
-            ∙ sym (meaning None e ∙ ap (λ w. ended (with_path (with_fresh (trace_of run) made) (r.id ∷ o.network ∷ [])) (out_or w o.network (TowardAddress hop) (ip_frame (record p2 { dst = 0 })) NoHolder)) f)
+            ∙ sym (meaning None e ∙ ap (λ w. end_fate (with_path (with_fresh (trace_of run) made) (r.id ∷ o.network ∷ [])) (out_or w o.network (TowardAddress hop) (ip_frame (record p2 { dst = 0 })) NoHolder)) f)
         unheld-by e (Some w) f =
-            ap (λ s. meant (taken hosts (walk hosts (steps - 1)) h (RouterIn q.id r.id (ip_frame p)) run s)) (stepped None e ∙ ap (λ x. record { step = unheld hop p2 x; made = made }) (row2 ∙ ap (λ w. Some (record { network = o.network; tag = tag2.0; wire = w })) f))
+            ap (λ s. meant (fate_after hosts (walk hosts (steps - 1)) h (RouterIn q.id r.id (ip_frame p)) run s)) (stepped None e ∙ ap (λ x. record { step = unheld hop p2 x; made = made }) (row2 ∙ ap (λ w. Some (record { network = o.network; tag = tag2.0; wire = w })) f))
             ∙ ended-by made (Out o.network (TowardAddress hop) (ip_frame (record p2 { dst = 0 }))) (Some o.network) (r.id ∷ o.network ∷ []) refl
-            ∙ sym (meaning None e ∙ ap (λ w. ended (with_path (with_fresh (trace_of run) made) (r.id ∷ o.network ∷ [])) (out_or w o.network (TowardAddress hop) (ip_frame (record p2 { dst = 0 })) NoHolder)) f)
+            ∙ sym (meaning None e ∙ ap (λ w. end_fate (with_path (with_fresh (trace_of run) made) (r.id ∷ o.network ∷ [])) (out_or w o.network (TowardAddress hop) (ip_frame (record p2 { dst = 0 })) NoHolder)) f)
 
-        held-by : (q2 : PortRow) → joined_with rows h.name (holder rows o.network hop) ≡ Some q2 → meant (taken hosts (walk hosts (steps - 1)) h (RouterIn q.id r.id (ip_frame p)) run (table_routed h.tables (router_row rows h.tables.tags r) (RouteSends made out hop p2))) ≡ handed rows (got rows (all_entries hosts) many) r (trace_of run) (RouteSends made out hop p2)
+        held-by : (q2 : PortRow) → joined_with rows h.name (holder rows o.network hop) ≡ Some q2 → meant (fate_after hosts (walk hosts (steps - 1)) h (RouterIn q.id r.id (ip_frame p)) run (table_routed h.tables (router_row rows h.tables.tags r) (RouteSends made out hop p2))) ≡ after_router rows (port_fate rows (all_entries hosts) many) r (trace_of run) (RouteSends made out hop p2)
         held-by q2 e =
             let both = joined-found rows h.name (holder rows o.network hop) q2 e in
             let at : port_at rows o.network q2.mac ≡ Some q2 = holder-at rows good o.network hop q2 both.0 in
             let s : Stepped = record { step = Next (Bridge tag2.0 (ip_frame (record p2 { dst = q2.mac }))); made = made } in
-            ap (λ s. meant (taken hosts (walk hosts (steps - 1)) h (RouterIn q.id r.id (ip_frame p)) run s)) (stepped (Some q2) e)
+            ap (λ s. meant (fate_after hosts (walk hosts (steps - 1)) h (RouterIn q.id r.id (ip_frame p)) run s)) (stepped (Some q2) e)
             ∙ sent-law rows hosts good synced many lands (steps - 1) h o.network net2.0 tag2.0 (record p2 { dst = q2.mac }) (after_step h (RouterIn q.id r.id (ip_frame p)) (record { step = Next (Bridge tag2.0 (ip_frame (record p2 { dst = q2.mac }))); made = made }) run) (omega arith) self net2.1 tag2.1 (omega arith)
-            ∙ ap (λ x. sent_to rows (got rows (all_entries hosts) many) o.network (record p2 { dst = q2.mac }) (trace_of (after_step h (RouterIn q.id r.id (ip_frame p)) (record { step = Next (Bridge tag2.0 (ip_frame (record p2 { dst = q2.mac }))); made = made }) run)) (joined_with rows h.name x)) at
-            ∙ ap (λ b. sent_to rows (got rows (all_entries hosts) many) o.network (record p2 { dst = q2.mac }) (trace_of (after_step h (RouterIn q.id r.id (ip_frame p)) (record { step = Next (Bridge tag2.0 (ip_frame (record p2 { dst = q2.mac }))); made = made }) run)) (if b then Some q2 else None)) both.1
-            ∙ ap (got rows (all_entries hosts) many q2 (record p2 { dst = q2.mac })) (trace-step h (RouterIn q.id r.id (ip_frame p)) (record { step = Next (Bridge tag2.0 (ip_frame (record p2 { dst = q2.mac }))); made = made }) run (r.id ∷ o.network ∷ []) (ap (λ x. r.id ∷ network_at x) row2))
+            ∙ ap (λ x. sent_to rows (port_fate rows (all_entries hosts) many) o.network (record p2 { dst = q2.mac }) (trace_of (after_step h (RouterIn q.id r.id (ip_frame p)) (record { step = Next (Bridge tag2.0 (ip_frame (record p2 { dst = q2.mac }))); made = made }) run)) (joined_with rows h.name x)) at
+            ∙ ap (λ b. sent_to rows (port_fate rows (all_entries hosts) many) o.network (record p2 { dst = q2.mac }) (trace_of (after_step h (RouterIn q.id r.id (ip_frame p)) (record { step = Next (Bridge tag2.0 (ip_frame (record p2 { dst = q2.mac }))); made = made }) run)) (if b then Some q2 else None)) both.1
+            ∙ ap (port_fate rows (all_entries hosts) many q2 (record p2 { dst = q2.mac })) (trace-step h (RouterIn q.id r.id (ip_frame p)) (record { step = Next (Bridge tag2.0 (ip_frame (record p2 { dst = q2.mac }))); made = made }) run (r.id ∷ o.network ∷ []) (ap (λ x. r.id ∷ network_at x) row2))
             ∙ sym (meaning (Some q2) e)
 
-        with-leg : meant (taken hosts (walk hosts (steps - 1)) h (RouterIn q.id r.id (ip_frame p)) run (table_routed h.tables (router_row rows h.tables.tags r) (RouteSends made out hop p2))) ≡ handed rows (got rows (all_entries hosts) many) r (trace_of run) (RouteSends made out hop p2)
+        with-leg : meant (fate_after hosts (walk hosts (steps - 1)) h (RouterIn q.id r.id (ip_frame p)) run (table_routed h.tables (router_row rows h.tables.tags r) (RouteSends made out hop p2))) ≡ after_router rows (port_fate rows (all_entries hosts) many) r (trace_of run) (RouteSends made out hop p2)
         with-leg = by (joined_with rows h.name (holder rows o.network hop)) refl
           where
-            by : (j : Option PortRow) → joined_with rows h.name (holder rows o.network hop) ≡ j → meant (taken hosts (walk hosts (steps - 1)) h (RouterIn q.id r.id (ip_frame p)) run (table_routed h.tables (router_row rows h.tables.tags r) (RouteSends made out hop p2))) ≡ handed rows (got rows (all_entries hosts) many) r (trace_of run) (RouteSends made out hop p2)
+            by : (j : Option PortRow) → joined_with rows h.name (holder rows o.network hop) ≡ j → meant (fate_after hosts (walk hosts (steps - 1)) h (RouterIn q.id r.id (ip_frame p)) run (table_routed h.tables (router_row rows h.tables.tags r) (RouteSends made out hop p2))) ≡ after_router rows (port_fate rows (all_entries hosts) many) r (trace_of run) (RouteSends made out hop p2)
             by None e = unheld-by e (wire_of (segment rows o.network)) refl
             by (Some q2) e = held-by q2 e
 
-      sends : meant (taken hosts (walk hosts (steps - 1)) h (RouterIn q.id r.id (ip_frame p)) run (table_routed h.tables (router_row rows h.tables.tags r) (RouteSends made out hop p2))) ≡ handed rows (got rows (all_entries hosts) many) r (trace_of run) (RouteSends made out hop p2)
+      sends : meant (fate_after hosts (walk hosts (steps - 1)) h (RouterIn q.id r.id (ip_frame p)) run (table_routed h.tables (router_row rows h.tables.tags r) (RouteSends made out hop p2))) ≡ after_router rows (port_fate rows (all_entries hosts) many) r (trace_of run) (RouteSends made out hop p2)
       sends = by (find (has_id out.port) (legs_of rows r)) refl
         where
-          by : (o : Option PortRow) → find (has_id out.port) (legs_of rows r) ≡ o → meant (taken hosts (walk hosts (steps - 1)) h (RouterIn q.id r.id (ip_frame p)) run (table_routed h.tables (router_row rows h.tables.tags r) (RouteSends made out hop p2))) ≡ handed rows (got rows (all_entries hosts) many) r (trace_of run) (RouteSends made out hop p2)
+          by : (o : Option PortRow) → find (has_id out.port) (legs_of rows r) ≡ o → meant (fate_after hosts (walk hosts (steps - 1)) h (RouterIn q.id r.id (ip_frame p)) run (table_routed h.tables (router_row rows h.tables.tags r) (RouteSends made out hop p2))) ≡ after_router rows (port_fate rows (all_entries hosts) many) r (trace_of run) (RouteSends made out hop p2)
           by None e = no-leg e
           by (Some o) e = with-leg o e
 
-    by-routed : (x : Routed) → Lower p.ttl x → meant (taken hosts (walk hosts (steps - 1)) h (RouterIn q.id r.id (ip_frame p)) run (table_routed h.tables (router_row rows h.tables.tags r) x)) ≡ handed rows (got rows (all_entries hosts) many) r (trace_of run) x
-    by-routed (RouteEnds o) low = ap (λ t. ended t o) (trace-plain h (RouterIn q.id r.id (ip_frame p)) (End o None) run refl)
+    by-routed : (x : Routed) → Lower p.ttl x → meant (fate_after hosts (walk hosts (steps - 1)) h (RouterIn q.id r.id (ip_frame p)) run (table_routed h.tables (router_row rows h.tables.tags r) x)) ≡ after_router rows (port_fate rows (all_entries hosts) many) r (trace_of run) x
+    by-routed (RouteEnds o) low = ap (λ t. end_fate t o) (trace-plain h (RouterIn q.id r.id (ip_frame p)) (End o None) run refl)
     by-routed (RouteSends made out hop p2) low = sends made out hop p2 low
 
-    pub router-law : meant (walk hosts steps h (RouterIn q.id r.id (ip_frame p)) run) ≡ handed rows (got rows (all_entries hosts) many) r (trace_of run) (routed (router_view rows r) (all_entries hosts ++ run.fresh) (leg_of q) p)
+    pub router-law : meant (walk hosts steps h (RouterIn q.id r.id (ip_frame p)) run) ≡ after_router rows (port_fate rows (all_entries hosts) many) r (trace_of run) (routing_of (router_view rows r) (all_entries hosts ++ run.fresh) (leg_of q) p)
     router-law =
         ap meant (walk-on hosts steps h (RouterIn q.id r.id (ip_frame p)) run (omega arith))
-        ∙ ap (λ s. meant (taken hosts (walk hosts (steps - 1)) h (RouterIn q.id r.id (ip_frame p)) run s)) step-is
-        ∙ by-routed (routed (router_view rows r) (all_entries hosts ++ run.fresh) (leg_of q) p) (routed-lower (router_view rows r) (all_entries hosts ++ run.fresh) (leg_of q) p)
+        ∙ ap (λ s. meant (fate_after hosts (walk hosts (steps - 1)) h (RouterIn q.id r.id (ip_frame p)) run s)) step-is
+        ∙ by-routed (routing_of (router_view rows r) (all_entries hosts ++ run.fresh) (leg_of q) p) (routed-lower (router_view rows r) (all_entries hosts ++ run.fresh) (leg_of q) p)

@@ -11,7 +11,7 @@ use Rattle.plane_types.specs.Ends.{are_four, destination, source, with_source}
 use Rattle.plane_types.specs.Crossing.{not_delivered}
 use Rattle.plane_types.specs.Keys.{key_eq}
 use Rattle.plane_types.specs.Packets.{Packet, key_of}
-use Rattle.plane_types.specs.Routing.{Changed, Destined, RouteEnds, RouteSends, Routed, Sourced, Use, answers, best_way, by_any, by_float, destined, destined_entry, destined_float, is_gateway_live, is_own, kept_source, new_port, routed, routed_out, routed_to, routed_way, sent, sourced, sourced_float, sourced_gateway, sourced_new, sourced_use, uses_by}
+use Rattle.plane_types.specs.Routing.{Changed, Destined, RouteEnds, RouteSends, Routed, Sourced, Use, answers, best_way, by_any, by_float, new_destination, destined_entry, destined_float, is_gateway_live, is_own, kept_source, new_port, routing_of, routed_out, routed_to, routed_way, sending_of, new_source, sourced_float, sourced_gateway, sourced_new, sourced_use, uses_by}
 use Rattle.api_types.specs.RouterViews.{Float, Leg, RouterView, Way}
 use Rattle.plane_types.specs.declared.entry.Entry.{Entry}
 use Rattle.plane_types.specs.declared.verdict.DropCause.TheVariants.{Expired, RouterDown}
@@ -27,7 +27,7 @@ Keeps n None = ⊤
 Keeps n (Some s) = s.packet.ttl ≡ n
 
 module _ (v : RouterView) (uses : List Use) where
-  destined-ttl : (p : Packet) → (destined v uses p).packet.ttl ≡ p.ttl
+  destined-ttl : (p : Packet) → (new_destination v uses p).packet.ttl ≡ p.ttl
   destined-ttl p = go (find (λ (f : Float). addr_eq (V4 f.floating) (destination p.ends)) v.floats)
     where
       by : (o : Option Use) → (destined_entry p o).packet.ttl ≡ p.ttl
@@ -38,7 +38,7 @@ module _ (v : RouterView) (uses : List Use) where
       go (Some f) = refl
       go None = by (find (answers v.gateway p) uses)
 
-  sourced-ttl : (way_in out : Leg) (by : Changed) (p : Packet) → Keeps p.ttl (sourced v uses way_in out by p)
+  sourced-ttl : (way_in out : Leg) (by : Changed) (p : Packet) → Keeps p.ttl (new_source v uses way_in out by p)
   sourced-ttl way_in out by p = start (are_four p.ends && way_in.inside && (not out.inside || by_any by))
     where
       fresh : (outer : ℕ) (o : Option ℕ) → Keeps p.ttl (sourced_new v.id p outer o)
@@ -66,7 +66,7 @@ module _ (v : RouterView) (uses : List Use) where
           floated (Some f) = refl
           floated None = float None ((not out.inside || by_float by) && v.snat && is_gateway_live v)
 
-  sent-ttl : (out : Leg) (hop : Addr) (n m : ℕ) (o : Option Sourced) → n < m → Keeps n o → Lower m (sent out hop o)
+  sent-ttl : (out : Leg) (hop : Addr) (n m : ℕ) (o : Option Sourced) → n < m → Keeps n o → Lower m (sending_of out hop o)
   sent-ttl out hop n m None lt k = refl
   sent-ttl out hop n m (Some s) lt k = omega arith
 
@@ -78,7 +78,7 @@ module _ (v : RouterView) (uses : List Use) where
 
       out : (hop : Addr) (o : Option Leg) → 0 < d.packet.ttl → Lower n (routed_out v uses way_in d.by (record (d.packet) { ttl = d.packet.ttl - 1 }) hop o)
       out hop None lt = refl
-      out hop (Some l) lt = sent-ttl l hop (d.packet.ttl - 1) n (sourced v uses way_in l d.by (record (d.packet) { ttl = d.packet.ttl - 1 })) (omega arith) (sourced-ttl way_in l d.by (record (d.packet) { ttl = d.packet.ttl - 1 }))
+      out hop (Some l) lt = sent-ttl l hop (d.packet.ttl - 1) n (new_source v uses way_in l d.by (record (d.packet) { ttl = d.packet.ttl - 1 })) (omega arith) (sourced-ttl way_in l d.by (record (d.packet) { ttl = d.packet.ttl - 1 }))
 
       way : (o : Option Way) → 0 < d.packet.ttl → Lower n (routed_way v uses way_in d.by (record (d.packet) { ttl = d.packet.ttl - 1 }) o)
       way None lt = refl
@@ -89,13 +89,13 @@ module _ (v : RouterView) (uses : List Use) where
       go false true f = refl
       go false false f = let above : 1 < d.packet.ttl = leb-false d.packet.ttl 1 f in way (best_way (destination d.packet.ends) v.ways) (omega arith)
 
-pub routed-lower : (v : RouterView) (entries : List Entry) (way_in : Leg) (p : Packet) → Lower p.ttl (routed v entries way_in p)
-unfolding routed
+pub routed-lower : (v : RouterView) (entries : List Entry) (way_in : Leg) (p : Packet) → Lower p.ttl (routing_of v entries way_in p)
+unfolding routing_of
 routed-lower v entries way_in p = go (not v.up)
   where
-    go : (b : Bool) → Lower p.ttl (if b then RouteEnds (Dropped RouterDown) else routed_to v (uses_by v.snat v.gateway v.id entries) way_in (destined v (uses_by v.snat v.gateway v.id entries) p))
+    go : (b : Bool) → Lower p.ttl (if b then RouteEnds (Dropped RouterDown) else routed_to v (uses_by v.snat v.gateway v.id entries) way_in (new_destination v (uses_by v.snat v.gateway v.id entries) p))
     go true = refl
-    go false = to-ttl v (uses_by v.snat v.gateway v.id entries) way_in (destined v (uses_by v.snat v.gateway v.id entries) p) p.ttl (destined-ttl v (uses_by v.snat v.gateway v.id entries) p)
+    go false = to-ttl v (uses_by v.snat v.gateway v.id entries) way_in (new_destination v (uses_by v.snat v.gateway v.id entries) p) p.ttl (destined-ttl v (uses_by v.snat v.gateway v.id entries) p)
 
 -- a router sends on what has a step to live behind it, with one step less
 abbrev pub Lives : ℕ → Routed → Type 0
@@ -103,7 +103,7 @@ Lives n (RouteEnds o) = ⊤
 Lives n (RouteSends made out hop p) = (suc p.ttl ≡ n) × (0 < p.ttl)
 
 module _ (v : RouterView) (uses : List Use) where
-  sent-lives : (out : Leg) (hop : Addr) (n m : ℕ) (o : Option Sourced) → suc n ≡ m → 0 < n → Keeps n o → Lives m (sent out hop o)
+  sent-lives : (out : Leg) (hop : Addr) (n m : ℕ) (o : Option Sourced) → suc n ≡ m → 0 < n → Keeps n o → Lives m (sending_of out hop o)
   sent-lives out hop n m None e more k = tt
   sent-lives out hop n m (Some s) e more k = (ap suc k ∙ e, omega (arith, more, k))
 
@@ -112,7 +112,7 @@ module _ (v : RouterView) (uses : List Use) where
     where
       out : (hop : Addr) (o : Option Leg) → 1 < d.packet.ttl → Lives n (routed_out v uses way_in d.by (record (d.packet) { ttl = d.packet.ttl - 1 }) hop o)
       out hop None lt = tt
-      out hop (Some l) lt = sent-lives l hop (d.packet.ttl - 1) n (sourced v uses way_in l d.by (record (d.packet) { ttl = d.packet.ttl - 1 })) (omega (arith, lt, e)) (omega (arith, lt)) (sourced-ttl v uses way_in l d.by (record (d.packet) { ttl = d.packet.ttl - 1 }))
+      out hop (Some l) lt = sent-lives l hop (d.packet.ttl - 1) n (new_source v uses way_in l d.by (record (d.packet) { ttl = d.packet.ttl - 1 })) (omega (arith, lt, e)) (omega (arith, lt)) (sourced-ttl v uses way_in l d.by (record (d.packet) { ttl = d.packet.ttl - 1 }))
 
       way : (o : Option Way) → 1 < d.packet.ttl → Lives n (routed_way v uses way_in d.by (record (d.packet) { ttl = d.packet.ttl - 1 }) o)
       way None lt = tt
@@ -123,15 +123,15 @@ module _ (v : RouterView) (uses : List Use) where
       go false true f = tt
       go false false f = way (best_way (destination d.packet.ends) v.ways) (leb-false d.packet.ttl 1 f)
 
-pub routed-lives : (v : RouterView) (entries : List Entry) (way_in : Leg) (p : Packet) → Lives p.ttl (routed v entries way_in p)
-unfolding routed
+pub routed-lives : (v : RouterView) (entries : List Entry) (way_in : Leg) (p : Packet) → Lives p.ttl (routing_of v entries way_in p)
+unfolding routing_of
 routed-lives v entries way_in p = go (not v.up)
   where
-    go : (b : Bool) → Lives p.ttl (if b then RouteEnds (Dropped RouterDown) else routed_to v (uses_by v.snat v.gateway v.id entries) way_in (destined v (uses_by v.snat v.gateway v.id entries) p))
+    go : (b : Bool) → Lives p.ttl (if b then RouteEnds (Dropped RouterDown) else routed_to v (uses_by v.snat v.gateway v.id entries) way_in (new_destination v (uses_by v.snat v.gateway v.id entries) p))
     go true = tt
-    go false = to-lives v (uses_by v.snat v.gateway v.id entries) way_in (destined v (uses_by v.snat v.gateway v.id entries) p) p.ttl (destined-ttl v (uses_by v.snat v.gateway v.id entries) p)
+    go false = to-lives v (uses_by v.snat v.gateway v.id entries) way_in (new_destination v (uses_by v.snat v.gateway v.id entries) p) p.ttl (destined-ttl v (uses_by v.snat v.gateway v.id entries) p)
 
 -- entries are asked for the router's valid uses alone
-pub routed-same : (v : RouterView) (a b : List Entry) (way_in : Leg) (p : Packet) → uses_by v.snat v.gateway v.id a ≡ uses_by v.snat v.gateway v.id b → routed v a way_in p ≡ routed v b way_in p
-unfolding routed
-routed-same v a b way_in p e = ap (λ us. if not v.up then RouteEnds (Dropped RouterDown) else routed_to v us way_in (destined v us p)) e
+pub routed-same : (v : RouterView) (a b : List Entry) (way_in : Leg) (p : Packet) → uses_by v.snat v.gateway v.id a ≡ uses_by v.snat v.gateway v.id b → routing_of v a way_in p ≡ routing_of v b way_in p
+unfolding routing_of
+routed-same v a b way_in p e = ap (λ us. if not v.up then RouteEnds (Dropped RouterDown) else routed_to v us way_in (new_destination v us p)) e

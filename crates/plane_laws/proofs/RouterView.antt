@@ -15,11 +15,12 @@ use Rattle.api_types.specs.declared.floating.FloatingRow.{FloatingRow}
 use Rattle.api_types.specs.declared.floating.Target.{Target}
 use Rattle.api_types.specs.declared.port.PortRow.{PortRow}
 use Rattle.api_types.specs.declared.router.RouterRow.{RouterRow}
-use Rattle.api_types.specs.Holders.{router_named, router_of}
+use Rattle.api_types.specs.Holders.{router_of}
+use Rattle.api_types.specs.RowsWith.{router_with}
 use Rattle.api_types.specs.Live.{is_live, is_at}
 use Rattle.api_types.specs.RouterRows.{float_by, floats_of, gateway_address, has_snat, is_leg_of, leg_of, legs_of, router_view, ways_of}
 use Rattle.api_types.specs.RouterViews.{Way}
-use Rattle.plane_types.specs.TableRows.{float_row_by, float_rows, hosted, is_host_of, is_hosted, route_row, route_rows, router_port, router_row, router_rows, tag_of, tagged_by}
+use Rattle.plane_types.specs.TableRows.{float_row_by, float_rows, is_on_host, is_host_of, is_hosted, route_row, route_rows, router_port, router_row, router_rows, tag_of, tagged_by}
 use Rattle.plane_types.specs.TableStep.{floats_at_router, leg_at, router_at, table_view, tagged_leg, way_at, ways_at}
 use Rattle.plane_types.specs.declared.table.FloatRow.{FloatRow}
 use Rattle.plane_types.specs.declared.table.RouteRow.{RouteRow}
@@ -43,7 +44,7 @@ legs_same rows tags (p ∷ ps) h = go (tag_of tags p.network) h.0 (legs_same row
     go None k rest = cc
     go (Some tag) k rest = ap (λ ls. leg_of p ∷ ls) rest
 
-module _ (rows : RowLists) (host : List ℕ) (t : TableLists) (real : HostFacts rows host t) (good : FrameFacts rows) (test : RouterRow → Bool) (r : RouterRow) (found : find test rows.routers ≡ Some r) (here : hosted host r ≡ true) where
+module _ (rows : RowLists) (host : List ℕ) (t : TableLists) (real : HostFacts rows host t) (good : FrameFacts rows) (test : RouterRow → Bool) (r : RouterRow) (found : find test rows.routers ≡ Some r) (here : is_on_host host r ≡ true) where
   by-id : find (λ (z : RouterRow). ident_eq r.id z.id) rows.routers ≡ Some r
   by-id = find-only test (λ (z : RouterRow). ident_eq r.id z.id) rows.routers r (good.router_ids r.id) found (ident_itself r.id)
 
@@ -51,8 +52,8 @@ module _ (rows : RowLists) (host : List ℕ) (t : TableLists) (real : HostFacts 
   unfolding router_rows
   router-located =
       ap (find (λ (x : RouterTable). ident_eq r.id x.router)) real.routers
-      ∙ find-filter_map (λ (z : RouterRow). ident_eq r.id z.id) (λ (x : RouterTable). ident_eq r.id x.router) (λ z. if hosted host z then Some (router_row rows t.tags z) else None) rows.routers (λ z row e. hit z row (hosted host z) e) (good.router_ids r.id)
-      ∙ ap (option_and_then (λ z. if hosted host z then Some (router_row rows t.tags z) else None)) by-id
+      ∙ find-filter_map (λ (z : RouterRow). ident_eq r.id z.id) (λ (x : RouterTable). ident_eq r.id x.router) (λ z. if is_on_host host z then Some (router_row rows t.tags z) else None) rows.routers (λ z row e. hit z row (is_on_host host z) e) (good.router_ids r.id)
+      ∙ ap (option_and_then (λ z. if is_on_host host z then Some (router_row rows t.tags z) else None)) by-id
       ∙ ap (λ b. if b then Some (router_row rows t.tags r) else None) here
     where
       hit : (z : RouterRow) (row : RouterTable) (b : Bool) → (if b then Some (router_row rows t.tags z) else None) ≡ Some row → ident_eq r.id row.router ≡ ident_eq r.id z.id
@@ -69,7 +70,7 @@ module _ (rows : RowLists) (host : List ℕ) (t : TableLists) (real : HostFacts 
       let names = and_parts (is_router_port p.owner) (device_is p.device r.id) parts.0 in
       let stands : RouterPortStands rows p = find-each (RouterPortStands rows) (has_id p.id) rows.ports p good.router_ports e in
       let router_is : router_of rows p ≡ Some r = find-only test (λ (z : RouterRow). device_is p.device z.id) rows.routers r (good.router_names p.device) found names.1 in
-      let at : hosted p.host r ≡ true = ap (is_hosted p.host) (sym router_is) ∙ stands names.0 parts.1 in
+      let at : is_on_host p.host r ≡ true = ap (is_hosted p.host) (sym router_is) ∙ stands names.0 parts.1 in
       both r.host at here
     where
       both : (o : Option (List ℕ)) → is_host_of p.host o ≡ true → is_host_of host o ≡ true → p.host ≡ host
@@ -90,7 +91,7 @@ module _ (rows : RowLists) (host : List ℕ) (t : TableLists) (real : HostFacts 
   unfolding route_rows
   ways-same =
       ap (ways_at r.id) real.routes
-      ∙ filter_map-one (λ (z : RouterRow). ident_eq r.id z.id) (λ (x : RouteRow). if ident_eq r.id x.router then Some (way_at x) else None) (λ z. if hosted host z then map (route_row z.id) (ways_of rows z) else []) rows.routers r (good.router_ids r.id) by-id (λ z e. other z e (hosted host z))
+      ∙ filter_map-one (λ (z : RouterRow). ident_eq r.id z.id) (λ (x : RouteRow). if ident_eq r.id x.router then Some (way_at x) else None) (λ z. if is_on_host host z then map (route_row z.id) (ways_of rows z) else []) rows.routers r (good.router_ids r.id) by-id (λ z e. other z e (is_on_host host z))
       ∙ ap (λ b. ways_at r.id (if b then map (route_row r.id) (ways_of rows r) else [])) here
       ∙ ways_one r.id r.id true (ident_itself r.id) (ways_of rows r)
     where
@@ -107,14 +108,14 @@ module _ (rows : RowLists) (host : List ℕ) (t : TableLists) (real : HostFacts 
 
       go : (o : Option Target) → floats_at_router r.id (filter_map (λ (f : FloatingRow). float_row_by rows host f f.target) fs) ≡ filter_map (λ (f : FloatingRow). float_by r.id f f.target) fs → floats_at_router r.id (cons_option (float_row_by rows host f o) (filter_map (λ (f : FloatingRow). float_row_by rows host f f.target) fs)) ≡ cons_option (float_by r.id f o) (filter_map (λ (f : FloatingRow). float_by r.id f f.target) fs)
       go None h = h
-      go (Some x) h = by (ident_eq r.id x.router) (is_hosted host (router_named rows x.router)) refl refl
+      go (Some x) h = by (ident_eq r.id x.router) (is_hosted host (router_with rows x.router)) refl refl
         where
-          by : (b c : Bool) → ident_eq r.id x.router ≡ b → is_hosted host (router_named rows x.router) ≡ c → floats_at_router r.id (cons_option (if c then Some (record { router = x.router; floating = f.address; fixed = x.fixed }) else None) (filter_map (λ (f : FloatingRow). float_row_by rows host f f.target) fs)) ≡ cons_option (if b then Some (record { floating = f.address; fixed = x.fixed }) else None) (filter_map (λ (f : FloatingRow). float_by r.id f f.target) fs)
+          by : (b c : Bool) → ident_eq r.id x.router ≡ b → is_hosted host (router_with rows x.router) ≡ c → floats_at_router r.id (cons_option (if c then Some (record { router = x.router; floating = f.address; fixed = x.fixed }) else None) (filter_map (λ (f : FloatingRow). float_row_by rows host f f.target) fs)) ≡ cons_option (if b then Some (record { floating = f.address; fixed = x.fixed }) else None) (filter_map (λ (f : FloatingRow). float_by r.id f f.target) fs)
           by true true e k = ap (λ b. cons_option (if b then Some (record { floating = f.address; fixed = x.fixed }) else None) (floats_at_router r.id (filter_map (λ (f : FloatingRow). float_row_by rows host f f.target) fs))) e ∙ ap (λ l. record { floating = f.address; fixed = x.fixed } ∷ l) h
           by false true e k = ap (λ b. cons_option (if b then Some (record { floating = f.address; fixed = x.fixed }) else None) (floats_at_router r.id (filter_map (λ (f : FloatingRow). float_row_by rows host f f.target) fs))) e ∙ h
           by false false e k = h
           by true false e k =
-              let named : router_named rows x.router ≡ Some r = ap (λ i. router_named rows i) (sym (ident_same r.id x.router e)) ∙ by-id in
+              let named : router_with rows x.router ≡ Some r = ap (λ i. router_with rows i) (sym (ident_same r.id x.router e)) ∙ by-id in
               let bad : true ≡ false = sym here ∙ ap (is_hosted host) (sym named) ∙ k in
               cc
 

@@ -7,9 +7,9 @@ use Rattle.plane_laws.proofs.EntriesLaw.{uses-append}
 use Rattle.plane_laws.proofs.LandsLaw.{passage-same}
 use Rattle.plane_laws.proofs.RouterTables.{routed-same}
 use Rattle.api_types.specs.Ident.{Ident}
+use Rattle.api_types.specs.RowsWith.{port_with}
 use Rattle.api_types.specs.Owners.{is_router_port}
 use Rattle.api_types.specs.RowLists.{RowLists}
-use Rattle.api_types.specs.Table.{row_of}
 use Rattle.api_types.specs.declared.group.Direction.{Direction}
 use Rattle.api_types.specs.declared.group.Direction.TheVariants.{Egress, Ingress}
 use Rattle.api_types.specs.declared.network.NetworkRow.{NetworkRow}
@@ -19,7 +19,7 @@ use Rattle.plane_types.specs.Entries.{has_flow, is_flow}
 use Rattle.plane_types.specs.Filter.{rules_allow}
 use Rattle.plane_types.specs.Guard.{passes_guard}
 use Rattle.api_types.specs.Holders.{port_at, router_of}
-use Rattle.plane_types.specs.Meaning.{Onward, Trace, arrived, at_router, delivered_by, dropped, from_port, from_sender, from_wire, got, handed, life_of, may_begin, none_so_far, on_path, received, rows_fate, rows_passage, sent_out, wire_packet}
+use Rattle.plane_types.specs.Meaning.{Onward, Trace, fate_at_port, at_router, delivered_by, drop_fate, from_port, from_sender, from_wire, port_fate, after_router, life_of, may_begin, none_so_far, on_path, at_receiver, rows_fate, rows_passage, sent_out, wire_packet}
 use Rattle.api_types.specs.Wires.{network_on}
 use Rattle.plane_types.specs.Packets.{Packet, is_unsupported, key_of, packet}
 use Rattle.api_types.specs.RouterRows.{leg_of, router_view}
@@ -48,31 +48,31 @@ module _ (rows : RowLists) (a b : List Entry) (same : SameEntries a b) where
   passage-more : (c : List Entry) (q : PortRow) (d : Direction) (p : Packet) → rows_passage rows (a ++ c) q d p ≡ rows_passage rows (b ++ c) q d p
   passage-more c q d p = passage-same q.secured (rules_allow rows q) (rules_allow rows q) (a ++ c) (b ++ c) q.id d (key_of p) (λ s d k. refl) (flows-more c q.id)
 
-  arrived-same : (on : Onward) (q : PortRow) (p : Packet) (t : Trace) → arrived rows a on q p t ≡ arrived rows b on q p t
+  arrived-same : (on : Onward) (q : PortRow) (p : Packet) (t : Trace) → fate_at_port rows a on q p t ≡ fate_at_port rows b on q p t
   arrived-same on q p t = go (is_router_port q.owner) (router_of rows q)
     where
       by : (o : Option RouterRow) → at_router rows a on q p t o ≡ at_router rows b on q p t o
       by None = refl
-      by (Some r) = ap (handed rows on r t) (routed-same (router_view rows r) (a ++ t.fresh) (b ++ t.fresh) (leg_of q) p (uses-more t.fresh (router_view rows r).snat (router_view rows r).gateway (router_view rows r).id))
+      by (Some r) = ap (after_router rows on r t) (routed-same (router_view rows r) (a ++ t.fresh) (b ++ t.fresh) (leg_of q) p (uses-more t.fresh (router_view rows r).snat (router_view rows r).gateway (router_view rows r).id))
 
-      go : (c : Bool) (o : Option RouterRow) → (if c then at_router rows a on q p t o else received rows a q p t) ≡ (if c then at_router rows b on q p t o else received rows b q p t)
+      go : (c : Bool) (o : Option RouterRow) → (if c then at_router rows a on q p t o else at_receiver rows a q p t) ≡ (if c then at_router rows b on q p t o else at_receiver rows b q p t)
       go true o = by o
       go false o = ap (delivered_by q p t) (passage-more t.fresh q Ingress p)
 
-  got-same : (many : ℕ) → got rows a many ≡ got rows b many
-  unfolding got
+  got-same : (many : ℕ) → port_fate rows a many ≡ port_fate rows b many
+  unfolding port_fate
   got-same zero = refl
-  got-same (suc many) = λ i q p t. (ap (λ on. arrived rows a on q p t) (got-same many) ∙ arrived-same (got rows b many) q p t) i
+  got-same (suc many) = λ i q p t. (ap (λ on. fate_at_port rows a on q p t) (got-same many) ∙ arrived-same (port_fate rows b many) q p t) i
 
   port-same : (many : ℕ) (frame : Frame) (o : Option PortRow) → from_port rows a many frame o ≡ from_port rows b many frame o
   port-same many frame None = refl
-  port-same many frame (Some p) = ap (λ f. if may_begin rows p then f else dropped none_so_far Dead) (ap (λ f. if is_unsupported frame then dropped (record { path = p.network ∷ []; fresh = [] }) Unsupported else if not (passes_guard p frame) then dropped (record { path = p.network ∷ []; fresh = [] }) Spoof else f) (sender frame))
+  port-same many frame (Some p) = ap (λ f. if may_begin rows p then f else drop_fate none_so_far Dead) (ap (λ f. if is_unsupported frame then drop_fate (record { path = p.network ∷ []; fresh = [] }) Unsupported else if not (passes_guard p frame) then drop_fate (record { path = p.network ∷ []; fresh = [] }) Spoof else f) (sender frame))
     where
       t : Trace
       t = record { path = p.network ∷ []; fresh = [] }
 
       sender : (frame : Frame) → from_sender rows a many p (record { path = p.network ∷ []; fresh = [] }) frame ≡ from_sender rows b many p (record { path = p.network ∷ []; fresh = [] }) frame
-      sender (Ip src dst ends ttl part) = ap (λ on. sent_out rows on p (packet src dst ends ttl part) (record { path = p.network ∷ []; fresh = [] }) (rows_passage rows (a ++ []) p Egress (packet src dst ends ttl part))) (got-same many) ∙ ap (sent_out rows (got rows b many) p (packet src dst ends ttl part) (record { path = p.network ∷ []; fresh = [] })) (passage-more [] p Egress (packet src dst ends ttl part))
+      sender (Ip src dst ends ttl part) = ap (λ on. sent_out rows on p (packet src dst ends ttl part) (record { path = p.network ∷ []; fresh = [] }) (rows_passage rows (a ++ []) p Egress (packet src dst ends ttl part))) (got-same many) ∙ ap (sent_out rows (port_fate rows b many) p (packet src dst ends ttl part) (record { path = p.network ∷ []; fresh = [] })) (passage-more [] p Egress (packet src dst ends ttl part))
       sender (NeighbourAsk src ends) = refl
       sender (Dhcp src from) = refl
       sender (Other s d y) = refl
@@ -90,5 +90,5 @@ module _ (rows : RowLists) (a b : List Entry) (same : SameEntries a b) where
 
   pub verdict-same : (e : Event) → rows_fate rows a e ≡ rows_fate rows b e
   unfolding rows_fate
-  verdict-same (FromPort port frame) = port-same (life_of frame) frame (row_of (λ (p : PortRow). p.id) port rows.ports)
-  verdict-same (FromWire physical tag frame) = ap (λ v. if is_unsupported frame then dropped none_so_far Unsupported else v) (wire-same (life_of frame) frame (network_on rows (record { physical = physical; tag = tag })))
+  verdict-same (FromPort port frame) = port-same (life_of frame) frame (port_with rows port)
+  verdict-same (FromWire physical tag frame) = ap (λ v. if is_unsupported frame then drop_fate none_so_far Unsupported else v) (wire-same (life_of frame) frame (network_on rows (record { physical = physical; tag = tag })))

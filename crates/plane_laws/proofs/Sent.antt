@@ -13,7 +13,7 @@ use Rattle.api_types.specs.RowLists.{RowLists}
 use Rattle.api_types.specs.Table.{ident_eq}
 use Rattle.api_types.specs.declared.port.PortRow.{PortRow}
 use Rattle.api_types.specs.declared.router.RouterRow.{RouterRow}
-use Rattle.plane_types.specs.Fabric.{Run, after_step, step_path, taken, walk}
+use Rattle.plane_types.specs.Fabric.{Run, after_step, step_path, fate_after, walk}
 use Rattle.api_types.specs.Holders.{has_mac, port_at, router_of}
 use Rattle.plane_types.specs.Hosts.{Host}
 use Rattle.api_types.specs.Live.{is_live, segment, is_at}
@@ -22,7 +22,7 @@ use Rattle.plane_types.specs.Meaning.{Trace}
 use Rattle.plane_types.specs.Packets.{Packet, ip_frame}
 use Rattle.plane_types.specs.Places.{Next, Place, RouterIn, Step, TapOut, TunnelIn}
 use Rattle.plane_types.specs.TableRows.{bridge_by, carrier_of, end_of, is_hosted, mac_row, tag_of, to_here, to_router, to_there}
-use Rattle.plane_types.specs.TableStep.{bridge_at, bridge_at_tag, bridge_step, bridged_by, carrier_eq, inward_at, inward_step, led, plain, table_step}
+use Rattle.plane_types.specs.TableStep.{bridge_at, bridge_at_tag, bridge_step, bridged_by, carrier_eq, inward_at, inward_step, target_step, plain, table_step}
 use Rattle.plane_types.specs.declared.table.BridgeKey.TheVariants.{Mac as AtMac}
 use Rattle.plane_types.specs.declared.table.BridgeTo.{BridgeTo}
 use Rattle.plane_types.specs.declared.table.BridgeTo.TheVariants.{Tunnel as ToHost, Router as ToRouter, Tap as ToTap}
@@ -40,10 +40,10 @@ place_of (ToTap i) p = TapOut i (ip_frame p)
 place_of (ToRouter r i) p = RouterIn i r (ip_frame p)
 place_of (ToHost h n) p = TunnelIn n (ip_frame p)
 
-pub walk-on : (hosts : List Host) (n : ℕ) (h : Host) (place : Place) (run : Run) → 0 < n → walk hosts n h place run ≡ taken hosts (walk hosts (n - 1)) h place run (table_step h.tables (h.entries ++ run.fresh) place)
+pub walk-on : (hosts : List Host) (n : ℕ) (h : Host) (place : Place) (run : Run) → 0 < n → walk hosts n h place run ≡ fate_after hosts (walk hosts (n - 1)) h place run (table_step h.tables (h.entries ++ run.fresh) place)
 unfolding walk
 walk-on hosts zero h place run more = absurd (omega arith)
-walk-on hosts (suc n) h place run more = let e : n ≡ suc n - 1 = omega arith in ap (λ m. taken hosts (walk hosts m) h place run (table_step h.tables (h.entries ++ run.fresh) place)) e
+walk-on hosts (suc n) h place run more = let e : n ≡ suc n - 1 = omega arith in ap (λ m. fate_after hosts (walk hosts m) h place run (table_step h.tables (h.entries ++ run.fresh) place)) e
 
 -- a step that makes no entry and adds nothing to the path
 pub trace-plain : (h : Host) (place : Place) (s : Step) (run : Run) → step_path h place s ≡ [] → trace_of (after_step h place (plain s) run) ≡ trace_of run
@@ -90,7 +90,7 @@ module _ (rows : RowLists) (good : FrameFacts rows) (host : List ℕ) (t : Table
   pub row-located : (to : Option BridgeTo) → end_of rows host q ≡ to → bridge_at t tag (AtMac p.dst) ≡ bridge_by (AtMac q.mac) to (Some tag)
   row-located to e = bridge-located rows host t real good n tag is_tagged p.dst ∙ ap (option_and_then (mac_row rows host t.tags)) found ∙ row-is to e
 
-  pub step-located : (inner : Bool) (to : BridgeTo) → end_of rows host q ≡ Some to → bridge_step t inner tag (ip_frame p) ≡ led inner tag (ip_frame p) to
+  pub step-located : (inner : Bool) (to : BridgeTo) → end_of rows host q ≡ Some to → bridge_step t inner tag (ip_frame p) ≡ target_step inner tag (ip_frame p) to
   step-located inner to e =
       ap (bridge_at_tag t inner (ip_frame p)) (tag-row rows host t.tags real.tags n tag is_tagged)
       ∙ ap (bridged_by inner (record { network = n; tag = tag; wire = wire_of (segment rows n) }) (TowardMac p.dst) (ip_frame p) Unknown) (row-located (Some to) e)
@@ -106,7 +106,7 @@ module _ (rows : RowLists) (good : FrameFacts rows) (host : List ℕ) (t : Table
   pub end-away : is_at host q ≡ false → end_of rows host q ≡ to_there (segment rows n) q
   end-away away = ap (λ b. if b then to_here rows q else to_there (segment rows q.network) q) away ∙ ap (λ i. to_there (segment rows i) q) (sym network-found)
 
-pub led-here : (rows : RowLists) (q : PortRow) (to : BridgeTo) → to_here rows q ≡ Some to → (inner : Bool) (tag : ℕ) (p : Packet) → led inner tag (ip_frame p) to ≡ Next (place_of to p)
+pub led-here : (rows : RowLists) (q : PortRow) (to : BridgeTo) → to_here rows q ≡ Some to → (inner : Bool) (tag : ℕ) (p : Packet) → target_step inner tag (ip_frame p) to ≡ Next (place_of to p)
 led-here rows q (ToTap i) e inner tag p = refl
 led-here rows q (ToRouter r i) e inner tag p = refl
 led-here rows q (ToHost h m) e inner tag p = absurd (go (is_router_port q.owner) (router_of rows q) e)

@@ -15,12 +15,13 @@ use Rattle.api_types.specs.declared.network.NetworkRow.{NetworkRow}
 use Rattle.api_types.specs.declared.network.Segment.{Segment}
 use Rattle.api_types.specs.declared.network.Segment.TheVariants.{Flat, Local, Vlan, Vxlan}
 use Rattle.api_types.specs.declared.port.PortRow.{PortRow}
-use Rattle.plane_types.specs.Fabric.{Run, after_step, finished, meant, moved, step_path, taken, takes, takes_at, takes_to, tunnelled, walk, wired}
+use Rattle.plane_types.specs.Fabric.{Run, after_step, fate_of_run, meant, next_position, step_path, fate_after, takes, takes_at, takes_to, over_tunnel, walk, over_wire}
 use Rattle.api_types.specs.Holders.{has_mac, port_at}
 use Rattle.plane_types.specs.Hosts.{Host, all_entries, is_named}
-use Rattle.api_types.specs.Live.{is_joined, is_live, is_local, joined_with, network_of, segment, is_at}
+use Rattle.api_types.specs.Live.{is_joined, is_live, is_local, joined_with, segment, is_at}
+use Rattle.api_types.specs.RowsWith.{network_with}
 use Rattle.api_types.specs.Wires.{tag_eq, wire_eq, wire_of}
-use Rattle.plane_types.specs.Meaning.{ended, got, out_of, out_or, sent_on, sent_to}
+use Rattle.plane_types.specs.Meaning.{end_fate, port_fate, out_of, out_or, sent_on, sent_to}
 use Rattle.plane_types.specs.Packets.{Packet, ip_frame}
 use Rattle.plane_types.specs.Places.{Bridge, End, Next, Place, Step, ToTunnel, ToWire, TunnelIn, WireIn}
 use Rattle.plane_types.specs.TableRows.{bridge_by, carrier_of, mac_row, tag_of, to_here, to_there}
@@ -68,7 +69,7 @@ takes_here p rows q (ToRouter r i) e tag = refl
 takes_here p rows q (ToHost h m) e tag = let l = led-here rows q (ToHost h m) e true tag p in cc
 
 -- a host takes a packet from a wire where the port with its MAC is there
-module _ (rows : RowLists) (good : FrameFacts rows) (n : Ident) (net : NetworkRow) (there : network_of rows n ≡ Some net) (w : Wire) (wired_by : wire_of (segment rows n) ≡ Some w) (p : Packet) where
+module _ (rows : RowLists) (good : FrameFacts rows) (n : Ident) (net : NetworkRow) (there : network_with rows n ≡ Some net) (w : Wire) (wired_by : wire_of (segment rows n) ≡ Some w) (p : Packet) where
   pub takes-law : (x : Host) → HostFacts rows x.name x.tables → takes w (ip_frame p) x ≡ at_opt x.name (port_at rows n p.dst)
   takes-law x real = go (tag_of x.tables.tags n) refl
     where
@@ -106,13 +107,13 @@ module _ (rows : RowLists) (good : FrameFacts rows) (n : Ident) (net : NetworkRo
 
 -- a packet that stands before a port and can still pass so many routers comes to what the rows say
 abbrev pub Lands : RowLists → List Host → ℕ → Type 0
-Lands rows hosts many = (steps : ℕ) (test : PortRow → Bool) (q : PortRow) (h : Host) (to : BridgeTo) (p : Packet) (run : Run) → 3 * many + 1 ≤ steps → find test rows.ports ≡ Some q → is_live rows q ≡ true → find (is_named q.host) hosts ≡ Some h → to_here rows q ≡ Some to → p.ttl < many → meant (walk hosts steps h (place_of to p) run) ≡ got rows (all_entries hosts) many q p (trace_of run)
+Lands rows hosts many = (steps : ℕ) (test : PortRow → Bool) (q : PortRow) (h : Host) (to : BridgeTo) (p : Packet) (run : Run) → 3 * many + 1 ≤ steps → find test rows.ports ≡ Some q → is_live rows q ≡ true → find (is_named q.host) hosts ≡ Some h → to_here rows q ≡ Some to → p.ttl < many → meant (walk hosts steps h (place_of to p) run) ≡ port_fate rows (all_entries hosts) many q p (trace_of run)
 
 module _ (rows : RowLists) (hosts : List Host) (good : FrameFacts rows) (synced : SyncedFacts rows hosts) (many : ℕ) (lands : Lands rows hosts many) where
   -- what comes by a carrier to a host with the port gets to it
   pub carried : (steps : ℕ) (x : Host) (place : Place) (run : Run) (c : Carrier) (n : Ident) (p : Packet) (q : PortRow) → 3 * many + 2 ≤ steps → find (is_named q.host) hosts ≡ Some x → port_at rows n p.dst ≡ Some q → carrier_of (segment rows n) ≡ Some c → carrier_eq c c ≡ true → p.ttl < many
       → table_step x.tables (x.entries ++ run.fresh) place ≡ plain (inward_step x.tables (ip_frame p) (inward_at x.tables c)) → ((s : Step) → step_path x place s ≡ [])
-      → meant (walk hosts steps x place run) ≡ got rows (all_entries hosts) many q p (trace_of run)
+      → meant (walk hosts steps x place run) ≡ port_fate rows (all_entries hosts) many q p (trace_of run)
   carried steps x place run c n p q enough named found segment_is self lives step quiet =
       let hit = find-passes (has_mac rows n p.dst) rows.ports q found in
       let live : is_live rows q ≡ true = (and_parts (ident_eq n q.network && (q.mac == p.dst)) (is_live rows q) hit).1 in
@@ -121,25 +122,25 @@ module _ (rows : RowLists) (hosts : List Host) (good : FrameFacts rows) (synced 
       let to = end-here rows good (has_mac rows n p.dst) q found live in
       let is : table_step x.tables (x.entries ++ run.fresh) place ≡ plain (Next (place_of to.0 p)) = step ∙ ap plain (inner-step rows good x.name x.tables real n p q found here c segment_is self to.0 to.1) in
       ap meant (walk-on hosts steps x place run (omega arith))
-      ∙ ap (λ s. meant (taken hosts (walk hosts (steps - 1)) x place run s)) is
+      ∙ ap (λ s. meant (fate_after hosts (walk hosts (steps - 1)) x place run s)) is
       ∙ lands (steps - 1) (has_mac rows n p.dst) q x to.0 p (after_step x place (plain (Next (place_of to.0 p))) run) (omega arith) found live named to.1 lives
-      ∙ ap (got rows (all_entries hosts) many q p) (trace-plain x place (Next (place_of to.0 p)) run (quiet (Next (place_of to.0 p))))
+      ∙ ap (port_fate rows (all_entries hosts) many q p) (trace-plain x place (Next (place_of to.0 p)) run (quiet (Next (place_of to.0 p))))
 
-  module _ (steps : ℕ) (h : Host) (n : Ident) (net : NetworkRow) (tag : ℕ) (p : Packet) (run : Run) (enough : 3 * many + 3 ≤ steps) (named : find (is_named h.name) hosts ≡ Some h) (there : network_of rows n ≡ Some net) (is_tagged : tag_of h.tables.tags n ≡ Some tag) (lives : p.ttl < many) where
+  module _ (steps : ℕ) (h : Host) (n : Ident) (net : NetworkRow) (tag : ℕ) (p : Packet) (run : Run) (enough : 3 * many + 3 ≤ steps) (named : find (is_named h.name) hosts ≡ Some h) (there : network_with rows n ≡ Some net) (is_tagged : tag_of h.tables.tags n ≡ Some tag) (lives : p.ttl < many) where
     real : HostFacts rows h.name h.tables
     real = find-each (λ (y : Host). HostFacts rows y.name y.tables) (is_named h.name) hosts h synced.realise named
 
     -- the walk goes on by the bridge's step
-    by-step : (s : Step) → bridge_step h.tables false tag (ip_frame p) ≡ s → meant (walk hosts steps h (Bridge tag (ip_frame p)) run) ≡ meant (moved hosts (walk hosts (steps - 1)) h (after_step h (Bridge tag (ip_frame p)) (plain s) run) s)
-    by-step s e = ap meant (walk-on hosts steps h (Bridge tag (ip_frame p)) run (omega arith)) ∙ ap (λ x. meant (moved hosts (walk hosts (steps - 1)) h (after_step h (Bridge tag (ip_frame p)) (plain x) run) x)) e
+    by-step : (s : Step) → bridge_step h.tables false tag (ip_frame p) ≡ s → meant (walk hosts steps h (Bridge tag (ip_frame p)) run) ≡ meant (next_position hosts (walk hosts (steps - 1)) h (after_step h (Bridge tag (ip_frame p)) (plain s) run) s)
+    by-step s e = ap meant (walk-on hosts steps h (Bridge tag (ip_frame p)) run (omega arith)) ∙ ap (λ x. meant (next_position hosts (walk hosts (steps - 1)) h (after_step h (Bridge tag (ip_frame p)) (plain x) run) x)) e
 
-    ends : (o : Outcome) → meant (finished (after_step h (Bridge tag (ip_frame p)) (plain (End o None)) run) o) ≡ ended (trace_of run) o
-    ends o = ap (λ t. ended t o) (trace-plain h (Bridge tag (ip_frame p)) (End o None) run refl)
+    ends : (o : Outcome) → meant (fate_of_run (after_step h (Bridge tag (ip_frame p)) (plain (End o None)) run) o) ≡ end_fate (trace_of run) o
+    ends o = ap (λ t. end_fate t o) (trace-plain h (Bridge tag (ip_frame p)) (End o None) run refl)
 
     takers : (w : Wire) → wire_of (segment rows n) ≡ Some w → (o : Option PortRow) → port_at rows n p.dst ≡ o → AllOf (λ (x : Host). takes w (ip_frame p) x ≡ at_opt x.name o) hosts
     takers w e o f = AllOf-more (λ (y : Host). HostFacts rows y.name y.tables) (λ (x : Host). takes w (ip_frame p) x ≡ at_opt x.name o) hosts (λ x r. takes-law rows good n net there w e p x r ∙ ap (at_opt x.name) f) synced.realise
 
-    nobody : port_at rows n p.dst ≡ None → meant (walk hosts steps h (Bridge tag (ip_frame p)) run) ≡ sent_on rows (got rows (all_entries hosts) many) n h.name p (trace_of run)
+    nobody : port_at rows n p.dst ≡ None → meant (walk hosts steps h (Bridge tag (ip_frame p)) run) ≡ sent_on rows (port_fate rows (all_entries hosts) many) n h.name p (trace_of run)
     nobody e = by (wire_of (segment rows n)) refl
       where
         row : TagRow
@@ -149,19 +150,19 @@ module _ (rows : RowLists) (hosts : List Host) (good : FrameFacts rows) (synced 
         step = ap (bridge_at_tag h.tables false (ip_frame p)) (tag-row rows h.name h.tables.tags real.tags n tag is_tagged)
             ∙ ap (bridged_by false (record { network = n; tag = tag; wire = wire_of (segment rows n) }) (TowardMac p.dst) (ip_frame p) Unknown) (bridge-located rows h.name h.tables real good n tag is_tagged p.dst ∙ ap (option_and_then (mac_row rows h.name h.tables.tags)) e)
 
-        meaning : sent_on rows (got rows (all_entries hosts) many) n h.name p (trace_of run) ≡ ended (trace_of run) (out_of rows n (TowardMac p.dst) (ip_frame p) Unknown)
-        meaning = ap (λ o. sent_to rows (got rows (all_entries hosts) many) n p (trace_of run) (joined_with rows h.name o)) e
+        meaning : sent_on rows (port_fate rows (all_entries hosts) many) n h.name p (trace_of run) ≡ end_fate (trace_of run) (out_of rows n (TowardMac p.dst) (ip_frame p) Unknown)
+        meaning = ap (λ o. sent_to rows (port_fate rows (all_entries hosts) many) n p (trace_of run) (joined_with rows h.name o)) e
 
-        by : (o : Option Wire) → wire_of (segment rows n) ≡ o → meant (walk hosts steps h (Bridge tag (ip_frame p)) run) ≡ sent_on rows (got rows (all_entries hosts) many) n h.name p (trace_of run)
-        by None f = by-step (End (Dropped Unknown) None) (step ∙ ap (λ o. wire_or false n o (TowardMac p.dst) (ip_frame p) Unknown) f) ∙ ends (Dropped Unknown) ∙ sym (meaning ∙ ap (λ o. ended (trace_of run) (out_or o n (TowardMac p.dst) (ip_frame p) Unknown)) f)
+        by : (o : Option Wire) → wire_of (segment rows n) ≡ o → meant (walk hosts steps h (Bridge tag (ip_frame p)) run) ≡ sent_on rows (port_fate rows (all_entries hosts) many) n h.name p (trace_of run)
+        by None f = by-step (End (Dropped Unknown) None) (step ∙ ap (λ o. wire_or false n o (TowardMac p.dst) (ip_frame p) Unknown) f) ∙ ends (Dropped Unknown) ∙ sym (meaning ∙ ap (λ o. end_fate (trace_of run) (out_or o n (TowardMac p.dst) (ip_frame p) Unknown)) f)
         by (Some w) f =
             let none = find-none_each (λ (x : Host). not (bytes_eq x.name h.name) && takes w (ip_frame p) x) hosts (AllOf-more (λ (x : Host). takes w (ip_frame p) x ≡ false) (λ (x : Host). (not (bytes_eq x.name h.name) && takes w (ip_frame p) x) ≡ false) hosts (λ x k. and_right (not (bytes_eq x.name h.name)) (takes w (ip_frame p) x) k) (takers w f None e)) in
             by-step (ToWire w n (TowardMac p.dst) (ip_frame p)) (step ∙ ap (λ o. wire_or false n o (TowardMac p.dst) (ip_frame p) Unknown) f)
-            ∙ ap (λ o. meant (wired (walk hosts (steps - 1)) w n (TowardMac p.dst) (ip_frame p) (after_step h (Bridge tag (ip_frame p)) (plain (ToWire w n (TowardMac p.dst) (ip_frame p))) run) o)) none
-            ∙ ap (λ t. ended t (Out n (TowardMac p.dst) (ip_frame p))) (trace-plain h (Bridge tag (ip_frame p)) (ToWire w n (TowardMac p.dst) (ip_frame p)) run refl)
-            ∙ sym (meaning ∙ ap (λ o. ended (trace_of run) (out_or o n (TowardMac p.dst) (ip_frame p) Unknown)) f)
+            ∙ ap (λ o. meant (over_wire (walk hosts (steps - 1)) w n (TowardMac p.dst) (ip_frame p) (after_step h (Bridge tag (ip_frame p)) (plain (ToWire w n (TowardMac p.dst) (ip_frame p))) run) o)) none
+            ∙ ap (λ t. end_fate t (Out n (TowardMac p.dst) (ip_frame p))) (trace-plain h (Bridge tag (ip_frame p)) (ToWire w n (TowardMac p.dst) (ip_frame p)) run refl)
+            ∙ sym (meaning ∙ ap (λ o. end_fate (trace_of run) (out_or o n (TowardMac p.dst) (ip_frame p) Unknown)) f)
 
-    somebody : (q : PortRow) → port_at rows n p.dst ≡ Some q → meant (walk hosts steps h (Bridge tag (ip_frame p)) run) ≡ sent_on rows (got rows (all_entries hosts) many) n h.name p (trace_of run)
+    somebody : (q : PortRow) → port_at rows n p.dst ≡ Some q → meant (walk hosts steps h (Bridge tag (ip_frame p)) run) ≡ sent_on rows (port_fate rows (all_entries hosts) many) n h.name p (trace_of run)
     somebody q e = by (is_at h.name q) refl
       where
         live : is_live rows q ≡ true
@@ -170,8 +171,8 @@ module _ (rows : RowLists) (hosts : List Host) (good : FrameFacts rows) (synced 
         same : n ≡ q.network
         same = network-found rows good h.name h.tables real n tag is_tagged p q e
 
-        meaning : (b : Bool) → is_joined rows q h.name ≡ b → sent_on rows (got rows (all_entries hosts) many) n h.name p (trace_of run) ≡ sent_to rows (got rows (all_entries hosts) many) n p (trace_of run) (if b then Some q else None)
-        meaning b j = ap (λ o. sent_to rows (got rows (all_entries hosts) many) n p (trace_of run) (joined_with rows h.name o)) e ∙ ap (λ c. sent_to rows (got rows (all_entries hosts) many) n p (trace_of run) (if c then Some q else None)) j
+        meaning : (b : Bool) → is_joined rows q h.name ≡ b → sent_on rows (port_fate rows (all_entries hosts) many) n h.name p (trace_of run) ≡ sent_to rows (port_fate rows (all_entries hosts) many) n p (trace_of run) (if b then Some q else None)
+        meaning b j = ap (λ o. sent_to rows (port_fate rows (all_entries hosts) many) n p (trace_of run) (joined_with rows h.name o)) e ∙ ap (λ c. sent_to rows (port_fate rows (all_entries hosts) many) n p (trace_of run) (if c then Some q else None)) j
 
         joined-is : is_joined rows q h.name ≡ (not (is_local (segment rows n)) || is_at h.name q)
         joined-is = ap (λ i. not (is_local (segment rows i)) || is_at h.name q) (sym same)
@@ -180,7 +181,7 @@ module _ (rows : RowLists) (hosts : List Host) (good : FrameFacts rows) (synced 
         home = some_of (find (is_named q.host) hosts) (find-each (λ (y : PortRow). is_live rows y ≡ true → is_some (find (λ (z : Host). bytes_eq y.host z.name) hosts) ≡ true) (has_mac rows n p.dst) rows.ports q synced.complete e live)
 
         -- by a wire
-        by_wire : is_at h.name q ≡ false → (w : Wire) → wire_of (segment rows n) ≡ Some w → meant (walk hosts steps h (Bridge tag (ip_frame p)) run) ≡ got rows (all_entries hosts) many q p (trace_of run)
+        by_wire : is_at h.name q ≡ false → (w : Wire) → wire_of (segment rows n) ≡ Some w → meant (walk hosts steps h (Bridge tag (ip_frame p)) run) ≡ port_fate rows (all_entries hosts) many q p (trace_of run)
         by_wire away w f =
             let step : bridge_step h.tables false tag (ip_frame p) ≡ ToWire w n (TowardMac p.dst) (ip_frame p) =
             step-unlocated rows good h.name h.tables real n tag is_tagged p q e false (end-away rows good h.name h.tables real n tag is_tagged p q e away ∙ wire_away (segment rows n) w q f)
@@ -190,9 +191,9 @@ module _ (rows : RowLists) (hosts : List Host) (good : FrameFacts rows) (synced 
             (AllOf-more (λ (x : Host). takes w (ip_frame p) x ≡ is_at x.name q) (λ (x : Host). (not (bytes_eq x.name h.name) && takes w (ip_frame p) x) ≡ is_named q.host x) hosts (λ x k. other_taker x k) (takers w f (Some q) e))
             ∙ home.1 in
             by-step (ToWire w n (TowardMac p.dst) (ip_frame p)) step
-            ∙ ap (λ o. meant (wired (walk hosts (steps - 1)) w n (TowardMac p.dst) (ip_frame p) (after_step h (Bridge tag (ip_frame p)) (plain (ToWire w n (TowardMac p.dst) (ip_frame p))) run) o)) taker
+            ∙ ap (λ o. meant (over_wire (walk hosts (steps - 1)) w n (TowardMac p.dst) (ip_frame p) (after_step h (Bridge tag (ip_frame p)) (plain (ToWire w n (TowardMac p.dst) (ip_frame p))) run) o)) taker
             ∙ carried (steps - 1) home.0 (WireIn w (ip_frame p)) (after_step h (Bridge tag (ip_frame p)) (plain (ToWire w n (TowardMac p.dst) (ip_frame p))) run) (ByWire w) n p q (omega arith) home.1 e (wire_carrier (segment rows n) w f) (wire_self w) lives refl (λ s. refl)
-            ∙ ap (got rows (all_entries hosts) many q p) (trace-plain h (Bridge tag (ip_frame p)) (ToWire w n (TowardMac p.dst) (ip_frame p)) run refl)
+            ∙ ap (port_fate rows (all_entries hosts) many q p) (trace-plain h (Bridge tag (ip_frame p)) (ToWire w n (TowardMac p.dst) (ip_frame p)) run refl)
           where
             other_taker : (x : Host) → takes w (ip_frame p) x ≡ is_at x.name q → (not (bytes_eq x.name h.name) && takes w (ip_frame p) x) ≡ bytes_eq q.host x.name
             other_taker x k = ap (λ b. not (bytes_eq x.name h.name) && b) k ∙ go (bytes_eq x.name h.name) (bytes_eq q.host x.name) refl refl
@@ -203,30 +204,30 @@ module _ (rows : RowLists) (hosts : List Host) (good : FrameFacts rows) (synced 
                 go true true k l = let bad : is_at h.name q ≡ true = subst (λ m. bytes_eq q.host m ≡ true) (bytes_same x.name h.name k) l in cc
 
         -- by a tunnel
-        by_tunnel : is_at h.name q ≡ false → (m : ℕ) → segment rows n ≡ Vxlan m → meant (walk hosts steps h (Bridge tag (ip_frame p)) run) ≡ got rows (all_entries hosts) many q p (trace_of run)
+        by_tunnel : is_at h.name q ≡ false → (m : ℕ) → segment rows n ≡ Vxlan m → meant (walk hosts steps h (Bridge tag (ip_frame p)) run) ≡ port_fate rows (all_entries hosts) many q p (trace_of run)
         by_tunnel away m f =
             let step : bridge_step h.tables false tag (ip_frame p) ≡ ToTunnel q.host m (ip_frame p) =
             step-located rows good h.name h.tables real n tag is_tagged p q e false (ToHost q.host m) (end-away rows good h.name h.tables real n tag is_tagged p q e away ∙ ap (λ s. to_there s q) f) in
             by-step (ToTunnel q.host m (ip_frame p)) step
-            ∙ ap (λ o. meant (tunnelled (walk hosts (steps - 1)) m (ip_frame p) (after_step h (Bridge tag (ip_frame p)) (plain (ToTunnel q.host m (ip_frame p))) run) o)) home.1
+            ∙ ap (λ o. meant (over_tunnel (walk hosts (steps - 1)) m (ip_frame p) (after_step h (Bridge tag (ip_frame p)) (plain (ToTunnel q.host m (ip_frame p))) run) o)) home.1
             ∙ carried (steps - 1) home.0 (TunnelIn m (ip_frame p)) (after_step h (Bridge tag (ip_frame p)) (plain (ToTunnel q.host m (ip_frame p))) run) (ByTunnel m) n p q (omega arith) home.1 e (ap carrier_of f) (eq-eqb m m refl) lives refl (λ s. refl)
-            ∙ ap (got rows (all_entries hosts) many q p) (trace-plain h (Bridge tag (ip_frame p)) (ToTunnel q.host m (ip_frame p)) run refl)
+            ∙ ap (port_fate rows (all_entries hosts) many q p) (trace-plain h (Bridge tag (ip_frame p)) (ToTunnel q.host m (ip_frame p)) run refl)
 
         joined_far : is_local (segment rows n) ≡ false → is_joined rows q h.name ≡ true
         joined_far k = joined-is ∙ ap (λ b. not b || is_at h.name q) k
 
-        far : is_at h.name q ≡ false → (s : Segment) → segment rows n ≡ s → meant (walk hosts steps h (Bridge tag (ip_frame p)) run) ≡ sent_on rows (got rows (all_entries hosts) many) n h.name p (trace_of run)
+        far : is_at h.name q ≡ false → (s : Segment) → segment rows n ≡ s → meant (walk hosts steps h (Bridge tag (ip_frame p)) run) ≡ sent_on rows (port_fate rows (all_entries hosts) many) n h.name p (trace_of run)
         far away Local f =
             let step : bridge_step h.tables false tag (ip_frame p) ≡ End (Dropped Unknown) None =
             step-unlocated rows good h.name h.tables real n tag is_tagged p q e false (end-away rows good h.name h.tables real n tag is_tagged p q e away ∙ ap (λ s. to_there s q) f)
             ∙ ap (λ s. wire_or false n (wire_of s) (TowardMac p.dst) (ip_frame p) Unknown) f in
             by-step (End (Dropped Unknown) None) step ∙ ends (Dropped Unknown)
-            ∙ sym (meaning false (joined-is ∙ ap (λ s. not (is_local s) || is_at h.name q) f ∙ away) ∙ ap (λ s. ended (trace_of run) (out_or (wire_of s) n (TowardMac p.dst) (ip_frame p) Unknown)) f)
+            ∙ sym (meaning false (joined-is ∙ ap (λ s. not (is_local s) || is_at h.name q) f ∙ away) ∙ ap (λ s. end_fate (trace_of run) (out_or (wire_of s) n (TowardMac p.dst) (ip_frame p) Unknown)) f)
         far away (Flat x) f = by_wire away (record { physical = x; tag = None }) (ap wire_of f) ∙ sym (meaning true (joined_far (ap is_local f)))
         far away (Vlan x v) f = by_wire away (record { physical = x; tag = Some v }) (ap wire_of f) ∙ sym (meaning true (joined_far (ap is_local f)))
         far away (Vxlan m) f = by_tunnel away m f ∙ sym (meaning true (joined_far (ap is_local f)))
 
-        by : (b : Bool) → is_at h.name q ≡ b → meant (walk hosts steps h (Bridge tag (ip_frame p)) run) ≡ sent_on rows (got rows (all_entries hosts) many) n h.name p (trace_of run)
+        by : (b : Bool) → is_at h.name q ≡ b → meant (walk hosts steps h (Bridge tag (ip_frame p)) run) ≡ sent_on rows (port_fate rows (all_entries hosts) many) n h.name p (trace_of run)
         by false away = far away (segment rows n) refl
         by true here =
             let to = end-here rows good (has_mac rows n p.dst) q e live in
@@ -235,13 +236,13 @@ module _ (rows : RowLists) (hosts : List Host) (good : FrameFacts rows) (synced 
             let mine : find (is_named q.host) hosts ≡ Some h = ap (λ m. find (is_named m) hosts) (bytes_same q.host h.name here) ∙ named in
             by-step (Next (place_of to.0 p)) step
             ∙ lands (steps - 1) (has_mac rows n p.dst) q h to.0 p (after_step h (Bridge tag (ip_frame p)) (plain (Next (place_of to.0 p))) run) (omega arith) e live mine to.1 lives
-            ∙ ap (got rows (all_entries hosts) many q p) (trace-plain h (Bridge tag (ip_frame p)) (Next (place_of to.0 p)) run refl)
+            ∙ ap (port_fate rows (all_entries hosts) many q p) (trace-plain h (Bridge tag (ip_frame p)) (Next (place_of to.0 p)) run refl)
             ∙ sym (meaning true (joined-is ∙ or_right (not (is_local (segment rows n))) (is_at h.name q) here))
 
     -- a packet on a bridge comes to what the rows say
-    pub sent-law : meant (walk hosts steps h (Bridge tag (ip_frame p)) run) ≡ sent_on rows (got rows (all_entries hosts) many) n h.name p (trace_of run)
+    pub sent-law : meant (walk hosts steps h (Bridge tag (ip_frame p)) run) ≡ sent_on rows (port_fate rows (all_entries hosts) many) n h.name p (trace_of run)
     sent-law = by (port_at rows n p.dst) refl
       where
-        by : (o : Option PortRow) → port_at rows n p.dst ≡ o → meant (walk hosts steps h (Bridge tag (ip_frame p)) run) ≡ sent_on rows (got rows (all_entries hosts) many) n h.name p (trace_of run)
+        by : (o : Option PortRow) → port_at rows n p.dst ≡ o → meant (walk hosts steps h (Bridge tag (ip_frame p)) run) ≡ sent_on rows (port_fate rows (all_entries hosts) many) n h.name p (trace_of run)
         by None e = nobody e
         by (Some q) e = somebody q e

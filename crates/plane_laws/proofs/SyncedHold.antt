@@ -16,11 +16,12 @@ use Rattle.api_types.specs.declared.network.Segment.{Segment}
 use Rattle.api_types.specs.declared.port.PortRow.{PortRow}
 use Rattle.api_types.specs.declared.router.RouterRow.{RouterRow}
 use Rattle.plane_types.specs.Hosts.{Host, is_named}
-use Rattle.api_types.specs.Live.{is_live, network_of, network_up}
-use Rattle.plane_types.specs.Placed.{is_placed}
+use Rattle.api_types.specs.Live.{is_live, network_up}
+use Rattle.api_types.specs.RowsWith.{network_with}
+use Rattle.plane_types.specs.Attached.{is_attached}
 use Rattle.plane_types.specs.Realises.{Realises, TagStands}
 use Rattle.plane_types.specs.Synced.{AreSynced}
-use Rattle.plane_types.specs.TableRows.{hosted, is_tap, router_row, router_rows, tag_of, tap_of, tap_row, tap_rows}
+use Rattle.plane_types.specs.TableRows.{is_on_host, is_tap, router_row, router_rows, tag_of, tap_of, tap_row, tap_rows}
 use Rattle.plane_types.specs.declared.entry.Entry.{Entry}
 use Rattle.plane_types.specs.declared.entry.Entry.TheVariants.{Flow, Snat}
 use Rattle.plane_types.specs.declared.table.RouterTable.{RouterTable}
@@ -61,17 +62,17 @@ module _ (rows : RowLists) (h : Host) (real : Realises rows h.name h.tables) whe
       go p r true s None is passes = cc
       go p r true s (Some tag) is passes = let same : tap_of p tag ≡ r = cc in both_and (ident_eq port p.id) (is_tap rows h.name p) (ap (λ (x : TapRow). ident_eq port x.port) same ∙ passes) s
 
-  router-here : (router : Ident) → list_any (λ (r : RouterTable). ident_eq router r.router) h.tables.routers ≡ true → list_any (λ (x : RouterRow). ident_eq router x.id && hosted h.name x) rows.routers ≡ true
+  router-here : (router : Ident) → list_any (λ (r : RouterTable). ident_eq router r.router) h.tables.routers ≡ true → list_any (λ (x : RouterRow). ident_eq router x.id && is_on_host h.name x) rows.routers ≡ true
   unfolding router_rows
-  router-here router e = any-made (λ (x : RouterRow). ident_eq router x.id && hosted h.name x) (λ (r : RouterTable). ident_eq router r.router) (λ r. if hosted h.name r then Some (router_row rows h.tables.tags r) else None) rows.routers
-      (λ x r is passes. go x r (hosted h.name x) refl is passes)
+  router-here router e = any-made (λ (x : RouterRow). ident_eq router x.id && is_on_host h.name x) (λ (r : RouterTable). ident_eq router r.router) (λ r. if is_on_host h.name r then Some (router_row rows h.tables.tags r) else None) rows.routers
+      (λ x r is passes. go x r (is_on_host h.name x) refl is passes)
       (sym (ap (list_any (λ (r : RouterTable). ident_eq router r.router)) real.routers) ∙ e)
     where
-      go : (x : RouterRow) (r : RouterTable) (b : Bool) → hosted h.name x ≡ b → (if b then Some (router_row rows h.tables.tags x) else None) ≡ Some r → ident_eq router r.router ≡ true → ident_eq router x.id && hosted h.name x ≡ true
+      go : (x : RouterRow) (r : RouterTable) (b : Bool) → is_on_host h.name x ≡ b → (if b then Some (router_row rows h.tables.tags x) else None) ≡ Some r → ident_eq router r.router ≡ true → ident_eq router x.id && is_on_host h.name x ≡ true
       go x r false s is passes = cc
-      go x r true s is passes = let same : router_row rows h.tables.tags x ≡ r = cc in both_and (ident_eq router x.id) (hosted h.name x) (ap (λ (y : RouterTable). ident_eq router y.router) same ∙ passes) s
+      go x r true s is passes = let same : router_row rows h.tables.tags x ≡ r = cc in both_and (ident_eq router x.id) (is_on_host h.name x) (ap (λ (y : RouterTable). ident_eq router y.router) same ∙ passes) s
 
-  pub entry-stands : (e : Entry) → is_placed h.tables e ≡ true → stands_at rows h.name e ≡ true
+  pub entry-stands : (e : Entry) → is_attached h.tables e ≡ true → stands_at rows h.name e ≡ true
   entry-stands (Flow port d k) p = tap-here port p
   entry-stands (Snat r k o x) p = router-here r p
 
@@ -82,7 +83,7 @@ module _ (carry : List ℕ → Segment → Bool) (rows : RowLists) (hosts : List
   has-host : (p : PortRow) → IsCarried p → is_live rows p ≡ true → is_some (find (λ (h : Host). bytes_eq p.host h.name) hosts) ≡ true
   unfolding is_live
   has-host p is live =
-      let bound = (and_both p.up (is_bound p.vif) (and_both (p.up && is_bound p.vif) (network_up (network_of rows p.network)) live).0).1 in
+      let bound = (and_both p.up (is_bound p.vif) (and_both (p.up && is_bound p.vif) (network_up (network_with rows p.network)) live).0).1 in
       let at = any-at (λ (n : NetworkRow). ident_eq p.network n.id && carry p.host n.segment) rows.networks
       (unless-passes (is_bound p.vif) (list_any (λ (n : NetworkRow). ident_eq p.network n.id && carry p.host n.segment) rows.networks) is bound) in
       let n : NetworkRow = at.1 in

@@ -12,7 +12,8 @@ use Rattle.api_types.specs.RowLists.{RowLists}
 use Rattle.api_types.specs.Table.{ident_eq}
 use Rattle.api_types.specs.declared.network.NetworkRow.{NetworkRow}
 use Rattle.api_types.specs.declared.port.PortRow.{PortRow}
-use Rattle.api_types.specs.Live.{network_of, segment, is_here}
+use Rattle.api_types.specs.Live.{segment, is_here}
+use Rattle.api_types.specs.RowsWith.{network_with}
 use Rattle.api_types.specs.Wires.{wire_of}
 use Rattle.plane_types.specs.TableRows.{carrier_of, inward_row, inward_rows, is_tagged, is_tap, tag_of, tap_of, tap_row, tap_rows}
 use Rattle.plane_types.specs.TableStep.{carrier_eq, inward_at, tap_at}
@@ -39,7 +40,7 @@ module _ (rows : RowLists) (host : List ℕ) (t : TableLists) (real : HostFacts 
   -- the network of a live port here has a tag
   pub tagged : (test : PortRow → Bool) (p : PortRow) → find test rows.ports ≡ Some p → is_here rows host p ≡ true → (tag : ℕ) × (tag_of t.tags p.network ≡ Some tag)
   tagged test p found here =
-      let net = some_of (network_of rows p.network) (find-each (λ (q : PortRow). is_some (network_of rows q.network) ≡ true) test rows.ports p good.networks_stand found) in
+      let net = some_of (network_with rows p.network) (find-each (λ (q : PortRow). is_some (network_with rows q.network) ≡ true) test rows.ports p good.networks_stand found) in
       let id : ident_eq p.network (net.0).id ≡ true = find-passes (λ (n : NetworkRow). ident_eq p.network n.id) rows.networks net.0 net.1 in
       let is = ident_same p.network (net.0).id id in
       let tagged : is_tagged rows host net.0 ≡ true = list_any-found test (λ q. ident_eq (net.0).id q.network && is_here rows host q) rows.ports p found (and_from (ident_eq (net.0).id p.network) (is_here rows host p) (subst (λ i. ident_eq i p.network ≡ true) is (ident_itself p.network)) here) in
@@ -79,7 +80,7 @@ module _ (rows : RowLists) (host : List ℕ) (t : TableLists) (real : HostFacts 
       (AtMostOne-filter (λ (n : NetworkRow). carried_by rows c n.id) (is_tagged rows host) rows.networks (good.segments c))))
 
   -- where a network has no tag, nothing comes in by its carrier
-  pub inward-none : (n : Ident) (net : NetworkRow) (c : Carrier) → network_of rows n ≡ Some net → tag_of t.tags n ≡ None → carrier_of (segment rows n) ≡ Some c → carrier_eq c c ≡ true → inward_at t c ≡ None
+  pub inward-none : (n : Ident) (net : NetworkRow) (c : Carrier) → network_with rows n ≡ Some net → tag_of t.tags n ≡ None → carrier_of (segment rows n) ≡ Some c → carrier_eq c c ≡ true → inward_at t c ≡ None
   unfolding inward_rows
   inward-none n net c there none segment_is self =
       ap (find (λ (r : InwardRow). carrier_eq c r.carrier)) real.inward

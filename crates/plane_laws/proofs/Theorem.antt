@@ -10,7 +10,7 @@ use Rattle.api_types.specs.declared.network.Segment.{Segment}
 use Rattle.plane_types.specs.Fabric.{FabricFate, fabric_fate, meant}
 use Rattle.plane_types.specs.Hosts.{Host, all_entries}
 use Rattle.plane_types.specs.Meaning.{rows_fate}
-use Rattle.plane_types.specs.Told.{entries_made, fabric_verdict, of_nobody, rows_verdict, told_by_hosts, told_by_rows, told_fresh, without_hosts}
+use Rattle.plane_types.specs.Verdicts.{entries_made, fabric_verdict, of_nobody, rows_verdict, verdict_of_run, verdict_of_fate, made_entries, without_hosts}
 use Rattle.plane_types.specs.declared.entry.Entry.{Entry}
 use Rattle.plane_types.specs.declared.event.Event.{Event}
 use Rattle.plane_types.specs.declared.event.Event.TheVariants.{FromPort, FromWire}
@@ -22,15 +22,15 @@ fates-same rows hosts good synced (FromPort port frame) = port-law rows hosts go
 fates-same rows hosts good synced (FromWire physical tag frame) = wire-law rows hosts good synced (record { physical = physical; tag = tag }) frame
 
 -- as it is told, the makers left aside
-pub told-made : (hosts : List Host) (es : List Entry) (names : List (List ℕ)) → entries_made (told_fresh hosts es names) ≡ es
+pub told-made : (hosts : List Host) (es : List Entry) (names : List (List ℕ)) → entries_made (made_entries hosts es names) ≡ es
 told-made hosts [] names = refl
 told-made hosts (e ∷ es) [] = ap (λ xs. e ∷ xs) (told-made hosts es [])
 told-made hosts (e ∷ es) (name ∷ names) = ap (λ xs. e ∷ xs) (told-made hosts es names)
 
-pub told-without : (hosts : List Host) (f : FabricFate) → without_hosts (told_by_hosts hosts f) ≡ told_by_rows (meant f)
+pub told-without : (hosts : List Host) (f : FabricFate) → without_hosts (verdict_of_run hosts f) ≡ verdict_of_fate (meant f)
 told-without hosts f = ap (λ es. record { outcome = f.outcome; path = f.run.path; fresh = map of_nobody es; trail = [] }) (told-made hosts f.run.fresh f.run.makers)
 
 pub tables-mean-rows : (carry : List ℕ → Segment → Bool) (rows : RowLists) (hosts : List Host) → HoldRows carry rows hosts → (event : Event) → without_hosts (fabric_verdict hosts event) ≡ rows_verdict rows (all_entries hosts) event
 tables-mean-rows carry rows hosts h event =
     told-without hosts (fabric_fate hosts event)
-    ∙ ap told_by_rows (fates-same rows hosts (frame-facts rows h.consistent) (synced-facts carry rows hosts h.carried h.synced) event)
+    ∙ ap verdict_of_fate (fates-same rows hosts (frame-facts rows h.consistent) (synced-facts carry rows hosts h.carried h.synced) event)

@@ -21,12 +21,13 @@ use Rattle.api_types.specs.declared.network.Segment.{Segment}
 use Rattle.api_types.specs.declared.network.Segment.TheVariants.{Flat, Local, Vlan, Vxlan}
 use Rattle.api_types.specs.declared.port.PortRow.{PortRow}
 use Rattle.plane_types.specs.Ends.{destination}
-use Rattle.plane_types.specs.Fabric.{at_inward, begun, fabric_fate, finished, from_outside, meant, network_at, steps_for, taken, takes, takes_at, walk}
+use Rattle.plane_types.specs.Fabric.{at_inward, run_from, fabric_fate, fate_of_run, from_outside, meant, network_at, steps_for, fate_after, takes, takes_at, walk}
 use Rattle.api_types.specs.Holders.{dhcp_port, has_mac, holder, is_live_dhcp_of, port_at}
 use Rattle.plane_types.specs.Hosts.{Host, all_entries, is_named}
-use Rattle.api_types.specs.Live.{is_live, is_local, joined_with, network_of, segment, segment_of, is_at}
+use Rattle.api_types.specs.Live.{is_live, is_local, joined_with, segment, segment_of, is_at}
+use Rattle.api_types.specs.RowsWith.{network_with}
 use Rattle.api_types.specs.Wires.{tag_eq, wire_eq, wire_of, is_wire, network_on}
-use Rattle.plane_types.specs.Meaning.{dropped, ended, from_network, from_wire, life_of, none_so_far, on_path, rows_fate, wire_ask, wire_lease, wire_packet}
+use Rattle.plane_types.specs.Meaning.{drop_fate, end_fate, from_network, from_wire, life_of, none_so_far, on_path, rows_fate, wire_ask, wire_lease, wire_packet}
 use Rattle.plane_types.specs.Packets.{AddressAsk, LeaseAsk, Packet, address_ask, ask_frame, dhcp_frame, ip_frame, is_unsupported, lease_ask, packet}
 use Rattle.plane_types.specs.Places.{WireIn}
 use Rattle.plane_types.specs.TableRows.{carrier_of, inward_row, inward_rows, is_tagged, tag_of}
@@ -63,10 +64,10 @@ carrier_wire (Vlan p t) w = refl
 carrier_wire (Vxlan m) w = refl
 
 module _ (rows : RowLists) (hosts : List Host) (good : FrameFacts rows) (synced : SyncedFacts rows hosts) (w : Wire) where
-  segment-own : (test : NetworkRow → Bool) (net : NetworkRow) → find test rows.networks ≡ Some net → (network_of rows net.id ≡ Some net) × (segment rows net.id ≡ net.segment)
+  segment-own : (test : NetworkRow → Bool) (net : NetworkRow) → find test rows.networks ≡ Some net → (network_with rows net.id ≡ Some net) × (segment rows net.id ≡ net.segment)
   unfolding segment
   segment-own test net e =
-      let own : network_of rows net.id ≡ Some net = find-only test (λ (m : NetworkRow). ident_eq net.id m.id) rows.networks net (good.network_ids net.id) e (ident_itself net.id) in
+      let own : network_with rows net.id ≡ Some net = find-only test (λ (m : NetworkRow). ident_eq net.id m.id) rows.networks net (good.network_ids net.id) e (ident_itself net.id) in
       (own, ap segment_of own)
 
   -- no network on the wire: no host takes
@@ -95,7 +96,7 @@ module _ (rows : RowLists) (hosts : List Host) (good : FrameFacts rows) (synced 
   takes-nothing frame x e = ap (takes_at x.tables frame) e
 
   module _ (net : NetworkRow) (on : network_on rows w ≡ Some net) where
-    own : (network_of rows net.id ≡ Some net) × (segment rows net.id ≡ net.segment)
+    own : (network_with rows net.id ≡ Some net) × (segment rows net.id ≡ net.segment)
     own = segment-own (λ (m : NetworkRow). is_wire w (wire_of m.segment)) net on
 
     wire-is : wire_of (segment rows net.id) ≡ Some w
@@ -108,7 +109,7 @@ module _ (rows : RowLists) (hosts : List Host) (good : FrameFacts rows) (synced 
     path-begins : (x : Host) (real : HostFacts rows x.name x.tables) (tag : ℕ) → tag_of x.tables.tags net.id ≡ Some tag → at_inward x (inward_at x.tables (ByWire w)) ≡ net.id ∷ []
     path-begins x real tag is = ap (at_inward x) (inward-located rows x.name x.tables real good net.id tag (ByWire w) is carrier (wire_self w)) ∙ ap network_at (tag-row rows x.name x.tables.tags real.tags net.id tag is)
 
-    untaken : (frame : Frame) → AllOf (λ (x : Host). takes w frame x ≡ false) hosts → meant (from_outside hosts w frame (find (takes w frame) hosts)) ≡ dropped none_so_far Unknown
+    untaken : (frame : Frame) → AllOf (λ (x : Host). takes w frame x ≡ false) hosts → meant (from_outside hosts w frame (find (takes w frame) hosts)) ≡ drop_fate none_so_far Unknown
     untaken frame h = ap (λ o. meant (from_outside hosts w frame o)) (find-none_each (takes w frame) hosts h)
 
     module _ (q : PortRow) (test : PortRow → Bool) (found : find test rows.ports ≡ Some q) (live : is_live rows q ≡ true) (network : net.id ≡ q.network) where
@@ -136,8 +137,8 @@ module _ (rows : RowLists) (hosts : List Host) (good : FrameFacts rows) (synced 
         let taker : find (takes w (ip_frame x)) hosts ≡ Some x0.0 = find-same_each (takes w (ip_frame x)) (is_named q.host) hosts (AllOf-more (λ (y : Host). HostFacts rows y.name y.tables) (λ (y : Host). takes w (ip_frame x) y ≡ is_named q.host y) hosts (λ y r. takes-law rows good net.id net own.0 w wire-is x y r ∙ ap (at_opt y.name) e) synced.realise) ∙ x0.1 in
         let tag = home_tag q (has_mac rows net.id x.dst) e hit.1 network in
         ap (λ o. meant (from_outside hosts w (ip_frame x) o)) taker
-        ∙ ap (λ p. meant (walk hosts (3 * suc x.ttl + 3) x0.0 (WireIn w (ip_frame x)) (begun p))) (path-begins x0.0 (home_real q (has_mac rows net.id x.dst) e hit.1 network) tag.0 tag.1)
-        ∙ carried rows hosts good synced (suc x.ttl) (lands-law rows hosts good synced (suc x.ttl)) (3 * suc x.ttl + 3) x0.0 (WireIn w (ip_frame x)) (begun (net.id ∷ [])) (ByWire w) net.id x q (omega arith) x0.1 e carrier (wire_self w) (omega arith) refl (λ s. refl)
+        ∙ ap (λ p. meant (walk hosts (3 * suc x.ttl + 3) x0.0 (WireIn w (ip_frame x)) (run_from p))) (path-begins x0.0 (home_real q (has_mac rows net.id x.dst) e hit.1 network) tag.0 tag.1)
+        ∙ carried rows hosts good synced (suc x.ttl) (lands-law rows hosts good synced (suc x.ttl)) (3 * suc x.ttl + 3) x0.0 (WireIn w (ip_frame x)) (run_from (net.id ∷ [])) (ByWire w) net.id x q (omega arith) x0.1 e carrier (wire_self w) (omega arith) refl (λ s. refl)
 
     lease : (a : LeaseAsk) (o : Option PortRow) → dhcp_port rows net.id ≡ o → meant (from_outside hosts w (dhcp_frame a) (find (takes w (dhcp_frame a)) hosts)) ≡ wire_lease rows net a o
     unfolding steps_for
@@ -149,8 +150,8 @@ module _ (rows : RowLists) (hosts : List Host) (good : FrameFacts rows) (synced 
         let taker : find (takes w (dhcp_frame a)) hosts ≡ Some x0.0 = find-same_each (takes w (dhcp_frame a)) (is_named d.host) hosts (AllOf-more (λ (y : Host). HostFacts rows y.name y.tables) (λ (y : Host). takes w (dhcp_frame a) y ≡ is_named d.host y) hosts (λ y r. lease-takes rows hosts good synced net.id net own.0 w wire-is a y r ∙ ap (at_opt y.name) e) synced.realise) ∙ x0.1 in
         let tag = home_tag d (is_live_dhcp_of rows net.id) e hit.1 network in
         ap (λ o. meant (from_outside hosts w (dhcp_frame a) o)) taker
-        ∙ ap (λ p. meant (walk hosts 3 x0.0 (WireIn w (dhcp_frame a)) (begun p))) (path-begins x0.0 (home_real d (is_live_dhcp_of rows net.id) e hit.1 network) tag.0 tag.1)
-        ∙ lease-carried rows hosts good synced x0.0 (home_real d (is_live_dhcp_of rows net.id) e hit.1 network) net.id d e (home_at d (is_live_dhcp_of rows net.id) e hit.1 network) a 3 (WireIn w (dhcp_frame a)) (begun (net.id ∷ [])) (ByWire w) (omega arith) carrier (wire_self w) refl (λ s. refl)
+        ∙ ap (λ p. meant (walk hosts 3 x0.0 (WireIn w (dhcp_frame a)) (run_from p))) (path-begins x0.0 (home_real d (is_live_dhcp_of rows net.id) e hit.1 network) tag.0 tag.1)
+        ∙ lease-carried rows hosts good synced x0.0 (home_real d (is_live_dhcp_of rows net.id) e hit.1 network) net.id d e (home_at d (is_live_dhcp_of rows net.id) e hit.1 network) a 3 (WireIn w (dhcp_frame a)) (run_from (net.id ∷ [])) (ByWire w) (omega arith) carrier (wire_self w) refl (λ s. refl)
 
     wire_far : (s : Segment) → wire_of s ≡ Some w → is_local s ≡ false
     wire_far Local e = cc
@@ -180,22 +181,22 @@ module _ (rows : RowLists) (hosts : List Host) (good : FrameFacts rows) (synced 
           let tag = home_tag q (has_mac rows net.id q.mac) e parts.1 same in
           some_of (find (takes w (ask_frame a)) hosts) (find-some (takes w (ask_frame a)) hosts ∙ list_any-found (is_named q.host) (takes w (ask_frame a)) hosts x0.0 x0.1 (takes-tagged x0.0 (home_real q (has_mac rows net.id q.mac) e parts.1 same) tag.0 tag.1))
 
-      answered-at : (x : Host) (real : HostFacts rows x.name x.tables) (tag : ℕ) → tag_of x.tables.tags net.id ≡ Some tag → meant (walk hosts 3 x (WireIn w (ask_frame a)) (begun (at_inward x (inward_at x.tables (ByWire w))))) ≡ ended (on_path net) (Answered (ArpAnswer (destination a.ends) q.mac))
+      answered-at : (x : Host) (real : HostFacts rows x.name x.tables) (tag : ℕ) → tag_of x.tables.tags net.id ≡ Some tag → meant (walk hosts 3 x (WireIn w (ask_frame a)) (run_from (at_inward x (inward_at x.tables (ByWire w))))) ≡ end_fate (on_path net) (Answered (ArpAnswer (destination a.ends) q.mac))
       answered-at x real tag is =
-          ap (λ p. meant (walk hosts 3 x (WireIn w (ask_frame a)) (begun p))) (path-begins x real tag is)
-          ∙ ap meant (walk-on hosts 3 x (WireIn w (ask_frame a)) (begun (net.id ∷ [])) (omega arith))
-          ∙ ap (λ s. meant (taken hosts (walk hosts 2) x (WireIn w (ask_frame a)) (begun (net.id ∷ [])) (plain s)))
+          ap (λ p. meant (walk hosts 3 x (WireIn w (ask_frame a)) (run_from p))) (path-begins x real tag is)
+          ∙ ap meant (walk-on hosts 3 x (WireIn w (ask_frame a)) (run_from (net.id ∷ [])) (omega arith))
+          ∙ ap (λ s. meant (fate_after hosts (walk hosts 2) x (WireIn w (ask_frame a)) (run_from (net.id ∷ [])) (plain s)))
           (ap (inward_step x.tables (ask_frame a)) (inward-located rows x.name x.tables real good net.id tag (ByWire w) is carrier (wire_self w))
           ∙ ap (bridge_at_tag x.tables true (ask_frame a)) (tag-row rows x.name x.tables.tags real.tags net.id tag is)
           ∙ ap (asked_at true (record { network = net.id; tag = tag; wire = wire_of (segment rows net.id) }) a) (neighbour-located rows x.name x.tables real good net.id tag is (destination a.ends) ∙ ap (option_map (row_at tag (destination a.ends))) (joined x.name)))
 
-      asked-some : meant (from_outside hosts w (ask_frame a) (find (takes w (ask_frame a)) hosts)) ≡ ended (on_path net) (Answered (ArpAnswer (destination a.ends) q.mac))
+      asked-some : meant (from_outside hosts w (ask_frame a) (find (takes w (ask_frame a)) hosts)) ≡ end_fate (on_path net) (Answered (ArpAnswer (destination a.ends) q.mac))
       unfolding steps_for
       asked-some =
           let real : HostFacts rows (taker.0).name (taker.0).tables = find-each (λ (y : Host). HostFacts rows y.name y.tables) (takes w (ask_frame a)) hosts taker.0 synced.realise taker.1 in
           ap (λ o. meant (from_outside hosts w (ask_frame a) o)) taker.1 ∙ go real (tag_of (taker.0).tables.tags net.id) refl
         where
-          go : (real : HostFacts rows (taker.0).name (taker.0).tables) (o : Option ℕ) → tag_of (taker.0).tables.tags net.id ≡ o → meant (walk hosts 3 taker.0 (WireIn w (ask_frame a)) (begun (at_inward taker.0 (inward_at (taker.0).tables (ByWire w))))) ≡ ended (on_path net) (Answered (ArpAnswer (destination a.ends) q.mac))
+          go : (real : HostFacts rows (taker.0).name (taker.0).tables) (o : Option ℕ) → tag_of (taker.0).tables.tags net.id ≡ o → meant (walk hosts 3 taker.0 (WireIn w (ask_frame a)) (run_from (at_inward taker.0 (inward_at (taker.0).tables (ByWire w))))) ≡ end_fate (on_path net) (Answered (ArpAnswer (destination a.ends) q.mac))
           go real None e =
               let off : takes w (ask_frame a) taker.0 ≡ false = ap (takes_at (taker.0).tables (ask_frame a)) (inward-none rows (taker.0).name (taker.0).tables real good net.id net (ByWire w) own.0 e carrier (wire_self w)) in
               let on : takes w (ask_frame a) taker.0 ≡ true = find-passes (takes w (ask_frame a)) hosts taker.0 taker.1 in
@@ -224,6 +225,6 @@ module _ (rows : RowLists) (hosts : List Host) (good : FrameFacts rows) (synced 
       on u None e = ap (λ o. meant (from_outside hosts w frame o)) (find-none_each (takes w frame) hosts (AllOf-more (λ (y : Host). HostFacts rows y.name y.tables) (λ (y : Host). takes w frame y ≡ false) hosts (λ y r. takes-nothing frame y (nothing e y r)) synced.realise))
       on u (Some net) e = by-network net e frame u
 
-      go : (u : Bool) → is_unsupported frame ≡ u → meant (if u then finished (begun []) (Dropped Unsupported) else from_outside hosts w frame (find (takes w frame) hosts)) ≡ (if u then dropped none_so_far Unsupported else from_wire rows (all_entries hosts) (life_of frame) frame (network_on rows w))
+      go : (u : Bool) → is_unsupported frame ≡ u → meant (if u then fate_of_run (run_from []) (Dropped Unsupported) else from_outside hosts w frame (find (takes w frame) hosts)) ≡ (if u then drop_fate none_so_far Unsupported else from_wire rows (all_entries hosts) (life_of frame) frame (network_on rows w))
       go true e = refl
       go false e = on e (network_on rows w) refl

@@ -11,10 +11,10 @@ use Rattle.plane_types.proofs.WorkedRows.{c1, drawn_mac, held, hop, id, interfac
 use Rattle.api_types.specs.Ascending.{ascending, put_in}
 use Rattle.api_types.specs.Holders.{floating_holder}
 use Rattle.api_types.specs.Live.{is_live, segment}
-use Rattle.plane_types.specs.Meaning.{got, rows_fate}
+use Rattle.plane_types.specs.Meaning.{port_fate, rows_fate}
 use Rattle.api_types.specs.RouterRows.{connected_ways, extra_ways, floats_of, legs_of, router_view, ways_of}
-use Rattle.plane_types.specs.Routing.{best_way, routed}
-use Rattle.plane_types.specs.Told.{rows_verdict}
+use Rattle.plane_types.specs.Routing.{best_way, routing_of}
+use Rattle.plane_types.specs.Verdicts.{rows_verdict}
 use Rattle.plane_types.specs.declared.event.Event.{Event}
 use Rattle.plane_types.specs.declared.event.Event.TheVariants.{FromPort}
 use Rattle.plane_types.specs.declared.verdict.DropCause.TheVariants.{Expired}
@@ -47,9 +47,9 @@ abbrev around : ℕ → Event
 around ttl = FromPort (id 8) (tcp (local_mac 5) (drawn_mac 0) (ip 10 0 0 5) 1 (ip 192 0 2 9) 2 ttl)
 
 a_few_rounds : (rows_verdict ring [] (around 5)).path ≡ id 6 ∷ id 32 ∷ id 96 ∷ id 48 ∷ id 96 ∷ id 64 ∷ id 96 ∷ id 32 ∷ id 96 ∷ []
-unfolding rows_fate got is_live segment contains is_interface is_gateway device_is ident_text uuid_bytes uuid_number by_index routed router_view legs_of ways_of connected_ways extra_ways floats_of best_way ascending put_in floating_holder
+unfolding rows_fate port_fate is_live segment contains is_interface is_gateway device_is ident_text uuid_bytes uuid_number by_index routing_of router_view legs_of ways_of connected_ways extra_ways floats_of best_way ascending put_in floating_holder
 a_few_rounds = refl
 
 all_rounds : ends (rows_verdict ring [] (around 255)) ≡ (Dropped Expired, 509, Some (id 48))
-unfolding rows_fate got is_live segment contains is_interface is_gateway device_is ident_text uuid_bytes uuid_number by_index routed router_view legs_of ways_of connected_ways extra_ways floats_of best_way ascending put_in floating_holder
+unfolding rows_fate port_fate is_live segment contains is_interface is_gateway device_is ident_text uuid_bytes uuid_number by_index routing_of router_view legs_of ways_of connected_ways extra_ways floats_of best_way ascending put_in floating_holder
 all_rounds = refl

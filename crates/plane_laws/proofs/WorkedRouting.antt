@@ -21,12 +21,12 @@ use Rattle.api_types.specs.Members.{is_member, members, once}
 use Rattle.api_types.specs.Holders.{floating_holder}
 use Rattle.plane_types.specs.Hosts.{Host}
 use Rattle.api_types.specs.Live.{is_live, segment}
-use Rattle.plane_types.specs.Meaning.{got, rows_fate}
+use Rattle.plane_types.specs.Meaning.{port_fate, rows_fate}
 use Rattle.api_types.specs.RouterRows.{connected_ways, extra_ways, floats_of, legs_of, router_view, ways_of}
-use Rattle.plane_types.specs.Routing.{best_way, least_untaken, new_port, routed}
+use Rattle.plane_types.specs.Routing.{best_way, least_untaken, new_port, routing_of}
 use Rattle.plane_types.specs.TableRows.{bridge_rows, filter_rows, float_rows, inward_rows, lease_rows, neighbour_rows, route_rows, router_rows, set_rows, tap_rows}
 use Rattle.plane_types.specs.TableStep.{tables_allow}
-use Rattle.plane_types.specs.Told.{fabric_verdict, fabric_verdicts, of_nobody, rows_verdict, rows_verdicts, without_hosts}
+use Rattle.plane_types.specs.Verdicts.{fabric_verdict, fabric_verdicts, of_nobody, rows_verdict, rows_verdicts, without_hosts}
 use Rattle.plane_types.specs.declared.entry.Entry.{Entry}
 use Rattle.plane_types.specs.declared.entry.Entry.TheVariants.{Snat}
 use Rattle.plane_types.specs.declared.event.Event.{Event}
@@ -78,14 +78,14 @@ routed_echo = record {
 }
 
 routed_between : rows_verdict joined [] (FromPort (id 8) (echo 64)) ≡ routed_echo
-unfolding rows_fate got is_live segment rules_allow rule_matches is_member contains is_interface is_gateway device_is ident_text uuid_bytes uuid_number by_index routed router_view legs_of ways_of connected_ways extra_ways floats_of best_way ascending put_in floating_holder
+unfolding rows_fate port_fate is_live segment rules_allow rule_matches is_member contains is_interface is_gateway device_is ident_text uuid_bytes uuid_number by_index routing_of router_view legs_of ways_of connected_ways extra_ways floats_of best_way ascending put_in floating_holder
 routed_between = refl
 
 abbrev joined_hosts : List Host
 joined_hosts = host joined c1 (tag (id 6) 1 None ∷ tag (id 16) 2 None ∷ []) ∷ host joined c2 (tag (id 16) 1 None ∷ []) ∷ []
 
 routed_between_by_tables : without_hosts (fabric_verdict joined_hosts (FromPort (id 8) (echo 64))) ≡ routed_echo
-unfolding fabric_fate walk steps_for tap_rows filter_rows set_rows members once bridge_rows inward_rows neighbour_rows router_rows route_rows float_rows lease_rows ascending put_in is_live segment floating_holder tables_allow contains is_interface is_gateway is_dhcp device_is ident_text uuid_bytes uuid_number by_index routed legs_of ways_of connected_ways extra_ways floats_of best_way
+unfolding fabric_fate walk steps_for tap_rows filter_rows set_rows members once bridge_rows inward_rows neighbour_rows router_rows route_rows float_rows lease_rows ascending put_in is_live segment floating_holder tables_allow contains is_interface is_gateway is_dhcp device_is ident_text uuid_bytes uuid_number by_index routing_of legs_of ways_of connected_ways extra_ways floats_of best_way
 routed_between_by_tables = refl
 
 -- With one step to live nothing passes a router.
@@ -93,7 +93,7 @@ abbrev echo_alone : List Made
 echo_alone = map of_nobody (flow (id 8) Egress echo_key ∷ [])
 
 expired : rows_verdict joined [] (FromPort (id 8) (echo 1)) ≡ record { outcome = Dropped Expired; path = id 6 ∷ []; fresh = echo_alone; trail = [] }
-unfolding rows_fate got is_live segment rules_allow rule_matches is_member contains is_interface is_gateway device_is ident_text uuid_bytes uuid_number by_index routed router_view legs_of ways_of connected_ways extra_ways floats_of best_way ascending put_in floating_holder
+unfolding rows_fate port_fate is_live segment rules_allow rule_matches is_member contains is_interface is_gateway device_is ident_text uuid_bytes uuid_number by_index routing_of router_view legs_of ways_of connected_ways extra_ways floats_of best_way ascending put_in floating_holder
 expired = refl
 
 -- A router that is down passes nothing.
@@ -101,7 +101,7 @@ abbrev joined_by : RouterRow → RowLists
 joined_by r = record joined { routers = r ∷ [] }
 
 router_down : rows_verdict (joined_by (record (router (id 32) None []) { up = false })) [] (FromPort (id 8) (echo 64)) ≡ record { outcome = Dropped RouterDown; path = id 6 ∷ []; fresh = echo_alone; trail = [] }
-unfolding rows_fate got is_live segment rules_allow rule_matches is_member contains is_interface is_gateway device_is ident_text uuid_bytes uuid_number by_index routed router_view legs_of ways_of connected_ways extra_ways floats_of best_way ascending put_in floating_holder
+unfolding rows_fate port_fate is_live segment rules_allow rule_matches is_member contains is_interface is_gateway device_is ident_text uuid_bytes uuid_number by_index routing_of router_view legs_of ways_of connected_ways extra_ways floats_of best_way ascending put_in floating_holder
 router_down = refl
 
 -- A router's own address ends in it.
@@ -111,7 +111,7 @@ absorbed : rows_verdict joined [] (FromPort (id 8) (Ip (local_mac 5) (drawn_mac 
   fresh = map of_nobody (flow (id 8) Egress (record { kind = AskKey; ends = ends (ip 10 0 0 5) (ip 10 1 0 1); sport = 7; dport = 0 }) ∷ []);
   trail = [];
 }
-unfolding rows_fate got is_live segment rules_allow rule_matches is_member contains is_interface is_gateway device_is ident_text uuid_bytes uuid_number by_index routed router_view legs_of ways_of connected_ways extra_ways floats_of best_way ascending put_in floating_holder
+unfolding rows_fate port_fate is_live segment rules_allow rule_matches is_member contains is_interface is_gateway device_is ident_text uuid_bytes uuid_number by_index routing_of router_view legs_of ways_of connected_ways extra_ways floats_of best_way ascending put_in floating_holder
 absorbed = refl
 
 -- The outcome of a packet from 10.0.0.5 to an address elsewhere, by a router with these routes.
@@ -119,17 +119,17 @@ abbrev sent_elsewhere : List Hop → ℕ → Outcome
 sent_elsewhere routes to = (rows_verdict (joined_by (router (id 32) None routes)) [] (FromPort (id 8) (Ip (local_mac 5) (drawn_mac 0) (ends (ip 10 0 0 5) to) 64 (Proto 47)))).outcome
 
 no_route : sent_elsewhere [] (ip 192 0 2 9) ≡ Dropped NoRoute
-unfolding rows_fate got is_live segment rules_allow rule_matches is_member contains is_interface is_gateway device_is ident_text uuid_bytes uuid_number by_index routed router_view legs_of ways_of connected_ways extra_ways floats_of best_way ascending put_in floating_holder
+unfolding rows_fate port_fate is_live segment rules_allow rule_matches is_member contains is_interface is_gateway device_is ident_text uuid_bytes uuid_number by_index routing_of router_view legs_of ways_of connected_ways extra_ways floats_of best_way ascending put_in floating_holder
 no_route = refl
 
 -- By the longest prefix, though a shorter one comes first: back into the first network, where nobody has 10.0.0.9, not to 10.1.0.5.
 longest_prefix : sent_elsewhere (hop (prefix (ip 192 0 2 0) 24) (ip 10 1 0 5) ∷ hop (prefix (ip 192 0 2 8) 29) (ip 10 0 0 9) ∷ []) (ip 192 0 2 9) ≡ Dropped NoHolder
-unfolding rows_fate got is_live segment rules_allow rule_matches is_member contains is_interface is_gateway device_is ident_text uuid_bytes uuid_number by_index routed router_view legs_of ways_of connected_ways extra_ways floats_of best_way ascending put_in floating_holder
+unfolding rows_fate port_fate is_live segment rules_allow rule_matches is_member contains is_interface is_gateway device_is ident_text uuid_bytes uuid_number by_index routing_of router_view legs_of ways_of connected_ways extra_ways floats_of best_way ascending put_in floating_holder
 longest_prefix = refl
 
 -- The next hop gets the packet, though it isn't its destination; of equal routes the first is taken.
 by_next_hop : sent_elsewhere (hop (prefix (ip 192 0 2 0) 24) (ip 10 1 0 5) ∷ hop (prefix (ip 192 0 2 0) 24) (ip 10 0 0 9) ∷ []) (ip 192 0 2 9) ≡ Delivered (id 18) (Ip (drawn_mac 1) (local_mac 6) (ends (ip 10 0 0 5) (ip 192 0 2 9)) 63 (Proto 47))
-unfolding rows_fate got is_live segment rules_allow rule_matches is_member contains is_interface is_gateway device_is ident_text uuid_bytes uuid_number by_index routed router_view legs_of ways_of connected_ways extra_ways floats_of best_way ascending put_in floating_holder
+unfolding rows_fate port_fate is_live segment rules_allow rule_matches is_member contains is_interface is_gateway device_is ident_text uuid_bytes uuid_number by_index routing_of router_view legs_of ways_of connected_ways extra_ways floats_of best_way ascending put_in floating_holder
 by_next_hop = refl
 
 -- An office: a network behind a router with its gateway on a flat network, and a floating address or none.
@@ -195,7 +195,7 @@ office_verdicts =
     record { outcome = left_as 40000; path = goes_out; fresh = []; trail = [] } ∷ []
 
 translated_out_and_back : rows_verdicts office [] office_events ≡ office_verdicts
-unfolding rows_verdicts rows_fate got is_live segment rules_allow rule_matches is_member contains is_interface is_gateway device_is ident_text uuid_bytes uuid_number by_index routed router_view legs_of ways_of connected_ways extra_ways floats_of best_way new_port least_untaken ascending put_in floating_holder
+unfolding rows_verdicts rows_fate port_fate is_live segment rules_allow rule_matches is_member contains is_interface is_gateway device_is ident_text uuid_bytes uuid_number by_index routing_of router_view legs_of ways_of connected_ways extra_ways floats_of best_way new_port least_untaken ascending put_in floating_holder
 translated_out_and_back = refl
 
 abbrev office_wire : Option Wire
@@ -205,7 +205,7 @@ abbrev office_hosts : List Host
 office_hosts = host office c1 (tag (id 30) 1 office_wire ∷ tag (id 6) 2 None ∷ []) ∷ host office c2 (tag (id 6) 1 None ∷ []) ∷ []
 
 translated_by_tables : map without_hosts (fabric_verdicts office_hosts office_events) ≡ office_verdicts
-unfolding fabric_verdicts fabric_fate walk steps_for tap_rows filter_rows set_rows members once bridge_rows inward_rows neighbour_rows router_rows route_rows float_rows lease_rows ascending put_in is_live segment floating_holder tables_allow contains is_interface is_gateway is_dhcp device_is ident_text uuid_bytes uuid_number by_index routed legs_of ways_of connected_ways extra_ways floats_of best_way new_port least_untaken
+unfolding fabric_verdicts fabric_fate walk steps_for tap_rows filter_rows set_rows members once bridge_rows inward_rows neighbour_rows router_rows route_rows float_rows lease_rows ascending put_in is_live segment floating_holder tables_allow contains is_interface is_gateway is_dhcp device_is ident_text uuid_bytes uuid_number by_index routing_of legs_of ways_of connected_ways extra_ways floats_of best_way new_port least_untaken
 translated_by_tables = refl
 
 -- Where translation is off, an entry isn't valid, and what it would answer ends in the router.
@@ -213,7 +213,7 @@ abbrev two_translations : List Entry
 two_translations = Snat (id 32) (key_from (ip 10 0 0 5)) outer 40000 ∷ Snat (id 32) (key_from (ip 10 0 0 6)) outer 1024 ∷ []
 
 not_valid : rows_verdict (outside_is false [] []) two_translations (returns_to 1024) ≡ record { outcome = Absorbed (id 32); path = id 30 ∷ []; fresh = []; trail = [] }
-unfolding rows_fate got is_live segment rules_allow rule_matches is_member contains is_interface is_gateway device_is ident_text uuid_bytes uuid_number by_index routed router_view legs_of ways_of connected_ways extra_ways floats_of best_way new_port least_untaken ascending put_in floating_holder
+unfolding rows_fate port_fate is_live segment rules_allow rule_matches is_member contains is_interface is_gateway device_is ident_text uuid_bytes uuid_number by_index routing_of router_view legs_of ways_of connected_ways extra_ways floats_of best_way new_port least_untaken ascending put_in floating_holder
 not_valid = refl
 
 -- A protocol without ports has no second choice.
@@ -221,7 +221,7 @@ abbrev proto_key : ℕ → Key
 proto_key from = record { kind = ProtoKey 47; ends = ends (from) (far); sport = 0; dport = 0 }
 
 translation_full : (rows_verdict office (Snat (id 32) (proto_key (ip 10 0 0 5)) outer 0 ∷ []) (FromPort (id 9) (Ip (local_mac 6) (drawn_mac 1) (ends (ip 10 0 0 6) far) 64 (Proto 47)))).outcome ≡ Dropped TranslationFull
-unfolding rows_fate got is_live segment rules_allow rule_matches is_member contains is_interface is_gateway device_is ident_text uuid_bytes uuid_number by_index routed router_view legs_of ways_of connected_ways extra_ways floats_of best_way new_port least_untaken ascending put_in floating_holder
+unfolding rows_fate port_fate is_live segment rules_allow rule_matches is_member contains is_interface is_gateway device_is ident_text uuid_bytes uuid_number by_index routing_of router_view legs_of ways_of connected_ways extra_ways floats_of best_way new_port least_untaken ascending put_in floating_holder
 translation_full = refl
 
 -- A floating address of 10.0.0.6, sought from within: the asker's source is translated too, so that the answer comes back by the
@@ -267,14 +267,14 @@ hairpin_verdicts =
     } ∷ []
 
 sought_from_within : rows_verdicts served [] hairpin ≡ hairpin_verdicts
-unfolding rows_verdicts rows_fate got is_live segment rules_allow rule_matches is_member contains is_interface is_gateway device_is ident_text uuid_bytes uuid_number by_index routed router_view legs_of ways_of connected_ways extra_ways floats_of best_way new_port least_untaken ascending put_in floating_holder
+unfolding rows_verdicts rows_fate port_fate is_live segment rules_allow rule_matches is_member contains is_interface is_gateway device_is ident_text uuid_bytes uuid_number by_index routing_of router_view legs_of ways_of connected_ways extra_ways floats_of best_way new_port least_untaken ascending put_in floating_holder
 sought_from_within = refl
 
 abbrev served_hosts : List Host
 served_hosts = host served c1 (tag (id 30) 1 office_wire ∷ tag (id 6) 2 None ∷ []) ∷ host served c2 (tag (id 6) 1 None ∷ []) ∷ []
 
 sought_by_tables : map without_hosts (fabric_verdicts served_hosts hairpin) ≡ hairpin_verdicts
-unfolding fabric_verdicts fabric_fate walk steps_for tap_rows filter_rows set_rows members once bridge_rows inward_rows neighbour_rows router_rows route_rows float_rows lease_rows ascending put_in is_live segment floating_holder tables_allow contains is_interface is_gateway is_dhcp device_is ident_text uuid_bytes uuid_number by_index routed legs_of ways_of connected_ways extra_ways floats_of best_way new_port least_untaken
+unfolding fabric_verdicts fabric_fate walk steps_for tap_rows filter_rows set_rows members once bridge_rows inward_rows neighbour_rows router_rows route_rows float_rows lease_rows ascending put_in is_live segment floating_holder tables_allow contains is_interface is_gateway is_dhcp device_is ident_text uuid_bytes uuid_number by_index routing_of legs_of ways_of connected_ways extra_ways floats_of best_way new_port least_untaken
 sought_by_tables = refl
 
 -- An ordinary day: a lease, an ask for the router's address, an echo and its answer, a call from outside to a floating address
@@ -306,12 +306,12 @@ abbrev outcome_of : ToldVerdict → Outcome
 outcome_of v = v.outcome
 
 ordinary_day : map outcome_of (rows_verdicts day [] day_events) ≡ day_outcomes
-unfolding rows_verdicts rows_fate got is_live segment rules_allow rule_matches is_member contains is_interface is_gateway is_dhcp device_is ident_text uuid_bytes uuid_number by_index routed router_view legs_of ways_of connected_ways extra_ways floats_of best_way new_port least_untaken ascending put_in floating_holder
+unfolding rows_verdicts rows_fate port_fate is_live segment rules_allow rule_matches is_member contains is_interface is_gateway is_dhcp device_is ident_text uuid_bytes uuid_number by_index routing_of router_view legs_of ways_of connected_ways extra_ways floats_of best_way new_port least_untaken ascending put_in floating_holder
 ordinary_day = refl
 
 abbrev day_hosts : List Host
 day_hosts = host day c1 (tag (id 30) 1 office_wire ∷ tag (id 6) 2 None ∷ []) ∷ host day c2 (tag (id 6) 1 None ∷ []) ∷ []
 
 ordinary_day_by_tables : map outcome_of (fabric_verdicts day_hosts day_events) ≡ day_outcomes
-unfolding fabric_verdicts fabric_fate walk steps_for tap_rows filter_rows set_rows members once bridge_rows inward_rows neighbour_rows router_rows route_rows float_rows lease_rows ascending put_in is_live segment floating_holder tables_allow contains is_interface is_gateway is_dhcp device_is ident_text uuid_bytes uuid_number by_index routed legs_of ways_of connected_ways extra_ways floats_of best_way new_port least_untaken
+unfolding fabric_verdicts fabric_fate walk steps_for tap_rows filter_rows set_rows members once bridge_rows inward_rows neighbour_rows router_rows route_rows float_rows lease_rows ascending put_in is_live segment floating_holder tables_allow contains is_interface is_gateway is_dhcp device_is ident_text uuid_bytes uuid_number by_index routing_of legs_of ways_of connected_ways extra_ways floats_of best_way new_port least_untaken
 ordinary_day_by_tables = refl

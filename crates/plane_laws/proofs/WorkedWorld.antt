@@ -25,10 +25,10 @@ use Rattle.api_types.specs.declared.port.PortRow.{PortRow}
 use Rattle.plane_types.proofs.WorkedRows.{c1, c2, host, id, local_mac, network, no_rows, open_port, tables_of, tag}
 use Rattle.plane_types.specs.Hosts.{Host, all_entries, is_named}
 use Rattle.api_types.specs.Live.{is_live, segment}
-use Rattle.plane_types.specs.Placed.{IsPlaced}
+use Rattle.plane_types.specs.Attached.{IsAttached}
 use Rattle.plane_types.specs.Realises.{Realises, RealisesTags, TagStands}
 use Rattle.plane_types.specs.TableRows.{is_tagged}
-use Rattle.plane_types.specs.Told.{fabric_verdict, rows_verdict, without_hosts}
+use Rattle.plane_types.specs.Verdicts.{fabric_verdict, rows_verdict, without_hosts}
 use Rattle.plane_types.specs.declared.event.Event.{Event}
 use Rattle.plane_types.specs.declared.table.TagRow.{TagRow}
 use Rattle.plane_types.specs.declared.lists.TableLists.{TableLists}
@@ -142,7 +142,7 @@ tags-there : RealisesTags world c2 (tag (id 6) 1 None ∷ [])
 unfolding is_live
 tags-there = tags-at c2 1 (omega arith) (omega arith) refl
 
-no-entries : (name : List ℕ) (t : TableLists) → IsPlaced (record { name = name; tables = t; entries = [] })
+no-entries : (name : List ℕ) (t : TableLists) → IsAttached (record { name = name; tables = t; entries = [] })
 no-entries name t = record { stand = nothing_there _; once_outside = λ r k o p f g. omega arith; once_inside = λ r k o. omega arith }
 
 names-differ : (name : List ℕ) → count_by (is_named name) world_hosts ≤ 1
@@ -163,7 +163,7 @@ world-held = record {
   carried = record { at_host = each-of _ world.ports (refl, (refl, tt)) };
   synced = record {
     realise = each-of (λ (h : Host). Realises world h.name h.tables) world_hosts (realised c1 5 (omega arith) (omega arith) tags-here, (realised c2 1 (omega arith) (omega arith) tags-there, tt));
-    placed = each-of IsPlaced world_hosts (no-entries c1 (tables_of world c1 (tag (id 6) 5 None ∷ [])), (no-entries c2 (tables_of world c2 (tag (id 6) 1 None ∷ [])), tt));
+    placed = each-of IsAttached world_hosts (no-entries c1 (tables_of world c1 (tag (id 6) 5 None ∷ [])), (no-entries c2 (tables_of world c2 (tag (id 6) 1 None ∷ [])), tt));
     names = names-differ;
     complete = λ name s h. all-there (bytes_eq name c1) (bytes_eq name c2) h;
   };

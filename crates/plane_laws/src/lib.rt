@@ -14,8 +14,8 @@ ghost use Rattle.api_types.specs.declared.network.Segment.{Segment};
 ghost use Rattle.plane_types.specs.Crossing.{CrossesAtRouters};
 ghost use Rattle.plane_types.specs.Hosts.{Host, all_entries, is_named};
 ghost use Rattle.api_types.specs.Live.{is_live};
-ghost use Rattle.plane_types.specs.Placed.{IsPlaced};
-ghost use Rattle.plane_types.specs.Told.{fabric_verdict, fabric_verdicts, hosts_after, hosts_after_all, rows_verdict, rows_verdicts, without_hosts};
+ghost use Rattle.plane_types.specs.Attached.{IsAttached};
+ghost use Rattle.plane_types.specs.Verdicts.{fabric_verdict, fabric_verdicts, hosts_after, hosts_after_all, rows_verdict, rows_verdicts, without_hosts};
 ghost use Rattle.plane_types.specs.declared.entry.Entry.{Entry};
 ghost use Rattle.plane_types.specs.declared.event.Event.{Event};
 ghost use Rattle.plane_laws.specs.Bounds.{HasEightBits, IsBounded};
@@ -46,7 +46,7 @@ pub fn event_lists_mean_rows()
 /// two translations can be taken for one another.
 pub fn entries_stay_placed()
     ensures { (hosts : List Host) → ((name : List ℕ) → count_by (is_named name) hosts ≤ 1)
-        → Each IsPlaced hosts → (event : Event) → Each IsPlaced (hosts_after hosts event) }
+        → Each IsAttached hosts → (event : Event) → Each IsAttached (hosts_after hosts event) }
 {}
 
 /// A frame crosses between networks only at routers that have live ports on both, and is delivered

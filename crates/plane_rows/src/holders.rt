@@ -1,5 +1,8 @@
+//! Who has a MAC or an address, and which port serves DHCP.
+
 ghost use Rattle.std.specs.Prelude.{◌≡◌, find, option_copied};
-ghost use Rattle.api_types.specs.Holders.{dhcp_port as dhcp_by_rows, floating_holder as holder_by_floating, floats_at, gateway_port as gateway_by_rows, has_mac as has_mac_by_rows, held_by_floating as held_by_any_floating, holder as holder_by_rows, holds_live as holds_live_by_rows, is_live_dhcp_of, live_on as live_port_on, port_at as port_by_mac, router_named, router_of as router_by_rows, target_router as target_by_rows};
+ghost use Rattle.api_types.specs.Holders.{dhcp_port as dhcp_by_rows, floating_holder as holder_by_floating, floats_at, gateway_port as gateway_by_rows, has_mac as has_mac_by_rows, held_by_floating as held_by_any_floating, holder as holder_by_rows, holds_live as holds_live_by_rows, is_live_dhcp_of, live_on as live_port_on, port_at as port_by_mac, router_of as router_by_rows, target_router as target_by_rows};
+ghost use Rattle.api_types.specs.RowsWith.{router_with};
 
 use crate::live::is_live;
 use api_types::{FloatingRow, Id, PortRow, RouterRow, Rows, Target};
@@ -43,10 +46,10 @@ fn fixed_holder<'r>(rows: &'r Rows, network: Id, address: &Addr) -> Option<&'r P
 
 /// The router with this id.
 pub fn named_router(rows: &Rows, id: Id) -> Option<&RouterRow>
-    ensures { option_copied result ≡ router_named rows.now id }
+    ensures { option_copied result ≡ router_with rows.now id }
 {
     let routers = rows.routers();
-    let _own_ids = routers.rows();
+    let _own_ids = routers.rows(); // for the proof: no two routers have one id
     routers.get(id)
 }
 
@@ -55,7 +58,7 @@ pub fn gateway_port<'r>(rows: &'r Rows, router: &RouterRow) -> Option<&'r PortRo
     ensures { option_copied result ≡ gateway_by_rows rows.now router.now }
 {
     let ports = rows.ports();
-    let _own_ids = ports.rows();
+    let _own_ids = ports.rows(); // for the proof: no two ports have one id
     match router.gateway {
         Some(gateway) => ports.get(gateway.port),
         None => None,

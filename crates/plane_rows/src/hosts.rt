@@ -1,3 +1,5 @@
+//! Ports that are bound to a host, and live there.
+
 ghost use Rattle.std.specs.Prelude.{◌≡◌};
 ghost use Rattle.api_types.specs.Live.{is_at as is_at_host, is_here as is_here_by_rows};
 

@@ -1,3 +1,5 @@
+//! What is leased to a port.
+
 ghost use Rattle.std.specs.Prelude.{◌≡◌, ◌&&◌, IfOk, find};
 ghost use Rattle.net_addr.specs.Addresses.{is_v4};
 ghost use Rattle.api_types.specs.Owners.{holds_in as held_in};

@@ -47,7 +47,7 @@ fn is_any_leg(rows: &Rows, port: &PortRow) -> bool
 }
 
 // Takes the ports with a device out.
-fn taken<'r>(
+fn take_ports<'r>(
     alloc: Global,
     by_device: &mut HashMap<String, Vec<&'r PortRow>>,
     device: &str,
@@ -79,7 +79,7 @@ fn add_port<'r>(
         ++ (if bytes_eq port.now.device t then port.now ∷ [] else [])) }
 {
     let device = String::from_str(alloc, port.device.as_str())?;
-    let mut ports = taken(alloc, by_device, port.device.as_str());
+    let mut ports = take_ports(alloc, by_device, port.device.as_str());
     ports.push(port)?;
     by_device.insert(device, ports)?;
     Ok(())
@@ -124,7 +124,7 @@ impl<'r> Legs<'r> {
 
     /// The live ports of the router whose id is printed so, in order of creation. Its cost is the
     /// same however many ports and routers there are.
-    pub fn named(&self, router: &str) -> Option<&Vec<&'r PortRow>>
+    pub fn ports_of(&self, router: &str) -> Option<&Vec<&'r PortRow>>
         ensures { elim (option_copied result) [ None ↦ [] | Some v ↦ map (λ p. p.now) v.items ]
             ≡ filter (is_leg_at self.now router.now) self.now.ports }
     {

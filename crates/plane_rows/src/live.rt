@@ -1,6 +1,9 @@
+//! Live ports, segments, and which ports hear each other.
+
 ghost use Rattle.std.specs.Prelude.{◌≡◌, is_some, option_copied, option_map};
 ghost use Rattle.api_types.specs.declared.network.NetworkRow.{NetworkRow as TheNetwork};
-ghost use Rattle.api_types.specs.Live.{is_joined as joined_by_rows, is_live as live_by_rows, is_local as local_of, joined_with as joined_of, network_of, segment as segment_by_rows};
+ghost use Rattle.api_types.specs.Live.{is_joined as joined_by_rows, is_live as live_by_rows, is_local as local_of, joined_with as joined_of, segment as segment_by_rows};
+ghost use Rattle.api_types.specs.RowsWith.{network_with};
 ghost use Rattle.api_types.specs.Wires.{wire_of as wire_by_segment, is_wire, network_on as network_on_wire};
 
 use api_types::{Id, NetworkRow, PortRow, Rows, Segment, Vif};
@@ -15,7 +18,7 @@ pub fn is_live(rows: &Rows, port: &PortRow) -> bool
         return false;
     }
     let networks = rows.networks();
-    let _own_ids = networks.rows();
+    let _own_ids = networks.rows(); // for the proof: no two networks have one id
     match networks.get(port.network) {
         Some(network) => network.up,
         None => false,
@@ -25,10 +28,10 @@ pub fn is_live(rows: &Rows, port: &PortRow) -> bool
 /// The segment of the network with this id.
 pub fn segment_of(rows: &Rows, network: Id) -> Option<&Segment>
     ensures { option_copied result
-        ≡ option_map (λ (n : TheNetwork). n.segment) (network_of rows.now network) }
+        ≡ option_map (λ (n : TheNetwork). n.segment) (network_with rows.now network) }
 {
     let networks = rows.networks();
-    let _own_ids = networks.rows();
+    let _own_ids = networks.rows(); // for the proof: no two networks have one id
     match networks.get(network) {
         Some(network) => Some(&network.segment),
         None => None,

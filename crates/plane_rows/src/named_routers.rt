@@ -18,7 +18,7 @@ use std::marker::Model;
 #[derive(Drop)]
 pub struct NamedRouters<'r> {
     rows: &'r Rows,
-    places: HashMap<String, usize>,
+    indices: HashMap<String, usize>,
 }
 
 impl<'r> Model for NamedRouters<'r> {
@@ -34,7 +34,7 @@ impl<'r> Model for NamedRouters<'r> {
     ghost view = { λ n. n.rows.now };
 
     ghost invariant = { λ n. (t : List ℕ)
-        → option_and_then (slice_get n.rows.now.routers) (get_by_text n.places t)
+        → option_and_then (slice_get n.rows.now.routers) (get_by_text n.indices t)
         ≡ find (is_named t) n.rows.now.routers };
 }
 
@@ -47,7 +47,7 @@ fn name_of(alloc: Global, router: &RouterRow) -> Result<String, OutOfMemory>
 }
 
 // From the last to the first, so that the place of the first router with a text stays.
-fn places_of(
+fn indices_of(
     alloc: Global,
     routers: &[Shared<RouterRow>],
 ) -> Result<HashMap<String, usize>, OutOfMemory>
@@ -56,15 +56,15 @@ fn places_of(
         → option_and_then (slice_get routers.now) (get_by_text m t)
         ≡ find (is_named t) routers.now) }
 {
-    let mut places = HashMap::new(alloc);
+    let mut indices = HashMap::new(alloc);
     let mut left = routers.len();
     while left > 0 {
         left -= 1;
         let router = routers[left].get();
         let name = name_of(alloc, router)?;
-        places.insert(name, left)?;
+        indices.insert(name, left)?;
     }
-    Ok(places)
+    Ok(indices)
 }
 
 impl<'r> NamedRouters<'r> {
@@ -74,7 +74,7 @@ impl<'r> NamedRouters<'r> {
     {
         Ok(NamedRouters {
             rows,
-            places: places_of(alloc, rows.routers().rows())?,
+            indices: indices_of(alloc, rows.routers().rows())?,
         })
     }
 
@@ -86,11 +86,11 @@ impl<'r> NamedRouters<'r> {
     }
 
     // The first router whose id is printed so.
-    fn named(&self, text: &str) -> Option<&'r RouterRow>
+    fn find_router(&self, text: &str) -> Option<&'r RouterRow>
         ensures { option_copied result
             ≡ find (is_named text.now) self.now.routers }
     {
-        let place = self.places.get(text).copied()?;
+        let place = self.indices.get(text).copied()?;
         match self.rows.routers().rows().get(place) {
             Some(router) => Some(router.get()),
             None => None,
@@ -102,6 +102,6 @@ impl<'r> NamedRouters<'r> {
     pub fn router_of(&self, port: &PortRow) -> Option<&'r RouterRow>
         ensures { option_copied result ≡ router_by_rows self.now port.now }
     {
-        self.named(port.device.as_str())
+        self.find_router(port.device.as_str())
     }
 }

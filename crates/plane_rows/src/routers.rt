@@ -1,3 +1,5 @@
+//! A router's live ports, its gateway address and its floating addresses.
+
 ghost use Rattle.std.specs.Prelude.{◌≡◌, find, not, option_copied, option_map};
 ghost use Rattle.std.specs.List.{list_any};
 ghost use Rattle.net_addr.specs.Addresses.{addr_eq};

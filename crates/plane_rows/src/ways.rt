@@ -1,3 +1,5 @@
+//! The routes of a router.
+
 ghost use Rattle.std.specs.Prelude.{◌≡◌, ◌++◌, List, IfOk, OnOk, Some, find, flat_map, map, option_copied, option_map, option_to_list};
 ghost use Rattle.std.specs.List.{filter_map};
 ghost use Rattle.net_addr.specs.Addresses.{with_number};
@@ -6,7 +8,8 @@ ghost use Rattle.api_types.specs.declared.port.PortRow.{PortRow as ThePort};
 ghost use Rattle.api_types.specs.declared.subnet.SubnetRow.{SubnetRow as TheSubnet};
 ghost use Rattle.api_types.specs.Ascending.{ascending as in_order};
 ghost use Rattle.api_types.specs.Holders.{gateway_port as gateway_by_rows};
-ghost use Rattle.api_types.specs.RouterRows.{by_address, connected_by, connected_ways as connected_by_rows, default_of as default_by_rows, extra_way as extra_by_rows, extra_ways as extras_by_rows, default_by, holds_next as holds_next_hop, legs_of, subnet_named, way_by as way_by_port, ways_of as ways_by_rows};
+ghost use Rattle.api_types.specs.RouterRows.{by_address, connected_by, connected_ways as connected_by_rows, default_of as default_by_rows, extra_way as extra_by_rows, extra_ways as extras_by_rows, default_by, holds_next as holds_next_hop, legs_of, way_by as way_by_port, ways_of as ways_by_rows};
+ghost use Rattle.api_types.specs.RowsWith.{subnet_with};
 ghost use Rattle.plane_rows.specs.Ways.{defaults_of_port, way_of, ways_by as ways_by_legs};
 
 use crate::exits::Exits;
@@ -50,16 +53,16 @@ fn way_by(
 
 /// The subnet with this id.
 pub fn named_subnet(rows: &Rows, id: Id) -> Option<&SubnetRow>
-    ensures { option_copied result ≡ subnet_named rows.now id }
+    ensures { option_copied result ≡ subnet_with rows.now id }
 {
     let subnets = rows.subnets();
-    let _own_ids = subnets.rows();
+    let _own_ids = subnets.rows(); // for the proof: no two subnets have one id
     subnets.get(id)
 }
 
 fn connected_way(rows: &Rows, exits: &Exits, fixed: Fixed) -> Option<Way>
     ensures { option_map way_of result
-        ≡ connected_by exits.now (subnet_named rows.now fixed.subnet) }
+        ≡ connected_by exits.now (subnet_with rows.now fixed.subnet) }
 {
     let subnet = named_subnet(rows, fixed.subnet)?;
     way_by(exits, subnet.id, subnet.prefix, RouteRank::Connected, None)
@@ -85,7 +88,7 @@ fn add_connected_of(
         (map way_of ways.new.items
         ≡ map way_of ways.old.items
         ++ filter_map
-        (λ (f : TheFixed). connected_by exits.now (subnet_named rows.now f.subnet))
+        (λ (f : TheFixed). connected_by exits.now (subnet_with rows.now f.subnet))
         (in_order by_address port.now.fixed)) }
 {
     let held = held_by_address(alloc, port)?;
@@ -217,7 +220,7 @@ fn default_in(exits: &Exits, subnet: &SubnetRow) -> Option<Way>
 
 fn default_way(rows: &Rows, exits: &Exits, fixed: Fixed) -> Option<Way>
     ensures { option_to_list (option_map way_of result)
-        ≡ default_by exits.now (subnet_named rows.now fixed.subnet) }
+        ≡ default_by exits.now (subnet_with rows.now fixed.subnet) }
 {
     let subnet = named_subnet(rows, fixed.subnet)?;
     default_in(exits, subnet)

@@ -4,7 +4,7 @@ use Rattle.std.specs.Prelude.{count_by, ◌==◌, ◌||◌}
 use Rattle.std.specs.List.{list_any, filter}
 use Rattle.std.proofs.lemmas.Bool.{eqb-true}
 use Rattle.std.proofs.lemmas.List.Sums.{sum_by-cons}
-use Rattle.plane_types.specs.Retagged.{is_free, numbers}
+use Rattle.plane_types.specs.NewTags.{is_free, numbers}
 
 -- one element counts
 abbrev pub one_if : Bool → ℕ

@@ -1,7 +1,7 @@
 -- Tags that realise rows are tags that may have been given.
 use Rattle.std.proofs.Common.{ℕ, List}
 use Rattle.api_types.specs.RowLists.{RowLists}
-use Rattle.plane_types.specs.Retagged.{AreTags}
+use Rattle.plane_types.specs.NewTags.{AreTags}
 use Rattle.plane_types.specs.Realises.{RealisesTags}
 use Rattle.plane_types.specs.declared.table.TagRow.{TagRow}
 

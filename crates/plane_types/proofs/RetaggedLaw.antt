@@ -16,7 +16,7 @@ use Rattle.api_types.specs.declared.network.NetworkRow.{NetworkRow}
 use Rattle.plane_types.specs.Realises.{RealisesTags, TagStands}
 use Rattle.plane_types.specs.TableRows.{is_tagged, tag_of}
 use Rattle.plane_types.specs.declared.table.TagRow.{TagRow}
-use Rattle.plane_types.specs.Retagged.{AreTags, free_tags, in_turn, is_free, kept_tags, next_tag, numbers, retagged, tag_row, tagged, with_tag}
+use Rattle.plane_types.specs.NewTags.{AreTags, free_tags, in_turn, is_free, kept_tags, next_tag, numbers, new_tags, tag_row, tagged_networks, with_tag}
 use Rattle.plane_types.proofs.NumberLemmas.{count-cons, count-filter, enough-free, none-free, once-numbered, one_if}
 use Rattle.plane_types.proofs.TagLemmas.{found, has_tag, kept-once, kept-or-new}
 
@@ -127,8 +127,8 @@ module _ (rows : RowLists) (old : List TagRow) where
       go None e [] all rest = rest [] all
       go None e (f ∷ fs) all rest = each-cons (TagStands rows) (tag_row rows n f) (in_turn rows old fs ns) (stands f all.0) (rest fs all.1)
 
-pub tags_stand : (rows : RowLists) (host : List ℕ) (old : List TagRow) → AreTags old → IsConsistent rows → RealisesTags rows host (retagged rows host old)
-unfolding retagged tagged kept_tags free_tags
+pub tags_stand : (rows : RowLists) (host : List ℕ) (old : List TagRow) → AreTags old → IsConsistent rows → RealisesTags rows host (new_tags rows host old)
+unfolding new_tags tagged_networks kept_tags free_tags
 tags_stand rows host old given good = record {
   networks = networks-all rows old free ids enough;
   stand = rows-stand rows old (λ n tag e. (of-found (λ k. 0 < k) old given.first n tag e, of-found (λ k. k ≤ 4094) old given.last n tag e)) free (all-filter in_range (is_free kept) (numbers 1 4094) (numbers-within 1 4094 (omega arith) (omega arith))) ids;

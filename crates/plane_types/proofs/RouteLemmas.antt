@@ -6,7 +6,7 @@ use Rattle.net_addr.specs.declared.address.Addr.{Addr}
 use Rattle.plane_types.specs.Ends.{destination}
 use Rattle.plane_types.specs.Keys.{key_eq}
 use Rattle.plane_types.specs.Packets.{Packet, key_of}
-use Rattle.plane_types.specs.Routing.{Changed, Destined, RouteEnds, Routed, Sourced, Use, best_way, destined, is_own, routed, routed_out, routed_to, routed_way, sent, sourced, sourced_at, sourced_gateway, sourced_use, uses_by}
+use Rattle.plane_types.specs.Routing.{Changed, Destined, RouteEnds, Routed, Sourced, Use, best_way, new_destination, is_own, routing_of, routed_out, routed_to, routed_way, sending_of, new_source, sourced_at, sourced_gateway, sourced_use, uses_by}
 use Rattle.api_types.specs.RouterViews.{Leg, RouterView}
 use Rattle.plane_types.specs.declared.entry.Entry.{Entry}
 use Rattle.plane_types.specs.declared.frame.Key.{Key}
@@ -20,9 +20,9 @@ gateway_kept v uses p g outer key found u q g_is key_is found_is some q_is =
     ∙ sym (ap (sourced_gateway v uses p) g_is ∙ ap (sourced_use v.id uses p outer) (ap (λ k. find (λ (x : Use). key_eq x.key k) uses) (sym key_is) ∙ sym found_is ∙ some))
 
 -- by the port that was found
-pub out_found : (v : RouterView) (uses : List Use) (way_in : Leg) (by : Changed) (p : Packet) (hop way_hop : Addr) (found : Option Leg) (out : Leg) (s : Option Sourced) (x : Routed) → found ≡ Some out → hop ≡ way_hop → s ≡ sourced v uses way_in out by p → x ≡ sent out hop s → x ≡ routed_out v uses way_in by p way_hop found
+pub out_found : (v : RouterView) (uses : List Use) (way_in : Leg) (by : Changed) (p : Packet) (hop way_hop : Addr) (found : Option Leg) (out : Leg) (s : Option Sourced) (x : Routed) → found ≡ Some out → hop ≡ way_hop → s ≡ new_source v uses way_in out by p → x ≡ sending_of out hop s → x ≡ routed_out v uses way_in by p way_hop found
 out_found v uses way_in by p hop way_hop found out s x found_is hop_is s_is x_is =
-    x_is ∙ ap (λ h. sent out h s) hop_is ∙ ap (sent out way_hop) s_is ∙ sym (ap (routed_out v uses way_in by p way_hop) found_is)
+    x_is ∙ ap (λ h. sending_of out h s) hop_is ∙ ap (sending_of out way_hop) s_is ∙ sym (ap (routed_out v uses way_in by p way_hop) found_is)
 
 -- what is the router's own ends there
 pub ends_own : (v : RouterView) (uses : List Use) (way_in : Leg) (d : Destined) → is_own v (destination d.packet.ends) ≡ true → RouteEnds (Absorbed v.id) ≡ routed_to v uses way_in d
@@ -42,9 +42,9 @@ goes_on v uses way_in d lower own lives lower_is =
     ∙ sym (ap (λ b. if b then RouteEnds (Absorbed v.id) else (if nat_le d.packet.ttl 1 then RouteEnds (Dropped Expired) else routed_way v uses way_in d.by (record (d.packet) { ttl = d.packet.ttl - 1 }) (best_way (destination d.packet.ends) v.ways))) own ∙ ap (λ b. if b then RouteEnds (Dropped Expired) else routed_way v uses way_in d.by (record (d.packet) { ttl = d.packet.ttl - 1 }) (best_way (destination d.packet.ends) v.ways)) before_end)
 
 -- the whole rule of a router that is up
-pub whole_route : (v : RouterView) (entries : List Entry) (way_in : Leg) (p : Packet) (uses : List Use) (d : Destined) → v.up ≡ true → uses ≡ uses_by v.snat v.gateway v.id entries → d ≡ destined v uses p → routed_to v uses way_in d ≡ routed v entries way_in p
-unfolding routed
+pub whole_route : (v : RouterView) (entries : List Entry) (way_in : Leg) (p : Packet) (uses : List Use) (d : Destined) → v.up ≡ true → uses ≡ uses_by v.snat v.gateway v.id entries → d ≡ new_destination v uses p → routed_to v uses way_in d ≡ routing_of v entries way_in p
+unfolding routing_of
 whole_route v entries way_in p uses d up uses_is d_is =
     ap (routed_to v uses way_in) d_is
-    ∙ ap (λ us. routed_to v us way_in (destined v us p)) uses_is
-    ∙ sym (ap (λ b. if not b then RouteEnds (Dropped RouterDown) else routed_to v (uses_by v.snat v.gateway v.id entries) way_in (destined v (uses_by v.snat v.gateway v.id entries) p)) up)
+    ∙ ap (λ us. routed_to v us way_in (new_destination v us p)) uses_is
+    ∙ sym (ap (λ b. if not b then RouteEnds (Dropped RouterDown) else routed_to v (uses_by v.snat v.gateway v.id entries) way_in (new_destination v (uses_by v.snat v.gateway v.id entries) p)) up)

@@ -15,11 +15,11 @@ use Rattle.api_types.specs.Members.{is_member, members, once}
 use Rattle.api_types.specs.Holders.{floating_holder}
 use Rattle.plane_types.specs.Hosts.{Host}
 use Rattle.api_types.specs.Live.{is_live, segment}
-use Rattle.plane_types.specs.Meaning.{got, rows_fate}
+use Rattle.plane_types.specs.Meaning.{port_fate, rows_fate}
 use Rattle.plane_types.specs.Places.{TunnelIn}
 use Rattle.plane_types.specs.TableRows.{bridge_rows, filter_rows, float_rows, inward_rows, lease_rows, neighbour_rows, route_rows, router_rows, set_rows, tap_rows}
 use Rattle.plane_types.specs.TableStep.{drops, plain, table_step, tables_allow}
-use Rattle.plane_types.specs.Told.{fabric_verdict, fabric_verdicts, of_nobody, rows_verdict, rows_verdicts, without_hosts}
+use Rattle.plane_types.specs.Verdicts.{fabric_verdict, fabric_verdicts, of_nobody, rows_verdict, rows_verdicts, without_hosts}
 use Rattle.plane_types.specs.declared.event.Event.{Event}
 use Rattle.plane_types.specs.declared.event.Event.TheVariants.{FromPort}
 use Rattle.plane_types.specs.declared.frame.Frame.{Frame}
@@ -63,7 +63,7 @@ own_network : rows_verdict twin [] (FromPort (id 8) to_six) ≡ record {
   fresh = map of_nobody (flow (id 8) Egress six_key ∷ flow (id 9) Ingress six_key ∷ []);
   trail = [];
 }
-unfolding rows_fate got is_live segment rules_allow rule_matches is_member contains is_interface is_gateway
+unfolding rows_fate port_fate is_live segment rules_allow rule_matches is_member contains is_interface is_gateway
 own_network = refl
 
 own_network_by_tables : fabric_verdict twin_hosts (FromPort (id 18) to_six) ≡ record {
@@ -111,7 +111,7 @@ by_both =
     record { outcome = Delivered (id 8) answer; path = id 6 ∷ []; fresh = map of_nobody (flow (id 9) Egress answer_key ∷ []); trail = [] } ∷ []
 
 answered : rows_verdicts both_rules [] (asks_22 ∷ answers_22 ∷ []) ≡ by_both
-unfolding rows_verdicts rows_fate got is_live segment rules_allow rule_matches is_member contains is_interface is_gateway
+unfolding rows_verdicts rows_fate port_fate is_live segment rules_allow rule_matches is_member contains is_interface is_gateway
 answered = refl
 
 abbrev pair_hosts : List Host
@@ -128,7 +128,7 @@ asked_again : rows_verdict both_rules (flow (id 8) Egress six_key ∷ flow (id 9
   fresh = [];
   trail = [];
 }
-unfolding rows_fate got is_live segment rules_allow rule_matches is_member contains is_interface is_gateway
+unfolding rows_fate port_fate is_live segment rules_allow rule_matches is_member contains is_interface is_gateway
 asked_again = refl
 
 -- the rule of the client goes, and with it its answers, though its flow is there
@@ -138,17 +138,17 @@ answer_refused : rows_verdict (pair_with server) (flow (id 8) Egress six_key ∷
   fresh = map of_nobody (flow (id 9) Egress answer_key ∷ []);
   trail = [];
 }
-unfolding rows_fate got is_live segment rules_allow rule_matches is_member contains is_interface is_gateway
+unfolding rows_fate port_fate is_live segment rules_allow rule_matches is_member contains is_interface is_gateway
 answer_refused = refl
 
 -- an answer without a flow is refused by a client that lets nothing in
 unasked_refused : (rows_verdict both_rules [] answers_22).outcome ≡ Dropped IngressFilter
-unfolding rows_fate got is_live segment rules_allow rule_matches is_member contains is_interface is_gateway
+unfolding rows_fate port_fate is_live segment rules_allow rule_matches is_member contains is_interface is_gateway
 unasked_refused = refl
 
 -- what no rule lets out
 not_let_out : (rows_verdict both_rules [] (FromPort (id 8) (tcp (local_mac 5) (local_mac 6) (ip 10 0 0 5) 40000 (ip 10 0 0 6) 23 64))).outcome ≡ Dropped EgressFilter
-unfolding rows_fate got is_live segment rules_allow rule_matches is_member contains is_interface is_gateway
+unfolding rows_fate port_fate is_live segment rules_allow rule_matches is_member contains is_interface is_gateway
 not_let_out = refl
 
 -- Two hosts with ports without port security: the bridge leads to a tap here and to a tunnel there.
@@ -179,7 +179,7 @@ unfolding fabric_fate walk steps_for tap_rows filter_rows set_rows members once 
 by_tunnel = refl
 
 by_rows : rows_verdict tunnelled [] (FromPort (id 8) to_eight) ≡ record { outcome = Delivered (id 9) to_eight; path = id 6 ∷ []; fresh = []; trail = [] }
-unfolding rows_fate got is_live segment is_interface is_gateway
+unfolding rows_fate port_fate is_live segment is_interface is_gateway
 by_rows = refl
 
 -- A group's members are the addresses and pair prefixes of all ports that name it, each once.
@@ -202,30 +202,30 @@ abbrev to_99 : Frame
 to_99 = tcp (local_mac 7) (local_mac 99) (ip 10 0 0 5) 1 (ip 10 0 0 6) 2 64
 
 on_vlan : rows_verdict (alone_on (Vlan physnet1 100)) [] (FromPort (id 8) to_99) ≡ record { outcome = Out (id 6) (TowardMac (local_mac 99)) to_99; path = id 6 ∷ []; fresh = []; trail = [] }
-unfolding rows_fate got is_live segment is_interface is_gateway
+unfolding rows_fate port_fate is_live segment is_interface is_gateway
 on_vlan = refl
 
 on_vxlan : rows_verdict (alone_on (Vxlan 1)) [] (FromPort (id 8) to_99) ≡ record { outcome = Dropped Unknown; path = id 6 ∷ []; fresh = []; trail = [] }
-unfolding rows_fate got is_live segment is_interface is_gateway
+unfolding rows_fate port_fate is_live segment is_interface is_gateway
 on_vxlan = refl
 
 -- A local network's frames stay on their host.
 on_local : (rows_verdict (record tunnelled { networks = network (id 6) Local ∷ [] }) [] (FromPort (id 8) to_eight)).outcome ≡ Dropped Unknown
-unfolding rows_fate got is_live segment is_interface is_gateway
+unfolding rows_fate port_fate is_live segment is_interface is_gateway
 on_local = refl
 
 -- A frame to many is carried nowhere.
 to_many : (rows_verdict tunnelled [] (FromPort (id 8) (tcp (local_mac 7) (2 ^ 40) 0 1 0 2 9))).outcome ≡ Dropped Unsupported
-unfolding rows_fate got is_live segment is_interface is_gateway
+unfolding rows_fate port_fate is_live segment is_interface is_gateway
 to_many = refl
 
 -- The guard: another's address, and a port that is down.
 spoofed : rows_verdict both_rules [] (FromPort (id 8) (tcp (local_mac 5) (local_mac 6) (ip 10 0 0 99) 40000 (ip 10 0 0 6) 22 64)) ≡ record { outcome = Dropped Spoof; path = id 6 ∷ []; fresh = []; trail = [] }
-unfolding rows_fate got is_live segment contains is_interface is_gateway
+unfolding rows_fate port_fate is_live segment contains is_interface is_gateway
 spoofed = refl
 
 down : rows_verdict (record both_rules { ports = record (open_port (id 8) (id 6) c1 (local_mac 5) []) { up = false } ∷ [] }) [] asks_22 ≡ record { outcome = Dropped Dead; path = []; fresh = []; trail = [] }
-unfolding rows_fate got is_live segment is_interface is_gateway
+unfolding rows_fate port_fate is_live segment is_interface is_gateway
 down = refl
 
 -- Asks that nobody answers.
@@ -237,11 +237,11 @@ lone = record no_rows {
 }
 
 no_lease : (rows_verdict lone [] (FromPort (id 8) (Dhcp (local_mac 5) 0))).outcome ≡ Dropped NoLease
-unfolding rows_fate got is_live segment is_interface is_gateway is_dhcp
+unfolding rows_fate port_fate is_live segment is_interface is_gateway is_dhcp
 no_lease = refl
 
 no_holder : (rows_verdict lone [] (FromPort (id 8) (NeighbourAsk (local_mac 5) (ends (ip 10 0 0 5) (ip 10 0 0 77))))).outcome ≡ Dropped NoHolder
-unfolding rows_fate got is_live segment floating_holder is_interface is_gateway
+unfolding rows_fate port_fate is_live segment floating_holder is_interface is_gateway
 no_holder = refl
 
 -- A frame that came by a tunnel doesn't leave by one, though the bridge knows its port elsewhere.

@@ -2,12 +2,11 @@
 use Rattle.std.specs.Prelude.{◌≡◌, Bool, true, false, ◌&&◌, List, [], ◌∷◌, Option, Some, None, is_some, ⊤}
 use Rattle.std.specs.List.{list_any}
 use Rattle.api_types.specs.Ident.{Ident}
+use Rattle.api_types.specs.RowsWith.{port_with, router_with, network_with}
 use Rattle.api_types.specs.RowLists.{RowLists}
-use Rattle.api_types.specs.Table.{ident_eq, row_of}
+use Rattle.api_types.specs.Table.{ident_eq}
 use Rattle.api_types.specs.declared.port.PortRow.{PortRow}
 use Rattle.api_types.specs.declared.router.RouterRow.{RouterRow}
-use Rattle.api_types.specs.Holders.{router_named}
-use Rattle.api_types.specs.Live.{network_of}
 use Rattle.api_types.specs.RouterRows.{is_leg_of}
 use Rattle.plane_types.specs.declared.verdict.Outcome.{Outcome}
 use Rattle.plane_types.specs.declared.verdict.Outcome.TheVariants.{Absorbed, Answered, Delivered, Dropped, Out}
@@ -15,7 +14,7 @@ use Rattle.plane_types.specs.declared.verdict.Verdict.{Verdict as ToldVerdict}
 
 -- the network is there
 abbrev pub is_network : RowLists → Ident → Bool
-is_network rows n = is_some (network_of rows n)
+is_network rows n = is_some (network_with rows n)
 
 abbrev pub leg_on : RowLists → RouterRow → Ident → Bool
 leg_on rows r n = list_any (λ (p : PortRow). is_leg_of rows r p && ident_eq n p.network) rows.ports
@@ -28,7 +27,7 @@ joins_networks rows n m (Some r) = leg_on rows r n && leg_on rows r m && is_netw
 abbrev pub CrossesFrom : RowLists → Ident → List Ident → Type 0
 CrossesFrom rows n [] = ⊤
 CrossesFrom rows n (r ∷ []) = ⊥
-CrossesFrom rows n (r ∷ m ∷ rest) = (joins_networks rows n m (router_named rows r) ≡ true) × CrossesFrom rows m rest
+CrossesFrom rows n (r ∷ m ∷ rest) = (joins_networks rows n m (router_with rows r) ≡ true) × CrossesFrom rows m rest
 
 abbrev pub last_from : Ident → List Ident → Ident
 last_from n [] = n
@@ -42,7 +41,7 @@ is_on n (Some q) = ident_eq n q.network
 
 -- a packet is delivered to a port on this network
 abbrev pub EndsOn : RowLists → Ident → Outcome → Type 0
-EndsOn rows n (Delivered port f) = is_on n (row_of (λ (p : PortRow). p.id) port rows.ports) ≡ true
+EndsOn rows n (Delivered port f) = is_on n (port_with rows port) ≡ true
 EndsOn rows n (Answered a) = ⊤
 EndsOn rows n (Absorbed r) = ⊤
 EndsOn rows n (Out m t f) = ⊤

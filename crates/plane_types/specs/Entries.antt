@@ -16,7 +16,8 @@ opposite Ingress = Egress
 opposite Egress = Ingress
 
 abbrev pub is_flow : Ident → Direction → Key → Entry → Bool
-is_flow port direction key (Flow p d k) = ident_eq port p && is_direction direction d && key_eq key k
+is_flow port direction key (Flow p d k) =
+    ident_eq port p && is_direction direction d && key_eq key k
 is_flow port direction key (Snat r k o s) = false
 
 abbrev pub has_flow : List Entry → Ident → Direction → Key → Bool

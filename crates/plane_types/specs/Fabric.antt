@@ -1,6 +1,7 @@
 -- The run of a frame through the tables of all hosts.
 use Rattle.std.specs.Prelude.{ℕ, zero, suc, ◌+◌, ◌*◌, Bool, true, false, not, ◌&&◌, List, [], ◌∷◌, ◌++◌, map, Option, Some, None, find, is_some, if◌then◌else◌}
 use Rattle.std.specs.Str.{bytes_eq}
+use Rattle.net_addr.specs.Words.{Text}
 use Rattle.api_types.specs.Ident.{Ident}
 use Rattle.plane_types.specs.Ends.{destination}
 use Rattle.plane_types.specs.Hosts.{Host, is_named}
@@ -31,8 +32,8 @@ use Rattle.plane_types.specs.declared.verdict.Toward.{Toward}
 pub record Run : Type 0 where
   pub path : List Ident
   pub fresh : List Entry
-  pub makers : List (List ℕ)
-  pub trail : List (List ℕ × ℕ)
+  pub makers : List Text
+  pub trail : List (Text × ℕ)
 
 pub record FabricFate : Type 0 where
   pub outcome : Outcome
@@ -42,8 +43,8 @@ pub record FabricFate : Type 0 where
 abbrev pub meant : FabricFate → Fate
 meant v = record { outcome = v.outcome; path = v.run.path; fresh = v.run.fresh }
 
-abbrev pub finished : Run → Outcome → FabricFate
-finished run o = record { outcome = o; run = run }
+abbrev pub fate_of_run : Run → Outcome → FabricFate
+fate_of_run run o = record { outcome = o; run = run }
 
 abbrev pub takes_to : Option BridgeRow → Bool
 takes_to None = false
@@ -66,10 +67,6 @@ network_at (Some r) = r.network ∷ []
 abbrev pub path_at : Host → ℕ → List Ident
 path_at h tag = network_at (tag_row h.tables tag)
 
-abbrev pub way_path : Option Ident → List Ident
-way_path None = []
-way_path (Some n) = n ∷ []
-
 -- what a step adds to the path: a router that sent the packet on, and the network
 abbrev pub next_path : Host → Place → List Ident
 next_path h (Bridge tag frame) = path_at h tag
@@ -80,13 +77,9 @@ next_path h (RouterIn p r f) = []
 next_path h (DhcpIn t f) = []
 next_path h (TapOut p f) = []
 
-abbrev pub on_way : Ident → Option Ident → List Ident
-on_way router None = []
-on_way router (Some n) = router ∷ n ∷ []
-
 abbrev pub sent_path : Host → Ident → Step → List Ident
 sent_path h router (Next place) = router ∷ next_path h place
-sent_path h router (End o way) = on_way router way
+sent_path h router (End o way) = elim way [ None ↦ [] | Some n ↦ router ∷ n ∷ [] ]
 sent_path h router (ToTunnel a b c) = []
 sent_path h router (ToWire a b c d) = []
 
@@ -99,11 +92,11 @@ step_path h (WireIn w f) step = []
 step_path h (DhcpIn t f) step = []
 step_path h (TapOut p f) step = []
 
-abbrev pub inward_trail : Host → Option InwardRow → List (List ℕ × ℕ)
+abbrev pub inward_trail : Host → Option InwardRow → List (Text × ℕ)
 inward_trail h None = []
 inward_trail h (Some r) = (h.name, r.tag) ∷ []
 
-abbrev pub place_trail : Host → Place → List (List ℕ × ℕ)
+abbrev pub place_trail : Host → Place → List (Text × ℕ)
 place_trail h (Bridge tag f) = (h.name, tag) ∷ []
 place_trail h (TunnelIn n f) = inward_trail h (inward_at h.tables (ByTunnel n))
 place_trail h (WireIn w f) = inward_trail h (inward_at h.tables (ByWire w))
@@ -123,55 +116,68 @@ after_step h place s run = record {
 abbrev pub Going : Type 0
 Going = Host → Place → Run → FabricFate
 
-abbrev pub tunnelled : Going → ℕ → Frame → Run → Option Host → FabricFate
-tunnelled on number frame run None = finished run (Dropped Unknown)
-tunnelled on number frame run (Some h) = on h (TunnelIn number frame) run
+abbrev pub over_tunnel : Going → ℕ → Frame → Run → Option Host → FabricFate
+over_tunnel on number frame run None = fate_of_run run (Dropped Unknown)
+over_tunnel on number frame run (Some h) = on h (TunnelIn number frame) run
 
-abbrev pub wired : Going → Wire → Ident → Toward → Frame → Run → Option Host → FabricFate
-wired on w n toward frame run None = finished run (Out n toward frame)
-wired on w n toward frame run (Some h) = on h (WireIn w frame) run
+abbrev pub over_wire : Going → Wire → Ident → Toward → Frame → Run → Option Host → FabricFate
+over_wire on w n toward frame run None = fate_of_run run (Out n toward frame)
+over_wire on w n toward frame run (Some h) = on h (WireIn w frame) run
 
-abbrev pub moved : List Host → Going → Host → Run → Step → FabricFate
-moved hosts on h run (Next place) = on h place run
-moved hosts on h run (End o way) = finished run o
-moved hosts on h run (ToTunnel name number frame) = tunnelled on number frame run (find (is_named name) hosts)
-moved hosts on h run (ToWire w n toward frame) = wired on w n toward frame run (find (λ (x : Host). not (bytes_eq x.name h.name) && takes w frame x) hosts)
+abbrev pub next_position : List Host → Going → Host → Run → Step → FabricFate
+next_position hosts on h run (Next place) = on h place run
+next_position hosts on h run (End o way) = fate_of_run run o
+next_position hosts on h run (ToTunnel name number frame) =
+    over_tunnel on number frame run (find (is_named name) hosts)
+next_position hosts on h run (ToWire w n toward frame) =
+    over_wire on w n toward frame run
+    (find (λ (x : Host). not (bytes_eq x.name h.name) && takes w frame x) hosts)
 
-abbrev pub taken : List Host → Going → Host → Place → Run → Stepped → FabricFate
-taken hosts on h place run s = moved hosts on h (after_step h place s run) s.step
+abbrev pub fate_after : List Host → Going → Host → Place → Run → Stepped → FabricFate
+fate_after hosts on h place run s = next_position hosts on h (after_step h place s run) s.step
 
 -- so many steps
 unfoldable pub walk : List Host → ℕ → Host → Place → Run → FabricFate
-walk hosts zero h place run = finished run (Dropped Unknown)
-walk hosts (suc many) h place run = taken hosts (walk hosts many) h place run (table_step h.tables (h.entries ++ run.fresh) place)
+walk hosts zero h place run = fate_of_run run (Dropped Unknown)
+walk hosts (suc many) h place run =
+    fate_after hosts (walk hosts many) h place run
+    (table_step h.tables (h.entries ++ run.fresh) place)
 
 -- the steps of a packet that passes so many routers: three for each, and three to the port
 unfoldable pub steps_for : ℕ → ℕ
 steps_for many = 3 * many + 3
 
-abbrev pub begun : List Ident → Run
-begun path = record { path = path; fresh = []; makers = []; trail = [] }
+abbrev pub run_from : List Ident → Run
+run_from path = record { path = path; fresh = []; makers = []; trail = [] }
 
 abbrev pub at_tap : Host → Option TapRow → List Ident
 at_tap h None = []
 at_tap h (Some tap) = path_at h tap.tag
 
 abbrev pub from_tap : List Host → Ident → Frame → Option Host → FabricFate
-from_tap hosts port frame None = finished (begun []) (Dropped Dead)
-from_tap hosts port frame (Some h) = walk hosts (suc (steps_for (life_of frame))) h (TapIn port frame) (begun (at_tap h (tap_at h.tables port)))
+from_tap hosts port frame None = fate_of_run (run_from []) (Dropped Dead)
+from_tap hosts port frame (Some h) =
+    walk hosts (suc (steps_for (life_of frame))) h (TapIn port frame)
+    (run_from (at_tap h (tap_at h.tables port)))
 
 abbrev pub at_inward : Host → Option InwardRow → List Ident
 at_inward h None = []
 at_inward h (Some r) = path_at h r.tag
 
 abbrev pub from_outside : List Host → Wire → Frame → Option Host → FabricFate
-from_outside hosts w frame None = finished (begun []) (Dropped Unknown)
-from_outside hosts w frame (Some h) = walk hosts (steps_for (life_of frame)) h (WireIn w frame) (begun (at_inward h (inward_at h.tables (ByWire w))))
+from_outside hosts w frame None = fate_of_run (run_from []) (Dropped Unknown)
+from_outside hosts w frame (Some h) =
+    walk hosts (steps_for (life_of frame)) h (WireIn w frame)
+    (run_from (at_inward h (inward_at h.tables (ByWire w))))
 
 abbrev pub outside : List Host → Wire → Frame → FabricFate
 outside hosts w frame = from_outside hosts w frame (find (takes w frame) hosts)
 
--- an event from a port begins at the first host with a tap of it, one from a wire at the first host that takes it
+-- an event from a port begins at the first host with a tap of it, one from a wire at the first
+-- host that takes it
 unfoldable pub fabric_fate : List Host → Event → FabricFate
-fabric_fate hosts (FromPort port frame) = from_tap hosts port frame (find (λ (h : Host). is_some (tap_at h.tables port)) hosts)
-fabric_fate hosts (FromWire physical tag frame) = if is_unsupported frame then finished (begun []) (Dropped Unsupported) else outside hosts (record { physical = physical; tag = tag }) frame
+fabric_fate hosts (FromPort port frame) =
+    from_tap hosts port frame (find (λ (h : Host). is_some (tap_at h.tables port)) hosts)
+fabric_fate hosts (FromWire physical tag frame) =
+    if is_unsupported frame then fate_of_run (run_from []) (Dropped Unsupported)
+    else outside hosts (record { physical = physical; tag = tag }) frame

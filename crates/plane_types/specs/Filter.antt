@@ -1,4 +1,5 @@
--- Which packets the rules of a port's security groups allow (Networking API v2.0, security group rules).
+-- Which packets the rules of a port's security groups allow (Networking API v2.0, security group
+-- rules).
 use Rattle.std.specs.Prelude.{ℕ, ◌&&◌, ◌||◌, ◌==◌, nat_le, Bool, true, false, Option, Some, None, if◌then◌else◌}
 use Rattle.std.specs.List.{list_any}
 use Rattle.net_addr.specs.declared.address.Addr.{Addr}
@@ -40,9 +41,9 @@ is_none_of (Some n) = false
 abbrev pub has_type : ℕ → Bool
 has_type n = (n == 1) || (n == 58)
 
--- the destination port is in the range, of which a null end doesn't bound; of an echo the type and the
--- code equal the parts that aren't null (RFC 792; RFC 4443), and a packet of ICMP or ICMPv6 that is no
--- echo, in either version, meets null parts alone
+-- the destination port is in the range, of which a null end doesn't bound; of an echo the type and
+-- the code equal the parts that aren't null (RFC 792; RFC 4443), and a packet of ICMP or ICMPv6
+-- that is no echo, in either version, meets null parts alone
 abbrev pub in_range : Option ℕ → Option ℕ → Ends → KeyKind → ℕ → Bool
 in_range low high ends AskKey port = same_or_none low (ask_type ends) && same_or_none high 0
 in_range low high ends ReplyKey port = same_or_none low (reply_type ends) && same_or_none high 0
@@ -64,8 +65,8 @@ far_fits is_in None (Some g) x = is_in g x
 far_fits is_in (Some p) (Some g) x = contains p x || is_in g x
 
 -- the ethertype is that of the key's version
-abbrev pub parts_fit : (Ident → Addr → Bool) → Direction → Ethertype → Option ℕ → Option ℕ → Option ℕ
-    → Option Prefix → Option Ident → Direction → Key → Bool
+abbrev pub parts_fit : (Ident → Addr → Bool) → Direction → Ethertype
+    → Option ℕ → Option ℕ → Option ℕ → Option Prefix → Option Ident → Direction → Key → Bool
 parts_fit is_in own ethertype protocol low high prefix group direction key =
     is_direction own direction && is_ethertype ethertype (ethertype_of key.ends)
     && same_or_none protocol (protocol_of key.ends key.kind)
@@ -76,8 +77,10 @@ parts_fit is_in own ethertype protocol low high prefix group direction key =
 
 unfoldable pub rule_matches : RowLists → Direction → Key → RuleRow → Bool
 rule_matches rows direction key r =
-    parts_fit (is_member rows) r.direction r.ethertype r.protocol r.low r.high r.remote_prefix r.remote_group direction key
+    parts_fit (is_member rows) r.direction r.ethertype r.protocol r.low r.high
+    r.remote_prefix r.remote_group direction key
 
 -- some rule of some group of the port matches
 unfoldable pub rules_allow : RowLists → PortRow → Direction → Key → Bool
-rules_allow rows p direction key = list_any (λ r. names_group r.group p.groups && rule_matches rows direction key r) rows.rules
+rules_allow rows p direction key =
+    list_any (λ r. names_group r.group p.groups && rule_matches rows direction key r) rows.rules

@@ -1,6 +1,7 @@
 -- As what a port may send (Networking API v2.0, port security and allowed address pairs).
-use Rattle.std.specs.Prelude.{ℕ, not, ◌&&◌, ◌||◌, ◌==◌, Bool, true, List, if◌then◌else◌}
+use Rattle.std.specs.Prelude.{not, ◌&&◌, ◌||◌, ◌==◌, Bool, true, List, if◌then◌else◌}
 use Rattle.std.specs.List.{list_any}
+use Rattle.net_addr.specs.Words.{MacAddress}
 use Rattle.net_addr.specs.declared.address.Addr.{Addr}
 use Rattle.net_addr.specs.declared.address.Addr.TheVariants.{V4}
 use Rattle.net_addr.specs.Prefixes.{contains}
@@ -11,15 +12,18 @@ use Rattle.api_types.specs.Holders.{holds}
 use Rattle.plane_types.specs.declared.frame.Frame.{Frame}
 use Rattle.plane_types.specs.declared.frame.Frame.TheVariants.{Dhcp, Ip, NeighbourAsk, Other}
 
-abbrev pub has_pair_mac : List Pair → ℕ → Bool
+abbrev pub has_pair_mac : List Pair → MacAddress → Bool
 has_pair_mac pairs mac = list_any (λ (x : Pair). x.mac == mac) pairs
 
--- with its own MAC and one of its addresses, or with a pair's MAC and an address in the pair's prefix
-abbrev pub may_send : PortRow → ℕ → Addr → Bool
-may_send p mac from = ((p.mac == mac) && holds p from) || list_any (λ (x : Pair). (x.mac == mac) && contains x.prefix from) p.pairs
+-- with its own MAC and one of its addresses, or with a pair's MAC and an address in the pair's
+-- prefix
+abbrev pub may_send : PortRow → MacAddress → Addr → Bool
+may_send p mac from =
+    ((p.mac == mac) && holds p from)
+    || list_any (λ (x : Pair). (x.mac == mac) && contains x.prefix from) p.pairs
 
 -- without an address, as a client that has no lease yet: with its own MAC or a pair's
-abbrev pub may_ask_lease : PortRow → ℕ → Bool
+abbrev pub may_ask_lease : PortRow → MacAddress → Bool
 may_ask_lease p mac = (p.mac == mac) || has_pair_mac p.pairs mac
 
 abbrev pub guards : PortRow → Frame → Bool

@@ -1,4 +1,5 @@
--- By what packets are tracked: ends and ports (RFC 2663, section 2.3, sessions; RFC 792 and RFC 4443 for echoes).
+-- By what packets are tracked: ends and ports (RFC 2663, section 2.3, sessions; RFC 792 and RFC
+-- 4443 for echoes).
 use Rattle.std.specs.Prelude.{ℕ, ◌+◌, ◌&&◌, ◌==◌, Bool, Option, Some, None}
 use Rattle.plane_types.specs.declared.frame.Frame.{Frame}
 use Rattle.net_addr.specs.Addresses.{addr_eq}
@@ -10,7 +11,8 @@ use Rattle.plane_types.specs.declared.frame.KeyKind.TheVariants.{EchoAsk as AskK
 use Rattle.plane_types.specs.declared.frame.KeyPart.{KeyPart}
 use Rattle.plane_types.specs.declared.frame.KeyPart.TheVariants.{EchoAsk, EchoReply, Proto, Tcp, Udp}
 
--- an echo's id is its source port, and its reply's is the destination port; where there is no port it is 0
+-- an echo's id is its source port, and its reply's is the destination port; where there is no port
+-- it is 0
 abbrev pub key_of_part : KeyPart → Ends → Key
 key_of_part (Tcp s d) ends = record { kind = TcpKey; ends = ends; sport = s; dport = d }
 key_of_part (Udp s d) ends = record { kind = UdpKey; ends = ends; sport = s; dport = d }
@@ -33,18 +35,23 @@ answer_kind UdpKey = UdpKey
 answer_kind (ProtoKey n) = ProtoKey n
 
 -- the key of an answer: ends and ports change places, and an echo with its reply
-abbrev pub reversed : Key → Key
-reversed k = record { kind = answer_kind k.kind; ends = turned_round k.ends; sport = k.dport; dport = k.sport }
+abbrev pub answer_key : Key → Key
+answer_key k = record {
+  kind = answer_kind k.kind;
+  ends = turned_round k.ends;
+  sport = k.dport;
+  dport = k.sport;
+}
 
-abbrev pub kind_place : KeyKind → ℕ
-kind_place TcpKey = 0
-kind_place UdpKey = 1
-kind_place AskKey = 2
-kind_place ReplyKey = 3
-kind_place (ProtoKey n) = 4 + n
+abbrev pub kind_number : KeyKind → ℕ
+kind_number TcpKey = 0
+kind_number UdpKey = 1
+kind_number AskKey = 2
+kind_number ReplyKey = 3
+kind_number (ProtoKey n) = 4 + n
 
 abbrev pub kind_eq : KeyKind → KeyKind → Bool
-kind_eq a b = kind_place a == kind_place b
+kind_eq a b = kind_number a == kind_number b
 
 abbrev pub key_eq : Key → Key → Bool
 key_eq a b =

@@ -10,7 +10,7 @@ pub mod Keys
 pub mod Meaning
 pub mod Packets
 pub mod Passage
-pub mod Placed
+pub mod Attached
 pub mod Places
 pub mod Realises
 pub mod Routing
@@ -20,8 +20,8 @@ pub mod Synced
 pub mod TableRows
 pub mod TableStep
 pub mod Tables
-pub mod Told
-pub mod Retagged
-pub mod Wired
+pub mod Verdicts
+pub mod NewTags
+pub mod TablesOfRows
 pub mod Node
 pub mod Parts

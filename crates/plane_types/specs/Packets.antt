@@ -1,5 +1,6 @@
 -- Packets and asks as records, and the frames that they are.
 use Rattle.std.specs.Prelude.{ℕ, ◌/◌, ◌%◌, ◌^◌, ◌==◌, Bool, true, false, Option, Some, None}
+use Rattle.net_addr.specs.Words.{MacAddress}
 use Rattle.plane_types.specs.Keys.{key_of_part}
 use Rattle.plane_types.specs.Ends.{Ends}
 use Rattle.plane_types.specs.declared.frame.Frame.{Frame}
@@ -10,29 +11,30 @@ use Rattle.plane_types.specs.declared.frame.KeyPart.TheVariants.{EchoAsk, EchoRe
 
 -- a packet of IP in its frame; its time to live is the hop limit of version 6
 pub record Packet : Type 0 where
-  pub src : ℕ
-  pub dst : ℕ
+  pub src : MacAddress
+  pub dst : MacAddress
   pub ends : Ends
   pub ttl : ℕ
   pub part : KeyPart
 
--- who asks for the MAC of an address: by ARP (RFC 826), or by a neighbour solicitation (RFC 4861, 4.3)
+-- who asks for the MAC of an address: by ARP (RFC 826), or by a neighbour solicitation (RFC 4861,
+-- 4.3)
 pub record AddressAsk : Type 0 where
-  pub src : ℕ
+  pub src : MacAddress
   pub ends : Ends
 
 -- who asks for a lease (RFC 2131)
 pub record LeaseAsk : Type 0 where
-  pub src : ℕ
+  pub src : MacAddress
   pub from : ℕ
 
-abbrev pub packet : ℕ → ℕ → Ends → ℕ → KeyPart → Packet
+abbrev pub packet : MacAddress → MacAddress → Ends → ℕ → KeyPart → Packet
 packet src dst ends ttl part = record { src = src; dst = dst; ends = ends; ttl = ttl; part = part }
 
-abbrev pub address_ask : ℕ → Ends → AddressAsk
+abbrev pub address_ask : MacAddress → Ends → AddressAsk
 address_ask src ends = record { src = src; ends = ends }
 
-abbrev pub lease_ask : ℕ → ℕ → LeaseAsk
+abbrev pub lease_ask : MacAddress → ℕ → LeaseAsk
 lease_ask src from = record { src = src; from = from }
 
 abbrev pub ip_frame : Packet → Frame
@@ -71,7 +73,7 @@ part_from (EchoReply i) port = EchoReply i
 part_from (Proto n) port = Proto n
 
 -- a MAC with an odd first byte names many
-abbrev pub is_for_many : ℕ → Bool
+abbrev pub is_for_many : MacAddress → Bool
 is_for_many mac = (mac / 2 ^ 40) % 2 == 1
 
 -- packets to many, and what is neither a packet nor an ask, are carried nowhere

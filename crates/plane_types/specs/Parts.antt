@@ -27,7 +27,8 @@ use_of u = record { key = u.key; port = u.port }
 -- what an entry says, where it is a translation of this router with this outer address
 abbrev pub use_if : Ident → ℕ → Entry → Option TheUse
 use_if r outer (Flow p d k) = None
-use_if r outer (Snat s k o p) = if ident_eq r s && (outer == o) then Some (record { key = k; port = p }) else None
+use_if r outer (Snat s k o p) =
+    if ident_eq r s && (outer == o) then Some (record { key = k; port = p }) else None
 
 abbrev pub changed_of : Changed → TheChanged
 changed_of Nothing = ByNothing

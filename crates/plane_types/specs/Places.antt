@@ -1,5 +1,6 @@
 -- Where a frame is at a host, and where a look-up leads.
-use Rattle.std.specs.Prelude.{ℕ, List, Option}
+use Rattle.std.specs.Prelude.{ℕ, Option}
+use Rattle.net_addr.specs.Words.{Text}
 use Rattle.api_types.specs.Ident.{Ident}
 use Rattle.plane_types.specs.declared.event.Place.{Place as TheirPlace}
 use Rattle.plane_types.specs.declared.event.Place.TheVariants.{Bridge as TheirBridge, DhcpIn as TheirDhcpIn, RouterIn as TheirRouterIn, TapIn as TheirTapIn, TapOut as TheirTapOut, TunnelIn as TheirTunnelIn, WireIn as TheirWireIn}
@@ -18,20 +19,21 @@ pub data Place : Type 0 where
   DhcpIn : ℕ → Frame → Place
   TapOut : Ident → Frame → Place
 
--- it goes on at the host, to another host by a tunnel, or to the wire; or it ends, and where a router sent it on in this look-up, on
--- this network
+-- it goes on at the host, to another host by a tunnel, or to the wire; or it ends, and where a
+-- router sent it on in this look-up, on this network
 pub data Step : Type 0 where
   Next : Place → Step
-  ToTunnel : List ℕ → ℕ → Frame → Step
+  ToTunnel : Text → ℕ → Frame → Step
   ToWire : Wire → Ident → Toward → Frame → Step
   End : Outcome → Option Ident → Step
 
 -- a place that borrows a name, without the borrowing
-abbrev pub place_seen : TheirPlace → Place
-place_seen (TheirTapIn port frame) = TapIn port frame
-place_seen (TheirBridge tag frame) = Bridge tag frame
-place_seen (TheirTunnelIn number frame) = TunnelIn number frame
-place_seen (TheirWireIn physical tag frame) = WireIn (record { physical = physical.now; tag = tag }) frame
-place_seen (TheirRouterIn port router frame) = RouterIn port router frame
-place_seen (TheirDhcpIn tag frame) = DhcpIn tag frame
-place_seen (TheirTapOut port frame) = TapOut port frame
+abbrev pub view_of_place : TheirPlace → Place
+view_of_place (TheirTapIn port frame) = TapIn port frame
+view_of_place (TheirBridge tag frame) = Bridge tag frame
+view_of_place (TheirTunnelIn number frame) = TunnelIn number frame
+view_of_place (TheirWireIn physical tag frame) =
+    WireIn (record { physical = physical.now; tag = tag }) frame
+view_of_place (TheirRouterIn port router frame) = RouterIn port router frame
+view_of_place (TheirDhcpIn tag frame) = DhcpIn tag frame
+view_of_place (TheirTapOut port frame) = TapOut port frame

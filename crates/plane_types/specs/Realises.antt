@@ -1,7 +1,9 @@
--- The tables of a host realise the rows: each table is the list that the rows give, for the host's tags. Of the tags the rows say
--- which networks have one and no more, since a network keeps the tag that it was once given.
+-- The tables of a host realise the rows: each table is the list that the rows give, for the host's
+-- tags. Of the tags the rows say which networks have one and no more, since a network keeps the
+-- tag that it was once given.
 use Rattle.std.specs.Prelude.{◌≡◌, ℕ, ◌<◌, ◌≤◌, ◌==◌, List, map, count_by}
 use Rattle.std.specs.List.{filter}
+use Rattle.net_addr.specs.Words.{Text}
 use Rattle.api_types.specs.Lists.{Each}
 use Rattle.api_types.specs.RowLists.{RowLists}
 use Rattle.api_types.specs.declared.network.NetworkRow.{NetworkRow}
@@ -17,12 +19,13 @@ pub record TagStands (rows : RowLists) (t : TagRow) : Type 0 where
   pub last : t.tag ≤ 4094
 
 -- the tagged networks in order of creation, each with a tag of its own
-pub record RealisesTags (rows : RowLists) (host : List ℕ) (tags : List TagRow) : Type 0 where
-  pub networks : map (λ (t : TagRow). t.network) tags ≡ map (λ (n : NetworkRow). n.id) (filter (is_tagged rows host) rows.networks)
+pub record RealisesTags (rows : RowLists) (host : Text) (tags : List TagRow) : Type 0 where
+  pub networks : map (λ (t : TagRow). t.network) tags
+      ≡ map (λ (n : NetworkRow). n.id) (filter (is_tagged rows host) rows.networks)
   pub stand : Each (TagStands rows) tags
   pub differ : (tag : ℕ) → count_by (λ (t : TagRow). t.tag == tag) tags ≤ 1
 
-pub record Realises (rows : RowLists) (host : List ℕ) (t : TableLists) : Type 0 where
+pub record Realises (rows : RowLists) (host : Text) (t : TableLists) : Type 0 where
   pub tags : RealisesTags rows host t.tags
   pub taps : t.taps ≡ tap_rows rows host t.tags
   pub filters : t.filters ≡ filter_rows rows host

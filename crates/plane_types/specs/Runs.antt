@@ -1,4 +1,5 @@
--- In which part of a list the elements stand that pass a test: none is in front of it, and none behind it.
+-- In which part of a list the elements stand that pass a test: none is in front of it, and none
+-- behind it.
 use Rattle.std.specs.Prelude.{◌≡◌, ℕ, ◌≤◌, Bool, List, [], Option, Some, None, length, take, drop}
 use Rattle.std.specs.List.{filter}
 use Rattle.plane_types.specs.declared.run.Run.{Run}
@@ -15,6 +16,6 @@ IsRunOf test xs None = filter test xs ≡ []
 IsRunOf test xs (Some r) = IsRun test xs r
 
 -- as one more passes, at a place that is the last so far
-abbrev pub reached : ℕ → ℕ → Option Run → Run
-reached place behind None = record { from = place; behind = behind }
-reached place behind (Some r) = record { from = r.from; behind = behind }
+abbrev pub longer_run : ℕ → ℕ → Option Run → Run
+longer_run place behind None = record { from = place; behind = behind }
+longer_run place behind (Some r) = record { from = r.from; behind = behind }

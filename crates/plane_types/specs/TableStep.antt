@@ -2,6 +2,7 @@
 use Rattle.std.specs.Prelude.{ℕ, Bool, true, false, not, ◌&&◌, ◌||◌, ◌==◌, List, [], map, Option, Some, None, find, if◌then◌else◌}
 use Rattle.std.specs.List.{list_any, filter_map}
 use Rattle.net_addr.specs.Addresses.{addr_eq}
+use Rattle.net_addr.specs.Words.{MacAddress}
 use Rattle.net_addr.specs.declared.address.Addr.{Addr}
 use Rattle.net_addr.specs.declared.address.Addr.TheVariants.{V4}
 use Rattle.net_addr.specs.Prefixes.{contains}
@@ -17,7 +18,7 @@ use Rattle.api_types.specs.Wires.{wire_eq}
 use Rattle.plane_types.specs.Packets.{AddressAsk, Packet, address_ask, ask_frame, ip_frame, is_unsupported, key_of, packet}
 use Rattle.plane_types.specs.Passage.{Passage, passage}
 use Rattle.plane_types.specs.Places.{Bridge, DhcpIn, End, Next, Place, RouterIn, Step, TapIn, TapOut, ToTunnel, ToWire, TunnelIn, WireIn}
-use Rattle.plane_types.specs.Routing.{RouteEnds, RouteSends, Routed, routed}
+use Rattle.plane_types.specs.Routing.{RouteEnds, RouteSends, Routed, routing_of}
 use Rattle.api_types.specs.RouterViews.{Float, Leg, RouterView, Way}
 use Rattle.plane_types.specs.declared.entry.Entry.{Entry}
 use Rattle.plane_types.specs.declared.frame.Frame.{Frame}
@@ -73,7 +74,8 @@ abbrev pub tag_row : TableLists → ℕ → Option TagRow
 tag_row t tag = find (λ (r : TagRow). r.tag == tag) t.tags
 
 abbrev pub neighbour_at : TableLists → ℕ → Addr → Option NeighbourRow
-neighbour_at t tag x = find (λ (r : NeighbourRow). (r.tag == tag) && addr_eq r.address x) t.neighbours
+neighbour_at t tag x =
+    find (λ (r : NeighbourRow). (r.tag == tag) && addr_eq r.address x) t.neighbours
 
 abbrev pub bridge_at : TableLists → ℕ → BridgeKey → Option BridgeRow
 bridge_at t tag key = find (λ (r : BridgeRow). (r.tag == tag) && bridge_key_eq r.key key) t.bridge
@@ -92,30 +94,42 @@ abbrev pub in_set : TableLists → Ident → Addr → Bool
 in_set t group x = list_any (λ (s : SetRow). ident_eq group s.group && contains s.prefix x) t.sets
 
 abbrev pub row_fits : TableLists → Direction → Key → FilterRow → Bool
-row_fits t direction key r = parts_fit (in_set t) r.direction r.ethertype r.protocol r.low r.high r.remote_prefix r.remote_group direction key
+row_fits t direction key r =
+    parts_fit (in_set t) r.direction r.ethertype r.protocol r.low r.high
+    r.remote_prefix r.remote_group direction key
 
 unfoldable pub tables_allow : TableLists → Ident → Direction → Key → Bool
-tables_allow t port direction key = list_any (λ (r : FilterRow). ident_eq port r.port && row_fits t direction key r) t.filters
+tables_allow t port direction key =
+    list_any (λ (r : FilterRow). ident_eq port r.port && row_fits t direction key r) t.filters
 
 abbrev pub tap_passage : TableLists → List Entry → TapRow → Direction → Packet → Passage
-tap_passage t entries tap direction p = passage tap.secured (tables_allow t tap.port) entries tap.port direction (key_of p)
+tap_passage t entries tap direction p =
+    passage tap.secured (tables_allow t tap.port) entries tap.port direction (key_of p)
 
 -- tap in
-abbrev pub may_send_as : List Pair → ℕ → Addr → Bool
-may_send_as allowed mac from = list_any (λ (x : Pair). (x.mac == mac) && contains x.prefix from) allowed
+abbrev pub may_send_as : List Pair → MacAddress → Addr → Bool
+may_send_as allowed mac from =
+    list_any (λ (x : Pair). (x.mac == mac) && contains x.prefix from) allowed
 
 abbrev pub tap_guards : TapRow → Frame → Bool
 tap_guards tap (Ip src dst ends ttl part) = may_send_as tap.allowed src (source ends)
 tap_guards tap (NeighbourAsk src ends) = may_send_as tap.allowed src (source ends)
-tap_guards tap (Dhcp src from) = if from == 0 then (tap.mac == src) || list_any (λ (y : Pair). y.mac == src) tap.allowed else may_send_as tap.allowed src (V4 from)
+tap_guards tap (Dhcp src from) =
+    if from == 0 then (tap.mac == src) || list_any (λ (y : Pair). y.mac == src) tap.allowed
+    else may_send_as tap.allowed src (V4 from)
 tap_guards tap (Other s d y) = true
 
 abbrev pub tap_filtered : Frame → TapRow → Passage → Stepped
-tap_filtered frame tap y = if y.passes then record { step = Next (Bridge tap.tag frame); made = y.made } else plain (drops EgressFilter)
+tap_filtered frame tap y =
+    if y.passes then record { step = Next (Bridge tap.tag frame); made = y.made }
+    else plain (drops EgressFilter)
 
 abbrev pub tap_sends : TableLists → List Entry → TapRow → Frame → Stepped
-tap_sends t entries tap (Ip src dst ends ttl part) = tap_filtered (Ip src dst ends ttl part) tap (tap_passage t entries tap Egress (packet src dst ends ttl part))
-tap_sends t entries tap (NeighbourAsk src ends) = plain (Next (Bridge tap.tag (NeighbourAsk src ends)))
+tap_sends t entries tap (Ip src dst ends ttl part) =
+    let p = packet src dst ends ttl part in
+    tap_filtered (ip_frame p) tap (tap_passage t entries tap Egress p)
+tap_sends t entries tap (NeighbourAsk src ends) =
+    plain (Next (Bridge tap.tag (NeighbourAsk src ends)))
 tap_sends t entries tap (Dhcp src from) = plain (Next (Bridge tap.tag (Dhcp src from)))
 tap_sends t entries tap (Other s d y) = plain (Next (Bridge tap.tag (Other s d y)))
 
@@ -132,38 +146,45 @@ wire_or true n w toward frame cause = drops Unknown
 wire_or false n None toward frame cause = drops cause
 wire_or false n (Some w) toward frame cause = ToWire w n toward frame
 
-abbrev pub tapped : ℕ → Ident → Frame → Step
-tapped tag port (Ip src dst ends ttl part) = Next (TapOut port (Ip src dst ends ttl part))
-tapped tag port (Dhcp src from) = Next (DhcpIn tag (Dhcp src from))
-tapped tag port (NeighbourAsk src ends) = Next (DhcpIn tag (NeighbourAsk src ends))
-tapped tag port (Other s d y) = Next (DhcpIn tag (Other s d y))
+abbrev pub to_tap : ℕ → Ident → Frame → Step
+to_tap tag port (Ip src dst ends ttl part) = Next (TapOut port (Ip src dst ends ttl part))
+to_tap tag port (Dhcp src from) = Next (DhcpIn tag (Dhcp src from))
+to_tap tag port (NeighbourAsk src ends) = Next (DhcpIn tag (NeighbourAsk src ends))
+to_tap tag port (Other s d y) = Next (DhcpIn tag (Other s d y))
 
 abbrev pub routed_in : Ident → Ident → Frame → Step
-routed_in router port (Ip src dst ends ttl part) = Next (RouterIn port router (Ip src dst ends ttl part))
+routed_in router port (Ip src dst ends ttl part) =
+    Next (RouterIn port router (Ip src dst ends ttl part))
 routed_in router port (NeighbourAsk src ends) = drops Unknown
 routed_in router port (Dhcp src from) = drops Unknown
 routed_in router port (Other s d y) = drops Unknown
 
 -- by the row's end; a frame that came by a tunnel or wire doesn't leave by one
-abbrev pub led : Bool → ℕ → Frame → BridgeTo → Step
-led inner tag frame (ToTap port) = tapped tag port frame
-led inner tag frame (ToRouter router port) = routed_in router port frame
-led false tag frame (ToHost host number) = ToTunnel host number frame
-led true tag frame (ToHost host number) = drops Unknown
+abbrev pub target_step : Bool → ℕ → Frame → BridgeTo → Step
+target_step inner tag frame (ToTap port) = to_tap tag port frame
+target_step inner tag frame (ToRouter router port) = routed_in router port frame
+target_step false tag frame (ToHost host number) = ToTunnel host number frame
+target_step true tag frame (ToHost host number) = drops Unknown
 
 abbrev pub bridged_by : Bool → TagRow → Toward → Frame → DropCause → Option BridgeRow → Step
-bridged_by inner row toward frame cause (Some r) = led inner row.tag frame r.to
+bridged_by inner row toward frame cause (Some r) = target_step inner row.tag frame r.to
 bridged_by inner row toward frame cause None = wire_or inner row.network row.wire toward frame cause
 
 abbrev pub asked_at : Bool → TagRow → AddressAsk → Option NeighbourRow → Step
 asked_at inner row a (Some r) = stops (Answered (ArpAnswer r.address r.mac))
-asked_at inner row a None = wire_or inner row.network row.wire (TowardAddress (destination a.ends)) (ask_frame a) NoHolder
+asked_at inner row a None =
+    wire_or inner row.network row.wire (TowardAddress (destination a.ends)) (ask_frame a) NoHolder
 
 abbrev pub bridge_in : TableLists → Bool → TagRow → Frame → Step
-bridge_in t inner row (Ip src dst ends ttl part) = bridged_by inner row (TowardMac dst) (Ip src dst ends ttl part) Unknown (bridge_at t row.tag (AtMac dst))
-bridge_in t inner row (NeighbourAsk src ends) = asked_at inner row (address_ask src ends) (neighbour_at t row.tag (destination ends))
-bridge_in t inner row (Dhcp src from) = bridged_by inner row TowardDhcp (Dhcp src from) NoLease (bridge_at t row.tag AtDhcp)
-bridge_in t inner row (Other s d y) = wire_or inner row.network row.wire (TowardMac d) (Other s d y) Unknown
+bridge_in t inner row (Ip src dst ends ttl part) =
+    bridged_by inner row (TowardMac dst) (Ip src dst ends ttl part) Unknown
+    (bridge_at t row.tag (AtMac dst))
+bridge_in t inner row (NeighbourAsk src ends) =
+    asked_at inner row (address_ask src ends) (neighbour_at t row.tag (destination ends))
+bridge_in t inner row (Dhcp src from) =
+    bridged_by inner row TowardDhcp (Dhcp src from) NoLease (bridge_at t row.tag AtDhcp)
+bridge_in t inner row (Other s d y) =
+    wire_or inner row.network row.wire (TowardMac d) (Other s d y) Unknown
 
 abbrev pub bridge_at_tag : TableLists → Bool → Frame → Option TagRow → Step
 bridge_at_tag t inner frame None = drops Unknown
@@ -184,10 +205,15 @@ abbrev pub way_at : RouteRow → Way
 way_at x = record { prefix = x.prefix; rank = x.rank; next = x.next; port = x.port }
 
 abbrev pub ways_at : Ident → List RouteRow → List Way
-ways_at r rows = filter_map (λ (x : RouteRow). if ident_eq r x.router then Some (way_at x) else None) rows
+ways_at r rows =
+    filter_map (λ (x : RouteRow). if ident_eq r x.router then Some (way_at x) else None) rows
 
 abbrev pub floats_at_router : Ident → List FloatRow → List Float
-floats_at_router r rows = filter_map (λ (x : FloatRow). if ident_eq r x.router then Some (record { floating = x.floating; fixed = x.fixed }) else None) rows
+floats_at_router r rows =
+    filter_map (λ (x : FloatRow).
+    if ident_eq r x.router
+    then Some (record { floating = x.floating; fixed = x.fixed })
+    else None) rows
 
 abbrev pub table_view : TableLists → RouterTable → RouterView
 table_view t r = record {
@@ -208,7 +234,12 @@ tagged_leg r port = find (λ (x : RouterPort). ident_eq port x.port) r.ports
 
 abbrev pub unheld : Addr → Packet → Option TagRow → Step
 unheld hop p None = drops Unknown
-unheld hop p (Some row) = elim row.wire [ None ↦ End (Dropped NoHolder) (Some row.network) | Some w ↦ End (Out row.network (TowardAddress hop) (ip_frame (record p { dst = 0 }))) (Some row.network) ]
+unheld hop p (Some row) =
+    elim row.wire [
+      | None ↦ End (Dropped NoHolder) (Some row.network)
+      | Some w ↦ End (Out row.network (TowardAddress hop) (ip_frame (record p { dst = 0 })))
+          (Some row.network)
+    ]
 
 abbrev pub sent_by : TableLists → ℕ → Addr → Packet → Option NeighbourRow → Step
 sent_by t tag hop p (Some r) = Next (Bridge tag (ip_frame (record p { dst = r.mac })))
@@ -220,18 +251,24 @@ sent_at t hop p (Some x) = sent_by t x.tag hop p (neighbour_at t x.tag hop)
 
 abbrev pub table_routed : TableLists → RouterTable → Routed → Stepped
 table_routed t r (RouteEnds o) = plain (stops o)
-table_routed t r (RouteSends made out hop p) = record { step = sent_at t hop p (tagged_leg r out.port); made = made }
+table_routed t r (RouteSends made out hop p) = record {
+  step = sent_at t hop p (tagged_leg r out.port);
+  made = made;
+}
 
-abbrev pub router_by_leg : TableLists → List Entry → RouterTable → Packet → Option RouterPort → Stepped
+abbrev pub router_by_leg : TableLists → List Entry → RouterTable → Packet → Option RouterPort
+    → Stepped
 router_by_leg t entries r p None = plain (drops Unknown)
-router_by_leg t entries r p (Some x) = table_routed t r (routed (table_view t r) entries (leg_at x) p)
+router_by_leg t entries r p (Some x) =
+    table_routed t r (routing_of (table_view t r) entries (leg_at x) p)
 
 abbrev pub router_by_row : TableLists → List Entry → Ident → Packet → Option RouterTable → Stepped
 router_by_row t entries port p None = plain (drops Unknown)
 router_by_row t entries port p (Some r) = router_by_leg t entries r p (tagged_leg r port)
 
 abbrev pub router_in : TableLists → List Entry → Ident → Ident → Frame → Stepped
-router_in t entries port router (Ip src dst ends ttl part) = router_by_row t entries port (packet src dst ends ttl part) (router_at t router)
+router_in t entries port router (Ip src dst ends ttl part) =
+    router_by_row t entries port (packet src dst ends ttl part) (router_at t router)
 router_in t entries port router (NeighbourAsk src ends) = plain (drops Unknown)
 router_in t entries port router (Dhcp src from) = plain (drops Unknown)
 router_in t entries port router (Other s d y) = plain (drops Unknown)
@@ -241,21 +278,26 @@ abbrev pub lease_answer : Option LeaseRow → Step
 lease_answer None = drops NoLease
 lease_answer (Some r) = stops (Answered (LeaseAnswer r.lease))
 
-abbrev pub source_of : Frame → ℕ
+abbrev pub source_of : Frame → MacAddress
 source_of (Ip src dst ends ttl part) = src
 source_of (NeighbourAsk src ends) = src
 source_of (Dhcp src from) = src
 source_of (Other s d y) = s
 
-abbrev pub lease_at : TableLists → ℕ → ℕ → Option LeaseRow
+abbrev pub lease_at : TableLists → ℕ → MacAddress → Option LeaseRow
 lease_at t tag mac = find (λ (r : LeaseRow). (r.tag == tag) && (r.mac == mac)) t.leases
 
 abbrev pub tap_delivers : Ident → Frame → Passage → Stepped
-tap_delivers port frame y = if y.passes then record { step = stops (Delivered port frame); made = y.made } else plain (drops IngressFilter)
+tap_delivers port frame y =
+    if y.passes then record { step = stops (Delivered port frame); made = y.made }
+    else plain (drops IngressFilter)
 
 abbrev pub tap_out_by : TableLists → List Entry → Frame → TapRow → Stepped
-tap_out_by t entries (Ip src dst ends ttl part) tap = tap_delivers tap.port (Ip src dst ends ttl part) (tap_passage t entries tap Ingress (packet src dst ends ttl part))
-tap_out_by t entries (NeighbourAsk src ends) tap = plain (stops (Delivered tap.port (NeighbourAsk src ends)))
+tap_out_by t entries (Ip src dst ends ttl part) tap =
+    let p = packet src dst ends ttl part in
+    tap_delivers tap.port (ip_frame p) (tap_passage t entries tap Ingress p)
+tap_out_by t entries (NeighbourAsk src ends) tap =
+    plain (stops (Delivered tap.port (NeighbourAsk src ends)))
 tap_out_by t entries (Dhcp src from) tap = plain (stops (Delivered tap.port (Dhcp src from)))
 tap_out_by t entries (Other s d y) tap = plain (stops (Delivered tap.port (Other s d y)))
 
@@ -267,7 +309,8 @@ tap_out t entries frame (Some tap) = tap_out_by t entries frame tap
 abbrev pub table_step : TableLists → List Entry → Place → Stepped
 table_step t entries (TapIn port frame) = tap_in t entries frame (tap_at t port)
 table_step t entries (Bridge tag frame) = plain (bridge_step t false tag frame)
-table_step t entries (TunnelIn number frame) = plain (inward_step t frame (inward_at t (ByTunnel number)))
+table_step t entries (TunnelIn number frame) =
+    plain (inward_step t frame (inward_at t (ByTunnel number)))
 table_step t entries (WireIn wire frame) = plain (inward_step t frame (inward_at t (ByWire wire)))
 table_step t entries (RouterIn port router frame) = router_in t entries port router frame
 table_step t entries (DhcpIn tag frame) = plain (lease_answer (lease_at t tag (source_of frame)))

@@ -62,9 +62,9 @@ impl<T: Ordered> Ascending<T> {
         self.items
     }
 
-    /// Puts an item in its place, in front of those that it doesn't come behind, or leaves all as
-    /// it is. Its cost grows with the items behind that place.
-    pub fn put(&mut self, item: T) -> Result<(), OutOfMemory>
+    /// Puts an item in its place, in front of those that it doesn't come after, or leaves all as it
+    /// is. Its cost grows with the items after that place.
+    pub fn insert(&mut self, item: T) -> Result<(), OutOfMemory>
         ensures ok { OnOk result (self.new ≡ put_in T.before item self.old) }
         ensures err { OnErr result (self.new ≡ self.old) }
     {

@@ -1,3 +1,5 @@
+//! What a request asks, and what it is answered, calls of the lab among them.
+
 use crate::event::Event;
 use crate::lists::TableLists;
 use crate::verdict::Verdict;

@@ -1,3 +1,5 @@
+//! The two ends of a packet, always of one version.
+
 ghost use Rattle.std.specs.Prelude.{◌≡◌, true};
 ghost use Rattle.net_addr.specs.Addresses.{same_version};
 ghost use Rattle.plane_types.specs.Ends.{Ends4, Ends6, are_four, destination, ends_of, ethertype_of, source, turned_round, with_destination, with_source};

@@ -2,7 +2,7 @@
 
 ghost use Rattle.std.specs.Prelude.{◌≡◌, ◌≤◌, []};
 ghost use Rattle.std.specs.List.{filter};
-ghost use Rattle.plane_types.specs.Placed.{is_placed as is_placed_at};
+ghost use Rattle.plane_types.specs.Attached.{is_attached as is_placed_at};
 
 use crate::entry::Entry;
 use crate::spare_vec::SpareVec;

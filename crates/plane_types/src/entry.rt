@@ -1,3 +1,5 @@
+//! Tracked entries: flows of filters, and translations of routers.
+
 use crate::frame::Key;
 use api_types::{Direction, Id};
 use net_addr::{Addr4, Copies, OutOfMemory};

@@ -1,3 +1,5 @@
+//! Events, and the seven places at which a frame can be.
+
 use crate::frame::Frame;
 use api_types::Id;
 use net_addr::Text;

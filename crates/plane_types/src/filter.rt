@@ -1,3 +1,5 @@
+//! Single packets against the parts of a filter.
+
 ghost use Rattle.std.specs.Prelude.{◌≡◌};
 ghost use Rattle.plane_types.specs.Ends.{ask_type as type_of_ask, echo_protocol as protocol_of_echo, reply_type as type_of_reply};
 ghost use Rattle.plane_types.specs.Filter.{at_least as not_below, at_most as not_above, far_of as far_address, has_type as protocol_has_type, in_range as range_has, is_none_of as has_none, same_or_none as same_if_any};

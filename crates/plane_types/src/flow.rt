@@ -1,3 +1,5 @@
+//! Flows: whether one is tracked, and new ones.
+
 ghost use Rattle.std.specs.Prelude.{◌≡◌, ◌++◌, option_to_list};
 ghost use Rattle.plane_types.specs.Entries.{has_flow as flow_is_there, is_flow as is_this_flow, opposite as other_way};
 ghost use Rattle.plane_types.specs.Passage.{new_flow as flow_if_new};

@@ -1,5 +1,7 @@
+//! Frames, and the keys by which packets are tracked.
+
 ghost use Rattle.std.specs.Prelude.{◌≡◌};
-ghost use Rattle.plane_types.specs.Keys.{answer_kind, frame_key, key_of_part, reversed};
+ghost use Rattle.plane_types.specs.Keys.{answer_kind, frame_key, key_of_part, answer_key};
 
 use crate::ends::Ends;
 use net_addr::{Addr4, Mac};
@@ -115,7 +117,7 @@ impl KeyKind {
 impl Key {
     /// The key of an answer: ends and ports change places, and an echo with its reply.
     pub fn reversed(self) -> Key
-        ensures { result ≡ reversed self }
+        ensures { result ≡ answer_key self }
     {
         Key {
             kind: self.kind.answer(),

@@ -1,3 +1,5 @@
+//! Equal keys and kinds.
+
 ghost use Rattle.std.specs.Prelude.{◌≡◌};
 ghost use Rattle.plane_types.specs.Keys.{key_eq, kind_eq};
 

@@ -48,11 +48,10 @@ pub use flow::{Passage, is_tracked, new_flow, opposite};
 pub use frame::{Frame, Key, KeyKind, KeyPart};
 pub use key::{is_key, is_kind};
 pub use lists::{Leases, TableLists, Tags};
-pub use packet::{Packet, is_unsupported, part_from, part_to};
+pub use packet::{Packet, part_from, part_to};
 pub use pairs::{has_pair_mac, is_allowed};
 pub use routing::{
-    Changed, Destined, Sourced, answered_to, by_any, by_float, kept_source, lower, rank_place,
-    sourced_at, with_ends,
+    Changed, Destined, Sourced, answered_to, kept_source, lower, rank_number, sourced_at, with_ends,
 };
 pub use spare_vec::SpareVec;
 pub use table::{
@@ -62,5 +61,5 @@ pub use table::{
 pub use tables::HostTables;
 pub use tag_map::TagMap;
 pub use tags::tag_of;
-pub use translation::{Use, answers, has_choice, takes, use_of_entry};
+pub use translation::{Use, use_of_entry};
 pub use verdict::{AskAnswer, DropCause, Made, Outcome, Toward, TrailItem, Verdict};

@@ -1,13 +1,13 @@
 //! The order of the rows of the two maps, bridge and neighbours.
 
 ghost use Rattle.std.specs.Prelude.{◌≡◌};
-ghost use Rattle.plane_types.specs.Hosts.{key_place as place_of_key};
+ghost use Rattle.plane_types.specs.Hosts.{key_number as place_of_key};
 
 use crate::table::{BridgeKey, BridgeRow, NeighbourRow};
 use api_types::Ordered;
 
 // Where a key stands among those of a tag.
-fn key_place(key: BridgeKey) -> u64
+fn key_number(key: BridgeKey) -> u64
     ensures { result ≡ place_of_key key }
 {
     match key {
@@ -30,7 +30,7 @@ impl Ordered for BridgeRow {
 
     fn is_before(&self, other: &BridgeRow) -> bool {
         self.tag < other.tag
-            || (self.tag == other.tag && key_place(self.key) < key_place(other.key))
+            || (self.tag == other.tag && key_number(self.key) < key_number(other.key))
     }
 }
 

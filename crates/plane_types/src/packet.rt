@@ -1,3 +1,5 @@
+//! Packets of IP, taken out of their frames and put back.
+
 ghost use Rattle.std.specs.Prelude.{◌≡◌, option_map};
 ghost use Rattle.plane_types.specs.Packets.{ip_frame, is_for_many as names_many, is_unsupported as unsupported, key_of, packet_in, part_from as with_source_port, part_to as with_destination_port};
 ghost use Rattle.plane_types.specs.Parts.{packet_of};
@@ -94,13 +96,15 @@ fn is_for_many(mac: Mac) -> bool
     mac.0 / 0x100_0000_0000 % 2 == 1
 }
 
-/// Whether a frame is carried nowhere: a packet to many, or neither a packet nor an ask.
-pub fn is_unsupported(frame: &Frame) -> bool
-    ensures { result ≡ unsupported frame.now }
-{
-    match *frame {
-        Frame::Ip { dst, .. } => is_for_many(dst),
-        Frame::NeighbourAsk { .. } | Frame::Dhcp { .. } => false,
-        Frame::Other { .. } => true,
+impl Frame {
+    /// Whether it is carried nowhere: a packet to many, or neither a packet nor an ask.
+    pub fn is_unsupported(&self) -> bool
+        ensures { result ≡ unsupported self.now }
+    {
+        match *self {
+            Frame::Ip { dst, .. } => is_for_many(dst),
+            Frame::NeighbourAsk { .. } | Frame::Dhcp { .. } => false,
+            Frame::Other { .. } => true,
+        }
     }
 }

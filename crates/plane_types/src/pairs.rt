@@ -1,3 +1,5 @@
+//! Allowed pairs of a tap.
+
 ghost use Rattle.std.specs.Prelude.{◌≡◌, ◌&&◌, ◌==◌};
 ghost use Rattle.std.specs.List.{list_any};
 ghost use Rattle.net_addr.specs.Prefixes.{contains};

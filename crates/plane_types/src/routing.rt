@@ -1,7 +1,9 @@
+//! Packets on their way through a router: ends and ports that are changed.
+
 ghost use Rattle.std.specs.Prelude.{◌≡◌, ◌-◌, ◌<◌, option_map};
 ghost use Rattle.plane_types.specs.Ends.{turned_round as other_way_round};
 ghost use Rattle.plane_types.specs.Packets.{part_to as with_destination_port};
-ghost use Rattle.plane_types.specs.Routing.{by_any as changed_at_all, by_float as changed_by_float, kept_source as kept, rank_place as place_of_rank, sourced_at as sourced_with};
+ghost use Rattle.plane_types.specs.Routing.{by_any as changed_at_all, by_float as changed_by_float, kept_source as kept, rank_number as place_of_rank, sourced_at as sourced_with};
 ghost use Rattle.plane_types.specs.Parts.{changed_of, destined_of, packet_of, sourced_of};
 
 use crate::ends::Ends;
@@ -34,23 +36,25 @@ pub struct Sourced {
     pub made: Option<Entry>,
 }
 
-/// Whether a floating address changed it.
-pub fn by_float(by: Changed) -> bool
-    ensures { result ≡ changed_by_float (changed_of by) }
-{
-    match by {
-        Changed::Floating => true,
-        Changed::Nothing | Changed::Entry => false,
+impl Changed {
+    /// Whether a floating address changed it.
+    pub fn is_floating(self) -> bool
+        ensures { result ≡ changed_by_float (changed_of self) }
+    {
+        match self {
+            Changed::Floating => true,
+            Changed::Nothing | Changed::Entry => false,
+        }
     }
-}
 
-/// Whether anything changed it.
-pub fn by_any(by: Changed) -> bool
-    ensures { result ≡ changed_at_all (changed_of by) }
-{
-    match by {
-        Changed::Floating | Changed::Entry => true,
-        Changed::Nothing => false,
+    /// Whether anything changed it.
+    pub fn is_any(self) -> bool
+        ensures { result ≡ changed_at_all (changed_of self) }
+    {
+        match self {
+            Changed::Floating | Changed::Entry => true,
+            Changed::Nothing => false,
+        }
     }
 }
 
@@ -121,7 +125,7 @@ pub fn sourced_at(packet: &Packet, outer: Addr4, port: u16) -> Packet
 }
 
 /// Of routes of equal lengths the one with the lower number goes first.
-pub fn rank_place(rank: RouteRank) -> u8
+pub fn rank_number(rank: RouteRank) -> u8
     ensures { result ≡ place_of_rank rank }
 {
     match rank {

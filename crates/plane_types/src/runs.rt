@@ -3,7 +3,7 @@
 ghost use Rattle.std.specs.Prelude.{◌≡◌, Some, IfOk, OnOk, find, if◌then◌else◌, option_copied};
 ghost use Rattle.std.specs.HashMap.{get};
 ghost use Rattle.std.specs.List.{filter, list_any};
-ghost use Rattle.plane_types.specs.Runs.{IsRunOf, reached};
+ghost use Rattle.plane_types.specs.Runs.{IsRunOf, longer_run};
 
 use crate::keyed::Keyed;
 use crate::run::Run;
@@ -55,7 +55,7 @@ fn reach<K: Eq + Hash + Copy>(
         ((q : K)
         → get K.eq runs.new q
         ≡ (if K.eq key q
-        then Some (reached place behind (get K.eq runs.old q))
+        then Some (longer_run place behind (get K.eq runs.old q))
         else get K.eq runs.old q)) }
 {
     let from = match runs.get(&key) {
@@ -77,7 +77,7 @@ fn take_in<R: Keyed>(
         ((k : R.Key)
         → get R.Key.eq runs.new k
         ≡ (if R.is_at k row.now
-        then Some (reached place behind (get R.Key.eq runs.old k))
+        then Some (longer_run place behind (get R.Key.eq runs.old k))
         else get R.Key.eq runs.old k)) }
 {
     match row.key() {

@@ -1,3 +1,5 @@
+//! The rows of the eleven tables of a host.
+
 use api_types::{Direction, Ethertype, Id, Lease, Pair, RouteRank, Wire};
 use net_addr::{Addr, Addr4, Copies, Mac, OutOfMemory, Prefix, Prefixes, Seq, Text};
 use std::alloc::Global;

@@ -1,3 +1,5 @@
+//! Translation entries: what one says, and which packets answer it.
+
 ghost use Rattle.std.specs.Prelude.{◌≡◌, ◌==◌, ◌&&◌, Some, option_map};
 ghost use Rattle.net_addr.specs.Addresses.{addr_eq};
 ghost use Rattle.plane_types.specs.Ends.{destination as destined_to};
@@ -37,40 +39,44 @@ pub fn use_of_entry(router: Id, outer: Addr4, entry: &Entry) -> Option<Use>
     }
 }
 
-/// Whether an entry answers to a packet: of the kind of the answer, to the outer address and port,
-/// from the far end.
-pub fn answers(outer: Addr4, packet: &Packet, entry: &Use) -> bool
-    ensures { result ≡ answers_to (Some outer) (packet_of packet.now) (use_of entry.now) }
-{
-    let key = packet.key();
-    let (sport, dport) = (key.sport, key.dport);
-    let kind = key.reversed().kind;
-    Addr::V4(outer) == packet.ends.destination()
-        && is_kind(entry.key.kind, kind)
-        && entry.port == dport
-        && entry.key.ends.destination() == packet.ends.source()
-        && entry.key.dport == sport
+impl Use {
+    /// Whether the entry answers to a packet: of the kind of the answer, to the outer address and
+    /// port, from the far end.
+    pub fn answers(&self, outer: Addr4, packet: &Packet) -> bool
+        ensures { result ≡ answers_to (Some outer) (packet_of packet.now) (use_of self.now) }
+    {
+        let key = packet.key();
+        let (sport, dport) = (key.sport, key.dport);
+        let kind = key.reversed().kind;
+        Addr::V4(outer) == packet.ends.destination()
+            && is_kind(self.key.kind, kind)
+            && self.port == dport
+            && self.key.ends.destination() == packet.ends.source()
+            && self.key.dport == sport
+    }
+
+    /// Whether the entry, with the kind and far end of a key, has the port.
+    pub fn takes(&self, key: &Key, port: u16) -> bool
+        ensures { result
+            ≡ ((self.now.port == port) && kind_eq self.now.key.kind key.now.kind
+            && addr_eq (destined_to self.now.key.ends) (destined_to key.now.ends)
+            && (self.now.key.dport == key.now.dport)) }
+    {
+        self.port == port
+            && is_kind(self.key.kind, key.kind)
+            && self.key.ends.destination() == key.ends.destination()
+            && self.key.dport == key.dport
+    }
 }
 
-/// Whether an entry with the kind and far end of a key has the port.
-pub fn takes(entry: &Use, key: &Key, port: u16) -> bool
-    ensures { result
-        ≡ ((entry.now.port == port) && kind_eq entry.now.key.kind key.now.kind
-        && addr_eq (destined_to entry.now.key.ends) (destined_to key.now.ends)
-        && (entry.now.key.dport == key.now.dport)) }
-{
-    entry.port == port
-        && is_kind(entry.key.kind, key.kind)
-        && entry.key.ends.destination() == key.ends.destination()
-        && entry.key.dport == key.dport
-}
-
-/// Whether packets of a kind may get another port: TCP, UDP and echoes.
-pub fn has_choice(kind: KeyKind) -> bool
-    ensures { result ≡ may_choose kind }
-{
-    match kind {
-        KeyKind::Tcp | KeyKind::Udp | KeyKind::EchoAsk => true,
-        KeyKind::EchoReply | KeyKind::Proto(_) => false,
+impl KeyKind {
+    /// Whether packets of the kind may get another port: TCP, UDP and echoes.
+    pub fn has_choice(self) -> bool
+        ensures { result ≡ may_choose self }
+    {
+        match self {
+            KeyKind::Tcp | KeyKind::Udp | KeyKind::EchoAsk => true,
+            KeyKind::EchoReply | KeyKind::Proto(_) => false,
+        }
     }
 }

@@ -1,3 +1,5 @@
+//! Verdicts: what becomes of an event, its path, its entries and its trail.
+
 use crate::entry::Entry;
 use crate::frame::Frame;
 use api_types::{Id, Lease};

@@ -1,3 +1,5 @@
+//! Rows added last, as tests make them.
+
 ghost use Rattle.std.specs.Prelude.{◌≡◌, None, length, IfSome};
 ghost use Rattle.api_types.specs.Table.{row_of};
 ghost use Rattle.test_rows.specs.Added.{CanBeAdded};

@@ -1,3 +1,5 @@
+//! Rows of each kind with plain values, for tests.
+
 ghost use Rattle.std.specs.Prelude.{◌≡◌, ◌≤◌};
 ghost use Rattle.net_addr.specs.declared.address.Addr.TheVariants.{V4, V6};
 

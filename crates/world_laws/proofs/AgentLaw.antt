@@ -7,13 +7,13 @@ use Rattle.api_types.specs.Rows.{Fits, after}
 use Rattle.api_types.specs.declared.change.Item.{Item}
 use Rattle.net_settings.specs.Settings.{SettingsParts}
 use Rattle.api_types.proofs.ListLemmas.{none_some, some_equal}
-use Rattle.plane_types.specs.Placed.{IsPlaced}
+use Rattle.plane_types.specs.Attached.{IsAttached}
 use Rattle.plane_types.specs.Realises.{Realises}
 use Rattle.plane_types.specs.declared.entry.Entry.{Entry}
 use Rattle.plane_types.specs.declared.table.TagRow.{TagRow}
-use Rattle.plane_types.specs.Retagged.{AreTags}
+use Rattle.plane_types.specs.NewTags.{AreTags}
 use Rattle.plane_types.proofs.RetaggedLaw.{tags_stand}
-use Rattle.plane_types.specs.Wired.{wired}
+use Rattle.plane_types.specs.TablesOfRows.{tables_of_rows}
 use Rattle.plane_types.proofs.PlacedLemmas.{stay_placed}
 use Rattle.plane_types.proofs.RealisedTags.{are_tags}
 use Rattle.bus_core.specs.History.{History, IsHistory, accepted, change_at, rows_at}
@@ -23,8 +23,8 @@ use Rattle.world_laws.specs.Agents.{Agent, first_agent, forgotten, restarted, re
 use Rattle.world_laws.specs.Lead.{IsLed}
 use Rattle.world_laws.specs.World.{AreSound}
 
-realised_tables : (rows : RowLists) (name : List ℕ) (old : List TagRow) → AreTags old → IsConsistent rows → Realises rows name (wired rows name old)
-unfolding wired
+realised_tables : (rows : RowLists) (name : List ℕ) (old : List TagRow) → AreTags old → IsConsistent rows → Realises rows name (tables_of_rows rows name old)
+unfolding tables_of_rows
 realised_tables rows name old tags c = record { tags = tags_stand rows name old tags c; taps = refl; filters = refl; sets = refl; bridge = refl; inward = refl; neighbours = refl; routers = refl; routes = refl; floats = refl; leases = refl }
 
 no_tags : AreTags []
@@ -32,10 +32,10 @@ no_tags = record { first = λ k t at. none_some t _ at; last = λ k t at. none_s
 
 pub record IsAgent (settings : SettingsParts) (h : History) (a : Agent) : Type 0 where
   pub led : IsLed settings h a
-  pub placed : IsPlaced (seat a)
+  pub placed : IsAttached (seat a)
   pub realised : Realises a.rows a.name a.tables
 
-no_entries : (name : List ℕ) (a : Agent) → IsPlaced (record { name = name; tables = a.tables; entries = [] })
+no_entries : (name : List ℕ) (a : Agent) → IsAttached (record { name = name; tables = a.tables; entries = [] })
 no_entries name a = record { stand = λ k e at. none_some e _ at; once_outside = λ router kind outer port far far_port. lit≤ tt; once_inside = λ router key outer. lit≤ tt }
 
 -- a number follows the version that is held
@@ -54,7 +54,7 @@ module _ (settings : SettingsParts) (h : History) (is : IsHistory (AreSound sett
   rewired_agent : (a : Agent) (version : ℕ) (rows : RowLists) → IsAgent settings h a → version ≤ h.version → AreSound settings rows → rows ≡ rows_at h version → IsAgent settings h (rewired version rows a)
   rewired_agent a version rows s most sound same = record {
     led = record { held = λ v at. some_equal v version (sym at); version = most; sound = sound; rows = λ from. same };
-    placed = stay_placed a.name a.tables (wired rows a.name a.tables.tags) a.entries s.placed;
+    placed = stay_placed a.name a.tables (tables_of_rows rows a.name a.tables.tags) a.entries s.placed;
     realised = realised_tables rows a.name a.tables.tags (are_tags a.rows a.name a.tables.tags s.realised.tags) sound.consistent;
   }
 
@@ -104,7 +104,7 @@ module _ (settings : SettingsParts) (h : History) (is : IsHistory (AreSound sett
     realised = s.realised;
   }
 
-  pub entered_agent : (a : Agent) (entries : List Entry) → IsAgent settings h a → IsPlaced (record { name = a.name; tables = a.tables; entries = entries }) → IsAgent settings h (record a { entries = entries })
+  pub entered_agent : (a : Agent) (entries : List Entry) → IsAgent settings h a → IsAttached (record { name = a.name; tables = a.tables; entries = entries }) → IsAgent settings h (record a { entries = entries })
   entered_agent a entries s placed = record {
     led = record { held = s.led.held; version = s.led.version; sound = s.led.sound; rows = s.led.rows };
     placed = placed;

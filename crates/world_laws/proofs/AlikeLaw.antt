@@ -4,7 +4,7 @@ use Rattle.std.specs.Str.{bytes_eq}
 use Rattle.api_types.specs.Lists.{Each}
 use Rattle.api_types.specs.Rows.{Fits, after}
 use Rattle.api_types.specs.declared.change.Item.{Item}
-use Rattle.plane_types.specs.Told.{fabric_verdict}
+use Rattle.plane_types.specs.Verdicts.{fabric_verdict}
 use Rattle.plane_types.specs.Node.{follows}
 use Rattle.bus_core.specs.History.{accepted, change_at, first_kept, rows_at}
 use Rattle.bus_core.specs.Kept.{with_newest}

@@ -9,9 +9,9 @@ use Rattle.api_types.specs.declared.change.Item.{Item}
 use Rattle.api_ml2.specs.Carrying.{carries}
 use Rattle.plane_types.specs.Crossing.{CrossesAtRouters}
 use Rattle.plane_types.specs.Hosts.{Host, all_entries}
-use Rattle.plane_types.specs.Placed.{IsPlaced}
+use Rattle.plane_types.specs.Attached.{IsAttached}
 use Rattle.plane_types.specs.Realises.{Realises}
-use Rattle.plane_types.specs.Told.{fabric_verdicts, rows_verdicts, without_hosts}
+use Rattle.plane_types.specs.Verdicts.{fabric_verdicts, rows_verdicts, without_hosts}
 use Rattle.plane_types.specs.declared.event.Event.{Event}
 use Rattle.plane_laws.specs.Held.{HoldRows}
 use Rattle.plane_laws.proofs.ListLaw.{lists-cross, lists-mean-rows}
@@ -61,7 +61,7 @@ synced_hold w is synced =
       synced = record {
         realise = each_map seat (λ (g : Host). Realises w.history.rows g.name g.tables) w.agents
             (λ k a at. subst (λ rows. Realises rows a.name a.tables) (rows_of_now w is k a at (synced k a at)) (is.realised k a at));
-        placed = each_map seat IsPlaced w.agents is.placed;
+        placed = each_map seat IsAttached w.agents is.placed;
         names = seat_names w is.rules is.named;
         complete = λ name s can. named_by name w.agents ∙ ap (list_any (bytes_eq name)) is.named ∙ carrier_named name s w.settings.hosts can;
       };

@@ -12,8 +12,8 @@ use Rattle.net_settings.specs.Settings.{SettingsParts}
 use Rattle.net_settings.specs.declared.settings.Host.{Host as Carrier}
 use Rattle.api_types.proofs.ListLemmas.{none_some, some_equal}
 use Rattle.plane_types.specs.Hosts.{is_named}
-use Rattle.plane_types.specs.Placed.{IsPlaced}
-use Rattle.plane_types.specs.Told.{fabric_verdict, hosts_after, kept_from, made_at}
+use Rattle.plane_types.specs.Attached.{IsAttached}
+use Rattle.plane_types.specs.Verdicts.{fabric_verdict, hosts_after, with_made_from, made_at}
 use Rattle.plane_types.specs.declared.event.Event.{Event}
 use Rattle.plane_types.specs.declared.verdict.Made.{Made}
 use Rattle.plane_laws.proofs.KeptLaw.{stay-placed}
@@ -111,7 +111,7 @@ deliver_holds w name n None at s = s
 deliver_holds w name n (Some c) at s = one_by w name (told n c) (told_name n c) (λ a h. told_agent w.settings w.history s.history a n c at h) s
 
 -- an event makes entries
-seats_added : (place : ℕ) (agents : List Agent) (fresh : List Made) → map seat (add_from place agents fresh) ≡ kept_from place (map seat agents) fresh
+seats_added : (place : ℕ) (agents : List Agent) (fresh : List Made) → map seat (add_from place agents fresh) ≡ with_made_from place (map seat agents) fresh
 seats_added place [] fresh = refl
 seats_added place (a ∷ rest) fresh = λ j. record { name = a.name; tables = a.tables; entries = a.entries ++ filter_map (made_at place) fresh } ∷ seats_added (suc place) rest fresh j
 
@@ -119,7 +119,7 @@ names_added : (place : ℕ) (agents : List Agent) (fresh : List Made) → map (�
 names_added place [] fresh = refl
 names_added place (a ∷ rest) fresh = λ j. a.name ∷ names_added (suc place) rest fresh j
 
-added_agents : (settings : SettingsParts) (h : History) → IsHistory (AreSound settings) h → (place : ℕ) (agents : List Agent) (fresh : List Made) → Each (IsAgent settings h) agents → Each (λ (a : Agent). IsPlaced (seat a)) (add_from place agents fresh) → Each (IsAgent settings h) (add_from place agents fresh)
+added_agents : (settings : SettingsParts) (h : History) → IsHistory (AreSound settings) h → (place : ℕ) (agents : List Agent) (fresh : List Made) → Each (IsAgent settings h) agents → Each (λ (a : Agent). IsAttached (seat a)) (add_from place agents fresh) → Each (IsAgent settings h) (add_from place agents fresh)
 added_agents settings h is place [] fresh each placed k a at = none_some a _ at
 added_agents settings h is place (x ∷ rest) fresh each placed zero a at =
     subst (IsAgent settings h) (some_equal _ a at) (entered_agent settings h is x (x.entries ++ filter_map (made_at place) fresh) (each 0 x refl) (placed 0 (record x { entries = x.entries ++ filter_map (made_at place) fresh }) refl))
@@ -133,12 +133,12 @@ seat_names w rules named name =
 send_holds : (w : World) (event : Event) → Holds w → Holds (step w (Send event))
 send_holds w event s =
     let fresh = (fabric_verdict (seats w) event).fresh in
-    let placed : Each IsPlaced (hosts_after (seats w) event) = stay-placed (seats w) (seat_names w s.rules s.named) (each_map seat IsPlaced w.agents (λ k a at. (s.agents k a at).placed)) event in
+    let placed : Each IsAttached (hosts_after (seats w) event) = stay-placed (seats w) (seat_names w s.rules s.named) (each_map seat IsAttached w.agents (λ k a at. (s.agents k a at).placed)) event in
     record {
       rules = s.rules;
       named = names_added 0 w.agents fresh ∙ s.named;
       history = s.history;
-      agents = added_agents w.settings w.history s.history 0 w.agents fresh s.agents (map_each seat IsPlaced (add_from 0 w.agents fresh) (subst (Each IsPlaced) (sym (seats_added 0 w.agents fresh)) placed));
+      agents = added_agents w.settings w.history s.history 0 w.agents fresh s.agents (map_each seat IsAttached (add_from 0 w.agents fresh) (subst (Each IsAttached) (sym (seats_added 0 w.agents fresh)) placed));
     }
 
 step_holds : (w : World) (s : Step) → May w s → Holds w → Holds (step w s)

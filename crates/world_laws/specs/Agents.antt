@@ -5,11 +5,11 @@ use Rattle.api_types.specs.RowLists.{RowLists}
 use Rattle.api_types.specs.Rows.{after}
 use Rattle.api_types.specs.declared.change.Item.{Item}
 use Rattle.plane_types.specs.Hosts.{Host}
-use Rattle.plane_types.specs.Placed.{is_placed}
+use Rattle.plane_types.specs.Attached.{is_attached}
 use Rattle.plane_types.specs.declared.entry.Entry.{Entry}
 use Rattle.plane_types.specs.declared.lists.TableLists.{TableLists}
 use Rattle.plane_types.specs.Node.{Node, follows}
-use Rattle.plane_types.specs.Wired.{wired}
+use Rattle.plane_types.specs.TablesOfRows.{tables_of_rows}
 
 pub record Agent : Type 0 where
   pub name : List ℕ
@@ -30,7 +30,7 @@ seat a = record { name = a.name; tables = a.tables; entries = a.entries }
 
 -- given its first rows, at a version that it then holds
 abbrev pub first_agent : RowLists → ℕ → List ℕ → Agent
-first_agent rows version name = record { name = name; held = Some version; version = version; rows = rows; tables = wired rows name []; entries = [] }
+first_agent rows version name = record { name = name; held = Some version; version = version; rows = rows; tables = tables_of_rows rows name []; entries = [] }
 
 -- given the rows of a version: networks keep their tags, and entries without a tap or router in the new tables go
 abbrev pub rewired : ℕ → RowLists → Agent → Agent
@@ -39,8 +39,8 @@ rewired version rows a = record {
   held = Some version;
   version = version;
   rows = rows;
-  tables = wired rows a.name a.tables.tags;
-  entries = filter (is_placed (wired rows a.name a.tables.tags)) a.entries;
+  tables = tables_of_rows rows a.name a.tables.tags;
+  entries = filter (is_attached (tables_of_rows rows a.name a.tables.tags)) a.entries;
 }
 
 -- told the change with a number: it is put into the wired rows where it is the next one

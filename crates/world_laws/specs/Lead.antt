@@ -4,7 +4,7 @@ use Rattle.api_types.specs.Lists.{Each}
 use Rattle.net_settings.specs.Rules.{MeetsRules}
 use Rattle.net_settings.specs.Settings.{SettingsParts}
 use Rattle.net_settings.specs.declared.settings.Host.{Host as Carrier}
-use Rattle.plane_types.specs.Placed.{IsPlaced}
+use Rattle.plane_types.specs.Attached.{IsAttached}
 use Rattle.plane_types.specs.Realises.{Realises}
 use Rattle.bus_core.specs.History.{History, IsHistory, first_kept, rows_at}
 use Rattle.world_laws.specs.Agents.{Agent, seat}
@@ -23,7 +23,7 @@ pub record Lead (w : World) : Type 0 where
 
 -- each entry is of a tap or router of its host, and no two translations can be confused
 abbrev pub Placed : World → Type 0
-Placed w = Each (λ (a : Agent). IsPlaced (seat a)) w.agents
+Placed w = Each (λ (a : Agent). IsAttached (seat a)) w.agents
 
 -- each host's tables are those that its wired rows give to it
 abbrev pub Realised : World → Type 0

@@ -5,7 +5,7 @@ use Rattle.std.specs.Option.{option_eq}
 use Rattle.std.specs.Str.{bytes_eq}
 use Rattle.api_types.specs.Rows.{Fits, after}
 use Rattle.api_types.specs.declared.change.Item.{Item}
-use Rattle.plane_types.specs.Told.{fabric_verdict, made_at}
+use Rattle.plane_types.specs.Verdicts.{fabric_verdict, made_at}
 use Rattle.plane_types.specs.declared.event.Event.{Event}
 use Rattle.plane_types.specs.declared.verdict.Made.{Made}
 use Rattle.world_laws.specs.Agents.{Agent, forgotten, restarted, rewired, told}

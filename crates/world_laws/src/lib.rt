@@ -15,7 +15,7 @@ ghost use Rattle.net_settings.specs.Settings.{SettingsParts};
 ghost use Rattle.plane_types.specs.Crossing.{CrossesAtRouters};
 ghost use Rattle.plane_types.specs.Hosts.{all_entries};
 ghost use Rattle.plane_types.specs.Realises.{Realises};
-ghost use Rattle.plane_types.specs.Told.{fabric_verdicts, rows_verdicts, without_hosts};
+ghost use Rattle.plane_types.specs.Verdicts.{fabric_verdicts, rows_verdicts, without_hosts};
 ghost use Rattle.plane_types.specs.declared.event.Event.{Event};
 ghost use Rattle.bus_core.specs.History.{change_at, first_kept, rows_at};
 ghost use Rattle.world_laws.specs.Agents.{Agent, rewired as rewired_by};

@@ -1,15 +1,15 @@
 use Rattle.std.proofs.Common.{◌∙◌, ◌<◌, sym, arith}
 use Rattle.std.specs.Prelude.{length}
-use Rattle.fabric_run.specs.Seen.{host_seen, is_sought_in}
+use Rattle.fabric_run.specs.Views.{view_of_host, is_sought_in}
 use Rattle.fabric_run.proofs.FleetLemmas.{found_here, not_here}
 use Rattle.fabric_run.proofs.taker.first.Goals as goal
 
 pub returns-then-is_sought : goal.returns-then-is_sought
 returns-then-is_sought g c =
     let below : c.loop-at.at < length (g.F.Fleet.hosts c.args.fleet.now) = omega (arith, c.loop-at-test.true, c.count-at-end.ensures) in
-    (below, found_here (is_sought_in c.args.sought.now) (g.F.Fleet.hosts c.args.fleet.now) c.loop-at.at (host_seen c.host_at.result) below c.host_at.ensures (sym c.is_sought.ensures ∙ c.if-is_sought.true) c.loop-at.invariant)
+    (below, found_here (is_sought_in c.args.sought.now) (g.F.Fleet.hosts c.args.fleet.now) c.loop-at.at (view_of_host c.host_at.result) below c.host_at.ensures (sym c.is_sought.ensures ∙ c.if-is_sought.true) c.loop-at.invariant)
 
 pub loop-at-preserved : goal.loop-at-preserved
 loop-at-preserved g c =
     let below : c.loop-at.at < length (g.F.Fleet.hosts c.args.fleet.now) = omega (arith, c.loop-at-test.true, c.count-at-end.ensures) in
-    not_here (is_sought_in c.args.sought.now) (g.F.Fleet.hosts c.args.fleet.now) c.loop-at.at (host_seen c.host_at.result) below c.host_at.ensures (sym c.is_sought.ensures ∙ c.if-is_sought.false) c.loop-at.invariant
+    not_here (is_sought_in c.args.sought.now) (g.F.Fleet.hosts c.args.fleet.now) c.loop-at.at (view_of_host c.host_at.result) below c.host_at.ensures (sym c.is_sought.ensures ∙ c.if-is_sought.false) c.loop-at.invariant

@@ -1,6 +1,6 @@
 use Rattle.std.proofs.Common.{◌≡◌, drop}
 use Rattle.std.specs.Prelude.{find}
-use Rattle.fabric_run.specs.Seen.{is_sought_in}
+use Rattle.fabric_run.specs.Views.{is_sought_in}
 use Rattle.fabric_run.proofs.taker.first.Given as goal
 
 -- none so far is sought

@@ -8,8 +8,8 @@ use Rattle.api_types.specs.RowLists.{RowLists}
 use Rattle.api_types.specs.Table.{HaveOwnIds}
 use Rattle.api_types.specs.declared.group.GroupRow.{GroupRow}
 use Rattle.plane_types.specs.TableRows.{filter_by, filters_of_group}
-use Rattle.l2_agent.specs.Places.{id_of, is_named_at}
-use Rattle.l2_agent.proofs.PlaceLemmas.{at_from, given_here, named_is, nothing_left, skipped, within_groups}
+use Rattle.l2_agent.specs.Indices.{id_of, is_named_at}
+use Rattle.l2_agent.proofs.IndexLemmas.{at_from, given_here, named_is, nothing_left, skipped, within_groups}
 use Rattle.l2_agent.proofs.filters.add_groups.Goals as goal
 
 pub group_at-requires : goal.group_at-requires
@@ -21,7 +21,7 @@ group_at-requires c =
     let table = c.groups.ensures ∙ ap (λ (r : RowLists). r.groups) c.rows.ensures in
     let same : c.rows-groups.result.now ≡ groups = c.rows-groups.ensures.rows ∙ table in
     let own : HaveOwnIds id_of groups = subst (HaveOwnIds id_of) table c.rows-groups.ensures.own_ids in
-    let behind : inv.0 ≤ place = at_from inv.0 place (contains nat_cmp c.loop-place.places) inv.3 c.in-Some.ensures.member in
+    let behind : inv.0 ≤ place = at_from inv.0 place (contains nat_cmp c.loop-place.indices) inv.3 c.in-Some.ensures.member in
     let within = within_groups groups ids place (sym (named_is groups ids place own) ∙ sym (inv.2 place behind) ∙ c.in-Some.ensures.member) in
     subst (λ (gs : List GroupRow). place < length gs) (sym same) within
 
@@ -38,7 +38,7 @@ loop-place-preserved c =
     let filters = c.loop-place.filters in
     let row = c.group_at.result.now in
     let given = λ (g : GroupRow). filter_map (filter_by c.args.port.now g) c.args.ruled.now.rules in
-    let behind : from ≤ place = at_from from place (contains nat_cmp c.loop-place.places) inv.3 c.in-Some.ensures.member in
+    let behind : from ≤ place = at_from from place (contains nat_cmp c.loop-place.indices) inv.3 c.in-Some.ensures.member in
     let here : is_named_at groups ids place ≡ true = sym (named_is groups ids place own) ∙ sym (inv.2 place behind) ∙ c.in-Some.ensures.member in
     let passed = skipped given ids groups from place behind (λ p le lt. sym (named_is groups ids p own) ∙ sym (inv.2 p le) ∙ c.in-Some.ensures.least p lt) in
     let next = given_here given ids groups place row here in

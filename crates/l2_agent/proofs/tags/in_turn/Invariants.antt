@@ -1,5 +1,5 @@
 use Rattle.std.proofs.Common.{◌≡◌, ◌≤◌, ◌++◌, drop}
-use Rattle.plane_types.specs.Retagged.{in_turn as given_in_turn}
+use Rattle.plane_types.specs.NewTags.{in_turn as given_in_turn}
 use Rattle.l2_agent.specs.Free.{free_from}
 use Rattle.l2_agent.proofs.tags.in_turn.Given as goal
 

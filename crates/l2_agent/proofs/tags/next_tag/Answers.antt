@@ -1,5 +1,5 @@
 use Rattle.std.proofs.Common.{◌∙◌, ◌≡◌, None, sym, arith}
-use Rattle.plane_types.specs.Retagged.{next_tag as next_of}
+use Rattle.plane_types.specs.NewTags.{next_tag as next_of}
 use Rattle.plane_types.specs.TableRows.{tag_of as tag_given}
 use Rattle.l2_agent.proofs.FreeLemmas.{first_free, none_behind}
 use Rattle.l2_agent.proofs.tags.next_tag.Goals as goal

@@ -1,11 +1,11 @@
 use Rattle.std.proofs.Common.{◌≡◌, ◌++◌, [], drop, if◌then◌else◌, map}
 use Rattle.std.specs.Prelude.{flat_map}
 use Rattle.api_types.specs.RouterRows.{ways_of}
-use Rattle.plane_types.specs.TableRows.{hosted, route_row}
+use Rattle.plane_types.specs.TableRows.{is_on_host, route_row}
 use Rattle.l3_agent.proofs.routes.route_rows.Given as goal
 
 -- the rows so far, and those of the routers that are left, are all
 abbrev pub invariant-loop-router : goal.invariant-loop-router
 invariant-loop-router l =
-    l.routes ++ flat_map (λ r. if hosted l.host r then map (route_row r.id) (ways_of l.legs r) else []) (drop l.router-index l.router-items)
-    ≡ flat_map (λ r. if hosted l.host r then map (route_row r.id) (ways_of l.legs r) else []) l.legs.routers
+    l.routes ++ flat_map (λ r. if is_on_host l.host r then map (route_row r.id) (ways_of l.legs r) else []) (drop l.router-index l.router-items)
+    ≡ flat_map (λ r. if is_on_host l.host r then map (route_row r.id) (ways_of l.legs r) else []) l.legs.routers

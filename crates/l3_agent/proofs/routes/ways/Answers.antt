@@ -13,7 +13,7 @@ returns-in-Some c =
     let ports : map (λ p. p.now) c.as_slice.result.now ≡ legs_of c.args.legs.now router =
     ap (map (λ p. p.now)) c.as_slice.ensures.value
     ∙ ap (λ o. listed (option_copied o)) (sym c.in-Some.is)
-    ∙ c.named.ensures
+    ∙ c.ports_of.ensures
     ∙ named_legs c.args.legs.now router c.as_str.result.now (c.as_str.ensures ∙ c.in_ok-name.ensures.text) in
     IfOk-weaker c.ways_by.result _ _ (λ v h. h ∙ (λ j. ways_by (c.rows.ensures j) (ports j) router)) c.ways_by.ensures
 
@@ -23,6 +23,6 @@ returns c =
     let router = c.args.router.now in
     let none : [] ≡ legs_of c.args.legs.now router =
     ap (λ o. listed (option_copied o)) (sym c.in-None.is)
-    ∙ c.named.ensures
+    ∙ c.ports_of.ensures
     ∙ named_legs c.args.legs.now router c.as_str.result.now (c.as_str.ensures ∙ c.in_ok-name.ensures.text) in
     IfOk-weaker c.ways_by-in-None.result _ _ (λ v h. h ∙ (λ j. ways_by (c.rows-in-None.ensures j) (none j) router)) c.ways_by-in-None.ensures

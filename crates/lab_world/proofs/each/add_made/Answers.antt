@@ -1,5 +1,5 @@
 use Rattle.std.proofs.Common.{rules, ◌≡◌, Some}
-use Rattle.plane_types.specs.Told.{made_at}
+use Rattle.plane_types.specs.Verdicts.{made_at}
 use Rattle.lab_world.proofs.Placing.{next_placed}
 use Rattle.lab_world.proofs.each.add_made.Goals as goal
 

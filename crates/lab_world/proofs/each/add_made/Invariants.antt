@@ -1,6 +1,6 @@
 use Rattle.std.proofs.Common.{◌≡◌, ◌≤◌, ◌++◌, drop, length}
 use Rattle.std.specs.List.{filter_map}
-use Rattle.plane_types.specs.Told.{made_at}
+use Rattle.plane_types.specs.Verdicts.{made_at}
 use Rattle.plane_types.specs.Node.{with_entries}
 use Rattle.lab_world.proofs.each.add_made.Given as goal
 

@@ -3,7 +3,7 @@ use Rattle.std.specs.Prelude.{option_copied, option_map}
 use Rattle.api_types.specs.RouterRows.{leg_of, legs_of, router_view}
 use Rattle.plane_types.specs.Routing.{routed_out}
 use Rattle.plane_types.specs.Parts.{changed_of, packet_of, sourced_of, use_of}
-use Rattle.net_meaning.specs.Turns.{routed_of}
+use Rattle.net_meaning.specs.Views.{routed_of}
 use Rattle.net_meaning.proofs.LegLemmas.{leg_among}
 use Rattle.plane_types.proofs.RouteLemmas.{out_found}
 use Rattle.net_meaning.proofs.router.routed_by.Goals as goal

@@ -17,8 +17,8 @@ returns c = λ t.
     let text : string_bytes c.in_ok-device.device ≡ port.device = c.in_ok-device.ensures.ok ∙ c.as_str.ensures in
     let ports : listed (Some c.push.new.self) ≡ listed (get_by_text c.args.by_device.now port.device) ++ port ∷ [] =
     ap (map (λ p. p.now)) c.in_ok-push.ensures.items
-    ∙ map-append (λ p. p.now) c.taken-ports.result.items (c.args.port ∷ [])
-    ∙ ap (λ ps. ps ++ port ∷ []) (c.taken-ports.ensures.listed ∙ ap (λ d. listed (get_by_text c.args.by_device.now d)) c.as_str-2.ensures) in
-    ap listed (hash_map_updates_text (string_bytes c.in_ok-device.device) c.taken-ports.new.by_device c.insert.new.self (Some c.push.new.self) c.in_ok-insert.ensures.updates t)
-    ∙ (λ j. listed (cond (bytes_eq (text j) t) (Some c.push.new.self) ((c.taken-ports.ensures.rest t ∙ ap (λ d. if bytes_eq d t then None else get_by_text c.args.by_device.now t) c.as_str-2.ensures) j)))
+    ∙ map-append (λ p. p.now) c.take_ports-ports.result.items (c.args.port ∷ [])
+    ∙ ap (λ ps. ps ++ port ∷ []) (c.take_ports-ports.ensures.listed ∙ ap (λ d. listed (get_by_text c.args.by_device.now d)) c.as_str-2.ensures) in
+    ap listed (hash_map_updates_text (string_bytes c.in_ok-device.device) c.take_ports-ports.new.by_device c.insert.new.self (Some c.push.new.self) c.in_ok-insert.ensures.updates t)
+    ∙ (λ j. listed (cond (bytes_eq (text j) t) (Some c.push.new.self) ((c.take_ports-ports.ensures.rest t ∙ ap (λ d. if bytes_eq d t then None else get_by_text c.args.by_device.now t) c.as_str-2.ensures) j)))
     ∙ put_last listed (get_by_text c.args.by_device.now) port.device t c.push.new.self port ports

@@ -5,14 +5,15 @@ use Rattle.api_types.specs.RowLists.{RowLists}
 use Rattle.api_types.specs.declared.port.Fixed.{Fixed}
 use Rattle.api_types.specs.declared.port.PortRow.{PortRow}
 use Rattle.api_types.specs.Ascending.{ascending as in_order}
-use Rattle.api_types.specs.RouterRows.{by_address, connected_by, subnet_named}
+use Rattle.api_types.specs.RouterRows.{by_address, connected_by}
+use Rattle.api_types.specs.RowsWith.{subnet_with}
 use Rattle.api_types.specs.RouterViews.{Way as TheWay}
 use Rattle.plane_rows.specs.Ways.{way_of}
 use Rattle.plane_rows.proofs.ways.add_connected.Goals as goal
 
 -- the routes to the subnets of a port
 abbrev of_port : RowLists → List PortRow → PortRow → List TheWay
-of_port rows exits p = filter_map (λ (f : Fixed). connected_by exits (subnet_named rows f.subnet)) (in_order by_address p.fixed)
+of_port rows exits p = filter_map (λ (f : Fixed). connected_by exits (subnet_with rows f.subnet)) (in_order by_address p.fixed)
 
 abbrev of_all : RowLists → List PortRow → List (Bor PortRow) → List TheWay
 of_all rows exits ports = flat_map (of_port rows exits) (map (λ p. p.now) ports)

@@ -1,5 +1,5 @@
 use Rattle.std.proofs.Common.{sym, subst}
-use Rattle.plane_types.specs.Retagged.{AreTags}
+use Rattle.plane_types.specs.NewTags.{AreTags}
 use Rattle.plane_types.proofs.RealisedTags.{are_tags}
 use Rattle.agent_node.proofs.node.AgentNode.prepare_resync.Goals as goal
 

@@ -1,5 +1,5 @@
 use Rattle.std.proofs.Common.{◌≡◌, ◌∙◌, ap, List, sym, subst}
-use Rattle.plane_types.specs.Placed.{IsPlaced}
+use Rattle.plane_types.specs.Attached.{IsAttached}
 use Rattle.plane_types.specs.Realises.{Realises}
 use Rattle.plane_types.specs.declared.entry.Entry.{Entry}
 use Rattle.plane_types.specs.Node.{Node, Ready}
@@ -14,5 +14,5 @@ invariant_of-self c =
     record {
       consistent = c.ready.invariant.consistent;
       realised = subst (λ name. Realises ready.rows name ready.tables.lists) same c.ready.invariant.realised;
-      placed = subst (λ (es : List Entry). IsPlaced (record { name = node.name; tables = ready.tables.lists; entries = es })) (sym c.keep_placed.ensures.items) (stay_placed node.name node.tables.lists ready.tables.lists node.entries.items c.self.invariant.placed);
+      placed = subst (λ (es : List Entry). IsAttached (record { name = node.name; tables = ready.tables.lists; entries = es })) (sym c.keep_placed.ensures.items) (stay_placed node.name node.tables.lists ready.tables.lists node.entries.items c.self.invariant.placed);
     }

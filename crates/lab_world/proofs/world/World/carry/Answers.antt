@@ -1,8 +1,8 @@
 use Rattle.std.proofs.Common.{◌∙◌, ◌≡◌, List, ap, arith, inl, length, map, refl, subst, sym}
 use Rattle.std.proofs.lemmas.Result.{err_from_is_err_and}
 use Rattle.api_types.specs.Lists.{Each}
-use Rattle.plane_types.specs.Placed.{IsPlaced}
-use Rattle.plane_types.specs.Told.{fabric_verdict, kept}
+use Rattle.plane_types.specs.Attached.{IsAttached}
+use Rattle.plane_types.specs.Verdicts.{fabric_verdict, with_made}
 use Rattle.plane_types.specs.declared.verdict.Made.{Made}
 use Rattle.plane_types.specs.declared.verdict.Verdict.{Verdict}
 use Rattle.plane_types.specs.Node.{Node, host_of}
@@ -54,7 +54,7 @@ pub keep-requires-clause-placed : goal.keep-requires-clause-placed
 keep-requires-clause-placed c =
     let i = c.self.inside in
     let parts = same_parts i.machine.settings i.machine.rows i.machine.version i.bus i.hosts i.manual c.self.invariant c.reserve.new.self (reserved_seen i.hosts c.reserve.new.self c.reserve.ensures.same) in
-    subst (λ (fresh : List Made). Each IsPlaced (kept (map host_of c.reserve.new.self) fresh)) (sym (c.as_slice.ensures ∙ ap (λ (v : Verdict). v.fresh) c.in_ok-verdict.ensures))
+    subst (λ (fresh : List Made). Each IsAttached (with_made (map host_of c.reserve.new.self) fresh)) (sym (c.as_slice.ensures ∙ ap (λ (v : Verdict). v.fresh) c.in_ok-verdict.ensures))
     (fresh_placed i.machine.settings i.machine.rows i.machine.version i.bus c.reserve.new.self i.manual parts c.args.event.now)
 
 pub invariant_of-self-2 : goal.invariant_of-self-2

@@ -1,5 +1,5 @@
 use Rattle.std.proofs.Common.{◌∙◌, ◌≡◌, ap, subst, sym}
-use Rattle.plane_types.specs.Told.{rows_verdict}
+use Rattle.plane_types.specs.Verdicts.{rows_verdict}
 use Rattle.plane_types.specs.declared.ask.LabAnswer.TheVariants.{Seen}
 use Rattle.plane_types.specs.declared.ask.LabCall.TheVariants.{Explain}
 use Rattle.world_laws.specs.World.{World}

@@ -3,7 +3,7 @@ use Rattle.api_types.specs.Consistent.{IsConsistent}
 use Rattle.api_machine.specs.Kept.{HostsCarry}
 use Rattle.call_parts.specs.Typed.{AreTyped}
 use Rattle.net_settings.specs.Rules.{MeetsRules}
-use Rattle.plane_types.specs.Node.{Node, started}
+use Rattle.plane_types.specs.Node.{Node, first_node}
 use Rattle.bus_core.specs.Kept.{Kept}
 use Rattle.world_laws.specs.Agents.{Agent}
 use Rattle.world_laws.specs.Lead.{IsWorld}
@@ -19,8 +19,8 @@ invariant_of-result c =
     let settings = c.args.settings in
     let settings_is = c.settings.ensures.value ∙ (λ j. (made j).settings) in
     let rows_is = c.rows.ensures.rows ∙ (λ j. (made j).rows) in
-    let same : map unspared c.in_ok-hosts.hosts ≡ map (λ d. started d.name 0 c.args.rows 0) settings.hosts =
-    c.in_ok-hosts.ensures ∙ (λ j. map (λ d. started d.name 0 (rows_is j) 0) ((c.hosts.ensures.value ∙ (λ k. (settings_is k).hosts)) j)) in
+    let same : map unspared c.in_ok-hosts.hosts ≡ map (λ d. first_node d.name 0 c.args.rows 0) settings.hosts =
+    c.in_ok-hosts.ensures ∙ (λ j. map (λ d. first_node d.name 0 (rows_is j) 0) ((c.hosts.ensures.value ∙ (λ k. (settings_is k).hosts)) j)) in
     let rules : MeetsRules settings = subst MeetsRules (λ j. (made j).settings) c.settings.ensures.rules in
     let consistent : IsConsistent c.args.rows = subst IsConsistent (λ j. (made j).rows) c.rows.ensures.consistent in
     let typed : AreTyped c.args.rows = subst AreTyped (λ j. (made j).rows) c.rows.ensures.typed in
@@ -40,7 +40,7 @@ returns-clause-ok c =
     let settings = c.args.settings in
     let settings_is = c.settings.ensures.value ∙ (λ j. (made j).settings) in
     let rows_is = c.rows.ensures.rows ∙ (λ j. (made j).rows) in
-    let same : map unspared c.in_ok-hosts.hosts ≡ map (λ d. started d.name 0 c.args.rows 0) settings.hosts =
-    c.in_ok-hosts.ensures ∙ (λ j. map (λ d. started d.name 0 (rows_is j) 0) ((c.hosts.ensures.value ∙ (λ k. (settings_is k).hosts)) j)) in
+    let same : map unspared c.in_ok-hosts.hosts ≡ map (λ d. first_node d.name 0 c.args.rows 0) settings.hosts =
+    c.in_ok-hosts.ensures ∙ (λ j. map (λ d. first_node d.name 0 (rows_is j) 0) ((c.hosts.ensures.value ∙ (λ k. (settings_is k).hosts)) j)) in
     (λ j. world_seen (made j).settings (made j).rows (made j).version (c.in_ok-bus.ensures j) c.in_ok-hosts.hosts c.args.manual)
     ∙ (λ j. record (opened settings c.args.manual c.args.rows) { agents = first_seen settings c.args.rows c.in_ok-hosts.hosts same j })

@@ -1,7 +1,7 @@
 use Rattle.std.proofs.Common.{rules, ◌∙◌, ap}
 use Rattle.std.specs.List.{filter}
 use Rattle.std.proofs.lemmas.Fn.{filter_same}
-use Rattle.plane_types.specs.Placed.{is_placed as is_placed_at}
+use Rattle.plane_types.specs.Attached.{is_attached as is_placed_at}
 use Rattle.plane_types.proofs.entries.SpareVec+Entry.keep_placed.Goals as goal
 
 -- what the closure tells of each entry is whether it is placed

@@ -1,7 +1,0 @@
-use Rattle.std.proofs.Common.{◌≡◌, map, take}
-use Rattle.plane_types.specs.Told.{of_nobody}
-use Rattle.net_meaning.proofs.event.told.Given as goal
-
--- the entries so far are told
-abbrev pub invariant-loop-entry : goal.invariant-loop-entry
-invariant-loop-entry l = l.made ≡ map of_nobody (take l.entry-index l.fresh)
