@@ -6,3 +6,4 @@ pub mod Printing6
 pub mod Reading
 pub mod Spans
 pub mod Spelling
+pub mod Words
