@@ -3,6 +3,7 @@ use Rattle.api_policy.specs.Served.{HeldPort, held_port}
 use Rattle.std.specs.Prelude.{ℕ, ◌+◌, ◌-◌, ◌&&◌, ◌||◌, Bool, true, false, List, Option, None, Some, filter, find, is_some, length, map, nat_le, option_map}
 use Rattle.std.specs.List.{list_any}
 use Rattle.std.specs.Str.{bytes_eq}
+use Rattle.net_addr.specs.Words.{MacAddress, Text}
 use Rattle.net_addr.specs.Addresses.{addr_eq}
 use Rattle.net_addr.specs.declared.address.Addr.{Addr}
 use Rattle.api_types.specs.Consistent.HeldOnce.{has_mac}
@@ -38,15 +39,15 @@ abbrev pub blank : NetworkRow → NetworkRow
 blank n = record n { segment = Local }
 
 -- the rows of a kind that the project owns
-abbrev pub owned : {R : Type 0} → (R → List ℕ) → List ℕ → List R → List R
+abbrev pub owned : {R : Type 0} → (R → Text) → Text → List R → List R
 owned owner_of project rows = filter (λ r. bytes_eq (owner_of r) project) rows
 
 -- the port is of one of the project's routers
-abbrev pub is_of_router : List RouterRow → List ℕ → PortRow → Bool
+abbrev pub is_of_router : List RouterRow → Text → PortRow → Bool
 is_of_router routers project p = list_any (λ (r : RouterRow). bytes_eq r.project project && is_port_of r p) routers
 
 -- the project has to do with the port: it owns it or its router
-abbrev pub is_close : RowLists → List ℕ → PortRow → Bool
+abbrev pub is_close : RowLists → Text → PortRow → Bool
 is_close rows project p = bytes_eq p.project project || is_of_router rows.routers project p
 
 -- what may be told of a network that is near; a set is its test
@@ -54,13 +55,13 @@ pub record Near : Type 0 where
   pub up : Option Bool
   pub subnets : List SubnetRow
   pub addresses : Addr → Bool
-  pub macs : ℕ → Bool
+  pub macs : MacAddress → Bool
   pub shared : Bool
   pub external : Bool
   pub shared_to_all : Bool
   pub external_to_all : Bool
 
-abbrev pub near_of : RowLists → List ℕ → Ident → Near
+abbrev pub near_of : RowLists → Text → Ident → Near
 near_of rows project i = record {
   up = option_map (λ (n : NetworkRow). n.up) (row_of (λ n. n.id) i rows.networks);
   subnets = filter (λ s. ident_eq i s.network) rows.subnets;
@@ -78,7 +79,7 @@ is_near rows caller i = stands (λ (n : NetworkRow). n.id) i (seen_networks rows
 
 -- what may be told of a network that the project holds: it owns the network, or a policy on it
 pub record Held : Type 0 where
-  pub project : Option (List ℕ)
+  pub project : Option Text
   pub policies : List PolicyRow
   pub ports : List HeldPort
 
@@ -89,7 +90,7 @@ held_of rows i = record {
   ports = map (held_port rows) (filter (λ p. ident_eq i p.network) rows.ports);
 }
 
-abbrev pub is_held_by : RowLists → List ℕ → Ident → Bool
+abbrev pub is_held_by : RowLists → Text → Ident → Bool
 is_held_by rows project i =
     stands_so (λ (n : NetworkRow). n.id) i (λ n. bytes_eq n.project project) rows.networks || list_any (λ (l : PolicyRow). ident_eq i l.object && bytes_eq l.project project) rows.policies
 
@@ -107,7 +108,7 @@ abbrev pub drawer_at : List ProjectRow → Option ProjectRow → Drawer
 drawer_at projects None = New (length projects)
 drawer_at projects (Some p) = Known p.ordinal p.count
 
-abbrev pub drawer_of : List ProjectRow → List ℕ → Drawer
+abbrev pub drawer_of : List ProjectRow → Text → Drawer
 drawer_of projects name = drawer_at projects (find (is_named name) projects)
 
 pub record Footing : Type 0 where

@@ -1,5 +1,5 @@
 -- What the API machine is: consistent rows with their version, under settings.
-use Rattle.std.specs.Prelude.{ℕ}
+use Rattle.net_addr.specs.Words.{Version}
 use Rattle.api_types.specs.Consistent.{IsConsistent}
 use Rattle.api_types.specs.RowLists.{RowLists}
 use Rattle.net_settings.specs.Rules.{MeetsRules}
@@ -12,9 +12,9 @@ pub record MachineParts : Type 0 where
   pub settings : SettingsParts
   pub rows : RowLists
   -- how many changes were accepted
-  pub version : ℕ
+  pub version : Version
 
-abbrev pub state_at : RowLists → ℕ → State
+abbrev pub state_at : RowLists → Version → State
 state_at rows version = record { rows = rows; version = version }
 
 abbrev pub state_of : MachineParts → State

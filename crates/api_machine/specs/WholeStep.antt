@@ -29,13 +29,14 @@ use Rattle.api_types.specs.declared.form.Form.{Form}
 use Rattle.api_types.specs.declared.kind.Kind.TheVariants.{Project, Network, Subnet, Port, Group, Rule, Router, Floating, Policy}
 use Rattle.api_types.specs.declared.kind.Kind.{Kind}
 use Rattle.net_settings.specs.Settings.{SettingsParts}
-use Rattle.std.specs.Prelude.{List, ℕ}
+use Rattle.std.specs.Prelude.{List}
+use Rattle.net_addr.specs.Words.{Text}
 
 -- a rule is no row that is changed
 abbrev pub no_rule_call : IdText → Outcome
 no_rule_call name = Refused (not_found Rule name.text)
 
-abbrev pub row_shown : State → Caller → Kind → IdText → List (List ℕ) → Outcome
+abbrev pub row_shown : State → Caller → Kind → IdText → List Text → Outcome
 row_shown state caller Project name fields = Refused (not_found Project name.text)
 row_shown state caller Network name fields = row_told Network (λ r. r.id) (network_members state.rows caller) caller name fields (seen_networks state.rows caller)
 row_shown state caller Subnet name fields = row_told Subnet (λ r. r.id) subnet_members caller name fields (seen_subnets state.rows caller)

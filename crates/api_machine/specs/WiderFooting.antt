@@ -1,7 +1,8 @@
 -- A footing that has more: the segments of networks, but for vxlan numbers, and the own ports of floating addresses.
-use Rattle.std.specs.Prelude.{◌+◌, ◌-◌, ◌&&◌, ◌||◌, Bool, List, Option, ℕ, filter, is_some, length, map, nat_le, option_map}
+use Rattle.std.specs.Prelude.{◌+◌, ◌-◌, ◌&&◌, ◌||◌, Bool, List, Option, filter, is_some, length, map, nat_le, option_map}
 use Rattle.std.specs.List.{list_any}
 use Rattle.std.specs.Str.{bytes_eq}
+use Rattle.net_addr.specs.Words.{Text}
 use Rattle.api_types.specs.Consistent.Segments.{most_networks}
 use Rattle.api_types.specs.Ident.{Ident}
 use Rattle.api_types.specs.Lists.{stands}
@@ -35,11 +36,11 @@ abbrev pub without_number : NetworkRow → NetworkRow
 without_number n = record n { segment = unnumbered n.segment }
 
 -- the port holds one of the project's floating addresses
-abbrev pub is_of_floating : List FloatingRow → List ℕ → PortRow → Bool
+abbrev pub is_of_floating : List FloatingRow → Text → PortRow → Bool
 is_of_floating floatings project p = list_any (λ (f : FloatingRow). bytes_eq f.project project && ident_eq f.own_port p.id) floatings
 
 -- the project has to do with the port: it owns it, its router or its floating address
-abbrev pub is_closer : RowLists → List ℕ → PortRow → Bool
+abbrev pub is_closer : RowLists → Text → PortRow → Bool
 is_closer rows project p = is_close rows project p || is_of_floating rows.floatings project p
 
 -- what may be told of a network that is near, and its segment
@@ -47,7 +48,7 @@ pub record NearSegment : Type 0 where
   pub segment : Option Segment
   pub near : Near
 
-abbrev pub near_segment_of : RowLists → List ℕ → Ident → NearSegment
+abbrev pub near_segment_of : RowLists → Text → Ident → NearSegment
 near_segment_of rows project i = record {
   segment = option_map (λ (n : NetworkRow). unnumbered n.segment) (row_of (λ n. n.id) i rows.networks);
   near = near_of rows project i;

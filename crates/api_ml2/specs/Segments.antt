@@ -14,6 +14,7 @@ use Rattle.api_types.specs.declared.refusal.Refusal.TheVariants.{SegmentInUse}
 use Rattle.api_types.specs.declared.refusal.Refusal.{Refusal}
 use Rattle.net_settings.specs.Settings.{SettingsParts}
 use Rattle.std.specs.Prelude.{Bool, List, None, Option, Some, [], cond, false, find, if◌then◌else◌, is_none, is_some, length, nat_le, not, option_map, true, ℕ, ◌&&◌, ◌+◌, ◌-◌}
+use Rattle.net_addr.specs.Words.{Text}
 
 -- the rules of the provider attributes
 
@@ -40,7 +41,7 @@ abbrev pub is_bad_number : NetworkForm → Bool
 is_bad_number form = not (fits_type (value_of form.provider_network_type) (value_of form.provider_segmentation_id))
 
 -- the segment that is asked for; none where any free vxlan number will do
-abbrev pub segment_of_type : Option NetworkType → List ℕ → Option ℕ → Option Segment
+abbrev pub segment_of_type : Option NetworkType → Text → Option ℕ → Option Segment
 segment_of_type (Some LocalType) physical n = Some Local
 segment_of_type (Some FlatType) physical n = Some (Flat physical)
 segment_of_type (Some VlanType) physical n = option_map (Vlan physical) n

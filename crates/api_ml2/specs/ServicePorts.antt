@@ -5,22 +5,23 @@ use Rattle.api_types.specs.declared.network.NetworkRow.{NetworkRow}
 use Rattle.api_types.specs.declared.port.Fixed.{Fixed}
 use Rattle.api_types.specs.declared.port.PortRow.{PortRow}
 use Rattle.net_settings.specs.Settings.{SettingsParts}
-use Rattle.std.specs.Prelude.{List, [], codes, false, true, ℕ}
+use Rattle.std.specs.Prelude.{List, [], codes, false, true}
+use Rattle.net_addr.specs.Words.{MacAddress, Text}
 
-abbrev pub dhcp_owner : List ℕ
+abbrev pub dhcp_owner : Text
 dhcp_owner = codes "network:dhcp"
 
-abbrev pub interface_owner : List ℕ
+abbrev pub interface_owner : Text
 interface_owner = codes "network:router_interface"
 
-abbrev pub gateway_owner : List ℕ
+abbrev pub gateway_owner : Text
 gateway_owner = codes "network:router_gateway"
 
-abbrev pub floating_owner : List ℕ
+abbrev pub floating_owner : Text
 floating_owner = codes "network:floatingip"
 
 -- of a project, on a network, bound to a host by the drivers
-abbrev pub service_port : SettingsParts → NetworkRow → Ident → List ℕ → ℕ → List Fixed → List ℕ → List ℕ → List ℕ → PortRow
+abbrev pub service_port : SettingsParts → NetworkRow → Ident → Text → MacAddress → List Fixed → Text → Text → Text → PortRow
 service_port settings n i project mac fixed owner device host = record {
   id = i;
   project = project;

@@ -2,6 +2,7 @@
 use Rattle.std.specs.Prelude.{ℕ, List, [], ◌∷◌, ◌==◌, Option, Some, None, codes, decimal, if◌then◌else◌}
 use Rattle.std.specs.List.{filter}
 use Rattle.std.specs.Option.{unwrap_or}
+use Rattle.net_addr.specs.Words.{Text}
 use Rattle.api_types.specs.Printed.{NamedTree, Tree, branches_of, number, object, word}
 use Rattle.api_types.specs.RowLists.{RowLists}
 use Rattle.api_types.specs.Table.{ident_eq}
@@ -13,16 +14,16 @@ use Rattle.api_types.specs.declared.group.GroupRow.{GroupRow}
 use Rattle.api_types.specs.declared.group.RuleRow.{RuleRow}
 use Rattle.api_policy.specs.Trees.{id_word, list_of, null_or, prefix_word}
 
-abbrev pub direction_word : Direction → List ℕ
+abbrev pub direction_word : Direction → Text
 direction_word Ingress = codes "ingress"
 direction_word Egress = codes "egress"
 
-abbrev pub ethertype_word : Ethertype → List ℕ
+abbrev pub ethertype_word : Ethertype → Text
 ethertype_word Ipv4 = codes "IPv4"
 ethertype_word Ipv6 = codes "IPv6"
 
 -- protocols with names (IANA, protocol numbers)
-abbrev pub named_protocol : ℕ → Option (List ℕ)
+abbrev pub named_protocol : ℕ → Option Text
 named_protocol n =
     if n == 1 then Some (codes "icmp") else if n == 2 then Some (codes "igmp") else if n == 6 then Some (codes "tcp")
     else if n == 17 then Some (codes "udp") else if n == 47 then Some (codes "gre") else if n == 50 then Some (codes "esp")

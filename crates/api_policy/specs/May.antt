@@ -27,7 +27,8 @@ use Rattle.api_types.specs.declared.refusal.PolicyRule.{PolicyRule}
 use Rattle.api_types.specs.declared.router.RouterRow.{RouterRow}
 use Rattle.api_types.specs.declared.subnet.SubnetRow.{SubnetRow}
 use Rattle.std.specs.Option.{option_or}
-use Rattle.std.specs.Prelude.{Bool, List, None, Option, Some, if◌then◌else◌, is_some, option_and_then, true, ℕ}
+use Rattle.std.specs.Prelude.{Bool, None, Option, Some, if◌then◌else◌, is_some, option_and_then, true}
+use Rattle.net_addr.specs.Words.{Text}
 
 abbrev pub rule_if : Bool → PolicyRule → Option PolicyRule
 rule_if broken rule = if broken then Some rule else None
@@ -35,7 +36,7 @@ rule_if broken rule = if broken then Some rule else None
 abbrev pub admin_rule : Caller → Bool → Option PolicyRule
 admin_rule caller needed = rule_if (breaks_admin_only caller needed) AdminOnly
 
-abbrev pub owner_rule : Caller → List ℕ → Option PolicyRule
+abbrev pub owner_rule : Caller → Text → Option PolicyRule
 owner_rule caller project = rule_if (breaks_owner_only caller project) OwnerOnly
 
 abbrev pub network_rule : RowLists → Caller → Bool → Ident → Option PolicyRule

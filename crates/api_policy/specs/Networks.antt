@@ -1,7 +1,8 @@
 -- What is printed of a network (Networking API reference, Show network details).
-use Rattle.std.specs.Prelude.{ℕ, List, [], ◌∷◌, Bool, ◌&&◌, map, codes}
+use Rattle.std.specs.Prelude.{List, [], ◌∷◌, Bool, ◌&&◌, map, codes}
 use Rattle.std.specs.List.{list_any, filter}
 use Rattle.std.specs.Str.{bytes_eq}
+use Rattle.net_addr.specs.Words.{Text}
 use Rattle.api_types.specs.Ident.{Ident}
 use Rattle.api_types.specs.Printed.{Tree, NamedTree, null, truth, number, word}
 use Rattle.api_types.specs.RowLists.{RowLists}
@@ -30,7 +31,7 @@ abbrev pub subnets_of : RowLists → Caller → Ident → List Ident
 subnets_of rows caller network =
     map (λ (s : SubnetRow). s.id) (filter (λ (s : SubnetRow). ident_eq network s.network && sees_subnet rows caller s) rows.subnets)
 
-abbrev pub type_word : Segment → List ℕ
+abbrev pub type_word : Segment → Text
 type_word Local = codes "local"
 type_word (Flat physical) = codes "flat"
 type_word (Vlan physical tag) = codes "vlan"

@@ -8,7 +8,8 @@ use Rattle.api_types.specs.declared.port.PortRow.{PortRow}
 use Rattle.api_types.specs.declared.refusal.PolicyRule.TheVariants.{AdminOnly, NetworkAccess, NetworkOwner, OwnerOnly, PortDelete}
 use Rattle.api_types.specs.declared.refusal.Refusal.TheVariants.{Forbidden}
 use Rattle.api_types.specs.declared.refusal.Refusal.{Refusal}
-use Rattle.std.specs.Prelude.{Bool, List, Option, not, ℕ, ◌&&◌, ◌||◌}
+use Rattle.std.specs.Prelude.{Bool, Option, not, ◌&&◌, ◌||◌}
+use Rattle.net_addr.specs.Words.{Text}
 
 -- whether a call breaks a rule
 
@@ -17,7 +18,7 @@ abbrev pub breaks_admin_only : Caller → Bool → Bool
 breaks_admin_only caller needed = needed && not caller.admin
 
 -- it needs a row that is another project's
-abbrev pub breaks_owner_only : Caller → List ℕ → Bool
+abbrev pub breaks_owner_only : Caller → Text → Bool
 breaks_owner_only caller project = not (is_own caller project)
 
 -- it asks for what is for the network's owner alone
@@ -37,7 +38,7 @@ breaks_port_delete rows caller p = not (sees_port rows caller p)
 abbrev pub admin_only : Caller → Bool → Option Refusal
 admin_only caller needed = when (breaks_admin_only caller needed) (Forbidden AdminOnly)
 
-abbrev pub owner_only : Caller → List ℕ → Option Refusal
+abbrev pub owner_only : Caller → Text → Option Refusal
 owner_only caller project = when (breaks_owner_only caller project) (Forbidden OwnerOnly)
 
 abbrev pub network_owner : RowLists → Caller → Bool → Ident → Option Refusal

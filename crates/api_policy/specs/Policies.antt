@@ -1,12 +1,13 @@
 -- What is printed of an RBAC policy (Networking API reference, Show RBAC policy details).
-use Rattle.std.specs.Prelude.{ℕ, List, [], ◌∷◌, codes}
+use Rattle.std.specs.Prelude.{List, [], ◌∷◌, codes}
+use Rattle.net_addr.specs.Words.{Text}
 use Rattle.api_types.specs.Printed.{NamedTree, word}
 use Rattle.api_types.specs.declared.policy.Action.{Action}
 use Rattle.api_types.specs.declared.policy.Action.TheVariants.{External, Shared}
 use Rattle.api_types.specs.declared.policy.PolicyRow.{PolicyRow}
 use Rattle.api_policy.specs.Trees.{id_word}
 
-abbrev pub action_word : Action → List ℕ
+abbrev pub action_word : Action → Text
 action_word Shared = codes "access_as_shared"
 action_word External = codes "access_as_external"
 

@@ -1,5 +1,6 @@
 -- What is printed of a port (Networking API reference, Show port details; extended attributes of bindings and port security).
-use Rattle.std.specs.Prelude.{ℕ, List, [], ◌∷◌, Bool, codes, if◌then◌else◌}
+use Rattle.std.specs.Prelude.{List, [], ◌∷◌, Bool, codes, if◌then◌else◌}
+use Rattle.net_addr.specs.Words.{Text}
 use Rattle.api_types.specs.Printed.{NamedTree, truth, word}
 use Rattle.api_types.specs.RowLists.{RowLists}
 use Rattle.api_types.specs.declared.port.PortRow.{PortRow}
@@ -8,12 +9,12 @@ use Rattle.api_types.specs.declared.port.Vif.TheVariants.{Failed, Ovs, Unbound}
 use Rattle.api_types.specs.Live.{is_live}
 use Rattle.api_policy.specs.Trees.{fixed_object, id_word, list_of, mac_word, pair_object}
 
-abbrev pub vif_word : Vif → List ℕ
+abbrev pub vif_word : Vif → Text
 vif_word Unbound = codes "unbound"
 vif_word Failed = codes "binding_failed"
 vif_word Ovs = codes "ovs"
 
-abbrev pub status_word : Bool → List ℕ
+abbrev pub status_word : Bool → Text
 status_word active = if active then codes "ACTIVE" else codes "DOWN"
 
 -- in byte order of the names

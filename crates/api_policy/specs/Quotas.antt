@@ -11,6 +11,7 @@ use Rattle.net_settings.specs.declared.settings.Limit.TheVariants.{AtMost, Unlim
 use Rattle.net_settings.specs.declared.settings.Limit.{Limit}
 use Rattle.net_settings.specs.declared.settings.Quotas.{Quotas}
 use Rattle.std.specs.Prelude.{List, None, Option, bytes_eq, count_by, nat_lt, ℕ, ◌+◌}
+use Rattle.net_addr.specs.Words.{Text}
 
 abbrev pub limit_of : Quotas → Kind → Limit
 limit_of quotas Project = Unlimited
@@ -24,10 +25,10 @@ limit_of quotas Floating = quotas.floatingip
 limit_of quotas Policy = quotas.rbac_policy
 
 -- how many rows the project owns
-abbrev pub owned_count : {R : Type 0} → (R → List ℕ) → List ℕ → List R → ℕ
+abbrev pub owned_count : {R : Type 0} → (R → Text) → Text → List R → ℕ
 owned_count project_of project rows = count_by (λ r. bytes_eq (project_of r) project) rows
 
-abbrev pub used_of : RowLists → List ℕ → Kind → ℕ
+abbrev pub used_of : RowLists → Text → Kind → ℕ
 used_of rows project Project = 0
 used_of rows project Network = owned_count (λ r. r.project) project rows.networks
 used_of rows project Subnet = owned_count (λ r. r.project) project rows.subnets
@@ -43,5 +44,5 @@ over_limit kind Unlimited used = None
 over_limit kind (AtMost limit) used = when (nat_lt limit (used + 1)) (OverQuota kind limit used)
 
 -- one row more of the kind would be above the project's limit
-abbrev pub over_quota : SettingsParts → RowLists → List ℕ → Kind → Option Refusal
+abbrev pub over_quota : SettingsParts → RowLists → Text → Kind → Option Refusal
 over_quota settings rows project kind = over_limit kind (limit_of settings.quotas kind) (used_of rows project kind)

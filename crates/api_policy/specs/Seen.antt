@@ -13,10 +13,11 @@ use Rattle.api_types.specs.declared.policy.PolicyRow.{PolicyRow}
 use Rattle.api_types.specs.declared.port.PortRow.{PortRow}
 use Rattle.api_types.specs.declared.router.RouterRow.{RouterRow}
 use Rattle.api_types.specs.declared.subnet.SubnetRow.{SubnetRow}
-use Rattle.std.specs.Prelude.{List, Option, filter, ℕ}
+use Rattle.std.specs.Prelude.{List, Option, filter}
+use Rattle.net_addr.specs.Words.{Text}
 
 -- the rows that the caller's project owns; an administrator sees all
-abbrev pub own_rows : {R : Type 0} → (R → List ℕ) → Caller → List R → List R
+abbrev pub own_rows : {R : Type 0} → (R → Text) → Caller → List R → List R
 own_rows project_of caller rows = filter (λ r. is_own caller (project_of r)) rows
 
 abbrev pub network_seen : RowLists → Caller → Option Ident → Option NetworkRow

@@ -6,15 +6,16 @@ use Rattle.api_types.specs.Ident.{Ident}
 use Rattle.api_types.specs.Table.{ident_eq}
 use Rattle.api_types.specs.declared.policy.Action.TheVariants.{External, Shared}
 use Rattle.api_types.specs.declared.policy.PolicyRow.{PolicyRow}
-use Rattle.std.specs.Prelude.{Bool, List, filter, if◌then◌else◌, map, not, ℕ, ◌&&◌, ◌||◌}
+use Rattle.std.specs.Prelude.{Bool, List, filter, if◌then◌else◌, map, not, ◌&&◌, ◌||◌}
+use Rattle.net_addr.specs.Words.{Text}
 
 abbrev pub without : Ident → List PolicyRow → List PolicyRow
 without i policies = filter (λ (q : PolicyRow). not (ident_eq i q.id)) policies
 
-abbrev pub aimed : PolicyRow → List ℕ → PolicyRow
+abbrev pub aimed : PolicyRow → Text → PolicyRow
 aimed l target = record l { target = target }
 
-abbrev pub with_aimed : PolicyRow → List ℕ → List PolicyRow → List PolicyRow
+abbrev pub with_aimed : PolicyRow → Text → List PolicyRow → List PolicyRow
 with_aimed l target policies = map (λ (q : PolicyRow). if ident_eq l.id q.id then aimed l target else q) policies
 
 abbrev pub is_closed : Ident → Bool → Bool → PolicyRow → Bool

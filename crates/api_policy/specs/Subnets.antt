@@ -1,5 +1,6 @@
 -- What is printed of a subnet (Networking API reference, Show subnet details).
 use Rattle.std.specs.Prelude.{ℕ, List, [], ◌∷◌, codes, if◌then◌else◌}
+use Rattle.net_addr.specs.Words.{Text}
 use Rattle.net_addr.specs.Addresses.{is_v4}
 use Rattle.net_addr.specs.declared.address.Addr.{Addr}
 use Rattle.api_types.specs.Printed.{NamedTree, Tree, number, truth, word}
@@ -12,7 +13,7 @@ use Rattle.api_policy.specs.Trees.{address_word, id_word, list_of, null_or, pref
 abbrev pub version_number : Addr → ℕ
 version_number x = if is_v4 x then 4 else 6
 
-abbrev pub mode_text : Ipv6Mode → List ℕ
+abbrev pub mode_text : Ipv6Mode → Text
 mode_text Slaac = codes "slaac"
 mode_text Stateful = codes "dhcpv6-stateful"
 mode_text Stateless = codes "dhcpv6-stateless"

@@ -1,5 +1,6 @@
 -- How the values of rows are printed.
 use Rattle.std.specs.Prelude.{ℕ, List, [], ◌∷◌, map, Option, Some, None, codes}
+use Rattle.net_addr.specs.Words.{MacAddress}
 use Rattle.net_addr.specs.Prefixes.{Prefix, Span}
 use Rattle.net_addr.specs.Spelling.{addr_text, address_text, mac_text, prefix_text}
 use Rattle.net_addr.specs.declared.address.Addr.{Addr}
@@ -19,7 +20,7 @@ address_word a = word (addr_text a)
 abbrev pub four_word : ℕ → Tree
 four_word a = word (address_text a)
 
-abbrev pub mac_word : ℕ → Tree
+abbrev pub mac_word : MacAddress → Tree
 mac_word m = word (mac_text m)
 
 abbrev pub prefix_word : Prefix → Tree

@@ -38,7 +38,8 @@ use Rattle.net_addr.specs.declared.address.Addr.TheVariants.{V4}
 use Rattle.net_addr.specs.declared.address.Addr.{Addr}
 use Rattle.std.specs.List.{list_any}
 use Rattle.std.specs.Option.{option_or}
-use Rattle.std.specs.Prelude.{Bool, List, None, Option, Some, [], find, if◌then◌else◌, not, option_and_then, option_map, ℕ, ◌&&◌, ◌||◌, ◌∷◌}
+use Rattle.std.specs.Prelude.{Bool, List, None, Option, Some, [], find, if◌then◌else◌, not, option_and_then, option_map, ◌&&◌, ◌||◌, ◌∷◌}
+use Rattle.net_addr.specs.Words.{Text}
 
 -- of the row that uses another one, what the caller is told: nothing where it doesn't see it
 abbrev pub told_user : RowLists → Caller → Option (Kind × Ident) → Option (Kind × Ident)
@@ -76,13 +77,13 @@ old_gateway_in_use rows caller old new =
     option_map (used_by_port rows caller GatewayIpInUse SubnetKind old.id) (gateway_user rows.ports old old.gateway new.gateway)
 
 -- the router, or else the floating address, that a service's port names by its device
-abbrev pub named_router : List RouterRow → List ℕ → Option (Kind × Ident)
+abbrev pub named_router : List RouterRow → Text → Option (Kind × Ident)
 named_router routers device = option_map (λ (r : RouterRow). (RouterKind, r.id)) (find (λ (r : RouterRow). device_is device r.id) routers)
 
-abbrev pub named_floating : List FloatingRow → List ℕ → Option (Kind × Ident)
+abbrev pub named_floating : List FloatingRow → Text → Option (Kind × Ident)
 named_floating floatings device = option_map (λ (f : FloatingRow). (FloatingKind, f.id)) (find (λ (f : FloatingRow). device_is device f.id) floatings)
 
-abbrev pub named_by_device : RowLists → List ℕ → Option (Kind × Ident)
+abbrev pub named_by_device : RowLists → Text → Option (Kind × Ident)
 named_by_device rows device = option_or (named_router rows.routers device) (named_floating rows.floatings device)
 
 -- a service's port that is taken out, or changed in more than name and description

@@ -1,6 +1,7 @@
 -- Which rows a caller sees. Projects are told apart by name; administrators see all.
-use Rattle.std.specs.Prelude.{ℕ, ◌||◌, Bool, false, List, filter}
+use Rattle.std.specs.Prelude.{◌||◌, Bool, false, List, filter}
 use Rattle.std.specs.Str.{bytes_eq}
+use Rattle.net_addr.specs.Words.{Text}
 use Rattle.api_types.specs.Ident.{Ident}
 use Rattle.api_types.specs.Lists.{stands_so}
 use Rattle.api_types.specs.RowLists.{RowLists}
@@ -13,7 +14,7 @@ use Rattle.api_types.specs.declared.subnet.SubnetRow.{SubnetRow}
 use Rattle.api_types.specs.declared.port.PortRow.{PortRow}
 
 -- a caller sees what its project owns, and an administrator sees all
-abbrev pub is_own : Caller → List ℕ → Bool
+abbrev pub is_own : Caller → Text → Bool
 is_own caller project = caller.admin || bytes_eq project caller.project
 
 -- and a project sees a network that is shared with it or external to it
@@ -21,11 +22,11 @@ abbrev pub sees_network : RowLists → Caller → NetworkRow → Bool
 sees_network rows caller n = is_own caller n.project || (is_shared_with rows.policies n.id caller.project || is_external_to rows.policies n.id caller.project)
 
 -- whether the network is there and is the project's
-abbrev pub owns_network : RowLists → List ℕ → Ident → Bool
+abbrev pub owns_network : RowLists → Text → Ident → Bool
 owns_network rows project i = stands_so (λ (n : NetworkRow). n.id) i (λ (n : NetworkRow). bytes_eq n.project project) rows.networks
 
 -- whether the network is there and is the project's or shared with it
-abbrev pub uses_network : RowLists → List ℕ → Ident → Bool
+abbrev pub uses_network : RowLists → Text → Ident → Bool
 uses_network rows project i = stands_so (λ (n : NetworkRow). n.id) i (λ (n : NetworkRow). bytes_eq n.project project || is_shared_with rows.policies n.id project) rows.networks
 
 -- the subnets of such a network

@@ -1,7 +1,8 @@
 -- What the filters of one name ask for.
-use Rattle.std.specs.Prelude.{ℕ, List, Bool, ◌&&◌}
+use Rattle.std.specs.Prelude.{List, Bool, ◌&&◌}
 use Rattle.std.specs.List.{list_any}
 use Rattle.std.specs.Str.{bytes_eq}
+use Rattle.net_addr.specs.Words.{Text}
 use Rattle.api_types.specs.Printed.{NamedTree, Tree}
 use Rattle.api_types.specs.declared.call.Filter.{Filter}
 use Rattle.api_policy.specs.Filtered.{fits}
@@ -9,10 +10,10 @@ use Rattle.api_policy.specs.Shown.{is_told}
 
 -- a name, and the filters of which some have it
 pub record AskedName : Type 0 where
-  pub name : List ℕ
+  pub name : Text
   pub filters : List Filter
 
-abbrev pub asked_under : List Filter → List ℕ → AskedName
+abbrev pub asked_under : List Filter → Text → AskedName
 asked_under filters name = record { name = name; filters = filters }
 
 -- a filter with the name asks for the value

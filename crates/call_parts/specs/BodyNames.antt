@@ -3,10 +3,11 @@ use Rattle.api_types.specs.Refusing.{not_found}
 use Rattle.api_types.specs.Ident.{Ident, ident_text}
 use Rattle.api_types.specs.declared.kind.Kind.{Kind}
 use Rattle.api_types.specs.declared.refusal.Refusal.{Refusal}
-use Rattle.std.specs.Prelude.{Bool, List, None, Option, Some, [], find, not, option_map, ℕ}
+use Rattle.std.specs.Prelude.{Bool, List, None, Option, Some, [], find, not, option_map}
+use Rattle.net_addr.specs.Words.{Text}
 
 -- the printed text of the id that a body gives
-abbrev pub text_of : Option Ident → List ℕ
+abbrev pub text_of : Option Ident → Text
 text_of None = []
 text_of (Some i) = ident_text i
 

@@ -23,6 +23,7 @@ use Rattle.net_addr.specs.Prefixes.{IsPrefix, Prefix}
 use Rattle.call_parts.specs.Typed.{IfGiven}
 use Rattle.std.specs.List.{list_all}
 use Rattle.std.specs.Prelude.{Bool, List, [], bytes_eq, codes, false, is_some, length, nat_le, not, take, true, ℕ, ⊤, ◌&&◌, ◌<◌, ◌^◌, ◌||◌, ◌≡◌}
+use Rattle.net_addr.specs.Words.{Text}
 
 -- whether a value that is given passes a test
 abbrev pub if_value : {T : Type 0} → (T → Bool) → Given T → Bool
@@ -43,10 +44,10 @@ not_null Null = false
 not_null (Is x) = true
 
 -- no project's name is empty
-abbrev pub is_owner : Given (List ℕ) → Bool
+abbrev pub is_owner : Given Text → Bool
 is_owner owner = not_null owner && if_value (λ name. not (is_empty name)) owner
 
-abbrev pub are_owners : Given (List ℕ) → Given (List ℕ) → Bool
+abbrev pub are_owners : Given Text → Given Text → Bool
 are_owners project tenant = is_owner project && is_owner tenant
 
 abbrev pub is_few : {T : Type 0} → ℕ → Given (List T) → Bool
@@ -70,7 +71,7 @@ is_item item = is_some item.address || is_some item.subnet
 abbrev pub is_pair : PairAsked → Bool
 is_pair pair = if_some is_unicast pair.mac
 
-abbrev pub is_no_service : List ℕ → Bool
+abbrev pub is_no_service : Text → Bool
 is_no_service owner = not (bytes_eq (take 8 owner) (codes "network:"))
 
 abbrev pub is_network_body : NetworkForm → Bool

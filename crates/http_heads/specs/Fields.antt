@@ -2,6 +2,7 @@
 use Rattle.std.specs.Prelude.{ℕ, Bool, false, ◌||◌, ◌==◌, nat_lt, List, [], ◌∷◌, length, map, filter, Option, Some, None, codes, if◌then◌else◌}
 use Rattle.std.specs.List.{list_any}
 use Rattle.std.specs.Str.{bytes_eq}
+use Rattle.http_heads.specs.Texts.{Text}
 use Rattle.httparse.specs.Grammar.{RequestHead}
 use Rattle.httparse.specs.Spans.{name_and_value}
 use Rattle.http_heads.specs.declared.values.BodyLength.{BodyLength}
@@ -11,14 +12,14 @@ use Rattle.http_heads.specs.Words.{same_word, has_word, is_space, is_space_or_ta
 
 -- a field: its name, and its value without white space at its ends
 abbrev pub Named : Type 0
-Named = List ℕ × List ℕ
+Named = Text × Text
 
 -- the fields of a head
 abbrev pub fields_of : RequestHead → List Named
 fields_of head = map name_and_value head.fields
 
 -- the values of the fields of that name, in any case
-abbrev pub values : List ℕ → List Named → List (List ℕ)
+abbrev pub values : Text → List Named → List Text
 values name fields = map (λ f. f.1) (filter (λ f. same_word f.0 name) fields)
 
 abbrev pub length_by : Option ℕ → BodyLength
@@ -26,7 +27,7 @@ length_by (Some n) = Given n
 length_by None = Bad
 
 -- what some values of `Content-Length` say of the body's length: one of 1 to 10 digits
-abbrev pub length_in : List (List ℕ) → BodyLength
+abbrev pub length_in : List Text → BodyLength
 length_in [] = Missing
 length_in (text ∷ []) = length_by (number_in 10 text)
 length_in (text ∷ (other ∷ texts)) = Bad
@@ -36,11 +37,11 @@ abbrev pub told_length : List Named → BodyLength
 told_length fields = length_in (values (codes "content-length") fields)
 
 -- a field of this name is there
-abbrev pub has_field : List ℕ → List Named → Bool
+abbrev pub has_field : Text → List Named → Bool
 has_field name fields = nat_lt 0 (length (values name fields))
 
 -- requests of these methods have a length
-abbrev pub needs_length : List ℕ → Bool
+abbrev pub needs_length : Text → Bool
 needs_length method = bytes_eq method (codes "POST") || bytes_eq method (codes "PUT")
 
 -- a length is missing, or a transfer coding is there
@@ -77,13 +78,13 @@ unfoldable pub closes : RequestHead → Bool
 closes head = head.minor == 0 || list_any (has_word is_space_or_tab (codes "close")) (values (codes "connection") (fields_of head))
 
 -- the one value, where there is exactly one
-abbrev pub only : List (List ℕ) → Option (List ℕ)
+abbrev pub only : List Text → Option Text
 only [] = None
 only (text ∷ []) = Some text
 only (text ∷ (other ∷ texts)) = None
 
 -- the project that the request names, where one field does
-unfoldable pub project_of : RequestHead → Option (List ℕ)
+unfoldable pub project_of : RequestHead → Option Text
 project_of head = only (values (codes "x-project-id") (fields_of head))
 
 -- the roles have `admin`

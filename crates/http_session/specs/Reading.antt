@@ -1,6 +1,7 @@
 -- Reading on until a request has come.
-use Rattle.std.specs.Prelude.{◌≡◌, ℕ, ◌+◌, ◌<◌, ◌≤◌, Option, List, [], ◌++◌, length, drop}
+use Rattle.std.specs.Prelude.{◌≡◌, ℕ, ◌+◌, ◌<◌, ◌≤◌, Option, [], ◌++◌, length, drop}
 use Rattle.std.specs.Io.KnownBytes.{Consumes, IsAtEnd}
+use Rattle.net_addr.specs.Words.{Bytes}
 use Rattle.httparse.specs.Grammar.{RequestHead, print_request}
 use Rattle.http_heads.specs.Fields.{body_length, closes}
 use Rattle.http_heads.specs.Heads.{Asked, Takes, Passes, Refuses, Decides, IsUndecided, IsWaiting}
@@ -16,14 +17,14 @@ use Rattle.http_session.specs.declared.reading.Stop.{Stop}
 use Rattle.http_session.specs.declared.reading.Stop.TheVariants.{Bad, AtEnd, NoRead, Spent}
 
 -- some more bytes were read
-pub record Reads (old new : List ℕ) (left left_new : Option (List ℕ)) (taken taken_new : ℕ) : Type 0 where
-  pub more : List ℕ
+pub record Reads (old new : Bytes) (left left_new : Option Bytes) (taken taken_new : ℕ) : Type 0 where
+  pub more : Bytes
   pub grew : new ≡ old ++ more
   pub read : Consumes left left_new more
   pub count : taken_new ≡ taken + length more
 
 -- the bytes begin with a head that passes, and the request's parts are those of the head and of the body behind it
-pub record HasHead (bytes : List ℕ) (request : Request) (head : RequestHead) : Type 0 where
+pub record HasHead (bytes : Bytes) (request : Request) (head : RequestHead) : Type 0 where
   pub decides : Decides bytes (Passes head)
   pub parts : ArePartsOf bytes head request.parts
   pub start : request.body.start ≡ length (print_request head)
@@ -31,29 +32,29 @@ pub record HasHead (bytes : List ℕ) (request : Request) (head : RequestHead) :
   pub close : request.close ≡ closes head
 
 -- what a look at the bytes tells
-abbrev pub IsLooked : List ℕ → Looked → Type 0
+abbrev pub IsLooked : Bytes → Looked → Type 0
 IsLooked bytes Open = IsUndecided bytes
 IsLooked bytes (Whole request) = (head : RequestHead) × HasHead bytes request head
 IsLooked bytes (Wrong n) = Decides bytes (Refuses n) × (1 ≤ n) × (n ≤ 4)
 
 -- why no request came
-abbrev pub IsStop : ℕ → List ℕ → Option (List ℕ) → ℕ → Stop → Type 0
+abbrev pub IsStop : ℕ → Bytes → Option Bytes → ℕ → Stop → Type 0
 IsStop limit buffer left taken (Bad n) = IsRefused limit buffer left taken n × (1 ≤ n) × (n ≤ 4)
 IsStop limit buffer left taken AtEnd = (buffer ≡ []) × IsAtEnd left × (taken < limit)
 IsStop limit buffer left taken NoRead = IsWaiting buffer × (taken < limit)
 IsStop limit buffer left taken Spent = IsWaiting buffer × (taken ≡ limit)
 
 -- a head was waited for
-abbrev pub IsHeadAwaited : ℕ → List ℕ → Option (List ℕ) → ℕ → Awaited → Type 0
+abbrev pub IsHeadAwaited : ℕ → Bytes → Option Bytes → ℕ → Awaited → Type 0
 IsHeadAwaited limit buffer left taken (Found request) = (head : RequestHead) × HasHead buffer request head
 IsHeadAwaited limit buffer left taken (Stopped stop) = IsStop limit buffer left taken stop
 
 -- the buffer begins with this request
-abbrev pub IsFound : List ℕ → Request → Type 0
+abbrev pub IsFound : Bytes → Request → Type 0
 IsFound buffer request = (request.body.end ≤ length buffer) × (0 < request.body.end)
     × ((asked : Asked) × Takes buffer asked (drop request.body.end buffer) × IsRequest buffer request asked)
 
 -- a request was waited for
-abbrev pub IsAwaited : ℕ → List ℕ → Option (List ℕ) → ℕ → Awaited → Type 0
+abbrev pub IsAwaited : ℕ → Bytes → Option Bytes → ℕ → Awaited → Type 0
 IsAwaited limit buffer left taken (Found request) = IsFound buffer request
 IsAwaited limit buffer left taken (Stopped stop) = IsStop limit buffer left taken stop

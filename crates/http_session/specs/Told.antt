@@ -1,16 +1,17 @@
 -- How one request is answered.
 use Rattle.std.specs.Prelude.{◌≡◌, ℕ, ◌+◌, Bool, true, List, [], ◌∷◌}
 use Rattle.std.specs.List.{flat_map}
+use Rattle.net_addr.specs.Words.{Bytes}
 use Rattle.http_heads.specs.Heads.{Asked}
 use Rattle.http_heads.specs.Fields.{closes}
 
 -- the machine's reply, or a refusal because the store failed or memory was wanting
 pub data Told : Type 0 where
-  Answered : List ℕ → Told
-  StoreFailed : List ℕ → Told
-  NoMemory : List ℕ → Told
+  Answered : Bytes → Told
+  StoreFailed : Bytes → Told
+  NoMemory : Bytes → Told
 
-abbrev pub told_bytes : Told → List ℕ
+abbrev pub told_bytes : Told → Bytes
 told_bytes (Answered reply) = reply
 told_bytes (StoreFailed reply) = reply
 told_bytes (NoMemory reply) = reply
@@ -21,7 +22,7 @@ told_faults (Answered reply) = 0
 told_faults (StoreFailed reply) = 1
 told_faults (NoMemory reply) = 0
 
-abbrev pub replies : List Told → List ℕ
+abbrev pub replies : List Told → Bytes
 replies tolds = flat_map told_bytes tolds
 
 abbrev pub faults : List Told → ℕ
@@ -30,16 +31,20 @@ faults (told ∷ tolds) = told_faults told + faults tolds
 
 -- the replies that aren't the machine's: of the store's failing, which only a change meets, of want of memory, and of refusals 1 to 4
 pub record Fixed (W : Type 0) : Type 0 where
-  pub store_failed : Bool → List ℕ
-  pub no_memory : Bool → List ℕ
-  pub refusal : ℕ → List ℕ
+  pub store_failed : Bool → Bytes
+  pub no_memory : Bool → Bytes
+  pub refusal : ℕ → Bytes
   -- whether a request comes to a change, which the store is to keep
   pub changes : W → Asked → Bool
   -- whether want of memory may come in a reply's place
   pub may_want : Bool
 
+-- what a request, and its reply, make of a world of this type
+abbrev pub Transition : Type 0 → Type 1
+Transition W = W → Asked → Bytes → W → Type 0
+
 -- a request moves the world by the machine's step, or not at all
-abbrev pub Moves : {W : Type 0} → (W → Asked → List ℕ → W → Type 0) → Fixed W → W → Asked → Told → W → Type 0
+abbrev pub Moves : {W : Type 0} → Transition W → Fixed W → W → Asked → Told → W → Type 0
 Moves step fixed old asked (Answered reply) new = step old asked reply new
 Moves step fixed old asked (StoreFailed reply) new = (fixed.changes old asked ≡ true) × (new ≡ old) × (reply ≡ fixed.store_failed (closes asked.head))
 Moves step fixed old asked (NoMemory reply) new = (fixed.may_want ≡ true) × (new ≡ old) × (reply ≡ fixed.no_memory (closes asked.head))

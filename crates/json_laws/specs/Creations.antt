@@ -1,5 +1,6 @@
 -- Rows that have what a creation's body gives, and forms in which that is given again.
-use Rattle.std.specs.Prelude.{◌≡◌, ◌==◌, ◌&&◌, Bool, false, Option, Some, None, option_map, List, ℕ, if◌then◌else◌}
+use Rattle.std.specs.Prelude.{◌≡◌, ◌==◌, ◌&&◌, Bool, false, Option, Some, None, option_map, ℕ, if◌then◌else◌}
+use Rattle.net_addr.specs.Words.{Text}
 use Rattle.net_addr.specs.Addresses.{is_v4}
 use Rattle.net_addr.specs.declared.address.Addr.{Addr}
 use Rattle.api_types.specs.Lists.{is_some_so}
@@ -65,7 +66,7 @@ segment_type (segment.Flat physical) = type.Flat
 segment_type (segment.Vlan physical tag) = type.Vlan
 segment_type (segment.Vxlan n) = type.Vxlan
 
-abbrev pub segment_physical : Segment → Option (List ℕ)
+abbrev pub segment_physical : Segment → Option Text
 segment_physical segment.Local = None
 segment_physical (segment.Flat physical) = Some physical
 segment_physical (segment.Vlan physical tag) = Some physical

@@ -1,5 +1,6 @@
 -- What each reply prints (OpenStack API reference, Networking API v2.0; the lab's replies are this server's own).
-use Rattle.std.specs.Prelude.{ℕ, List, [], ◌∷◌, map, codes, Option, Some, None}
+use Rattle.std.specs.Prelude.{[], ◌∷◌, map, codes, Option, Some, None}
+use Rattle.net_addr.specs.Words.{Bytes, Text}
 use Rattle.api_types.specs.Printed.{Tree, number, word, NamedTree, ShownRow, OneRow, ManyRows, NewRow, NoRow, InterfaceRow, reply_of}
 use Rattle.api_types.specs.Printed as answered
 use Rattle.api_types.specs.declared.refusal.Refusal.{Refusal}
@@ -15,7 +16,7 @@ use Rattle.json_replies.specs.Verdicts.{verdict_tree, heard_tree}
 use Rattle.json_replies.specs.Tables.{tables_tree}
 
 -- an object with one member
-abbrev pub only : List ℕ → Tree → Tree
+abbrev pub only : Text → Tree → Tree
 only name t = fields ((name, t) ∷ [])
 
 abbrev pub row_tree : ShownRow → Tree
@@ -39,7 +40,7 @@ lab_tree (Hosts hosts) = only (codes "hosts") (list (map host_tree hosts))
 lab_tree (Tables tables) = only (codes "tables") (tables_tree tables)
 
 -- what a refusal says
-abbrev pub words_tree : List ℕ → List ℕ → Tree
+abbrev pub words_tree : Text → Text → Tree
 words_tree kind message = fields (
     (codes "detail", word []) ∷ (codes "message", word message) ∷ (codes "type", word kind) ∷ [])
 
@@ -52,5 +53,5 @@ reply_tree (LabDone answer) = Some (lab_tree answer)
 reply_tree (Refused refusal) = Some (fault_tree refusal)
 
 -- the body of a reply
-abbrev pub body_of : Reply → List ℕ
+abbrev pub body_of : Reply → Bytes
 body_of reply = body_text (reply_tree reply)

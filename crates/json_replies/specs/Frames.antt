@@ -1,5 +1,6 @@
 -- Frames, keys and tracked entries as they are printed.
 use Rattle.std.specs.Prelude.{ℕ, List, [], ◌∷◌, codes}
+use Rattle.net_addr.specs.Words.{MacAddress, Text}
 use Rattle.net_addr.specs.Spelling.{addr_text, address_text, mac_text, prefix_text}
 use Rattle.net_addr.specs.declared.address.Addr.{Addr}
 use Rattle.net_addr.specs.Prefixes.{Prefix}
@@ -31,7 +32,7 @@ address_tree address = word (addr_text address)
 abbrev pub four_tree : ℕ → Tree
 four_tree address = word (address_text address)
 
-abbrev pub mac_tree : ℕ → Tree
+abbrev pub mac_tree : MacAddress → Tree
 mac_tree mac = word (mac_text mac)
 
 abbrev pub prefix_tree : Prefix → Tree
@@ -54,11 +55,11 @@ part_members (part.EchoReply id) = (codes "id", number id) ∷ (codes "proto", w
 part_members (part.Proto n) = (codes "number", number n) ∷ (codes "proto", word (codes "other")) ∷ []
 
 -- the kinds of packets, and of asks for addresses, by the version
-abbrev pub packet_word : Ends → List ℕ
+abbrev pub packet_word : Ends → Text
 packet_word (Ends4 from to) = codes "ip4"
 packet_word (Ends6 from to) = codes "ip6"
 
-abbrev pub ask_word : Ends → List ℕ
+abbrev pub ask_word : Ends → Text
 ask_word (Ends4 from to) = codes "arp_ask"
 ask_word (Ends6 from to) = codes "neigh_ask"
 

@@ -1,5 +1,6 @@
 -- Printed values as JSON (RFC 8259). The members of an object stand in byte order of their names.
-use Rattle.std.specs.Prelude.{ℕ, List, [], Option, Some, None}
+use Rattle.std.specs.Prelude.{List, [], Option, Some, None}
+use Rattle.net_addr.specs.Words.{Bytes}
 use Rattle.serde_json.specs.Data as json
 use Rattle.serde_json.specs.Data.{Data, put}
 use Rattle.serde_json.specs.Written.{compact_text}
@@ -35,7 +36,7 @@ abbrev pub list : List Tree → Tree
 list ts = items (trees_of ts)
 
 -- a body without spaces, or none
-abbrev pub body_text : Option Tree → List ℕ
+abbrev pub body_text : Option Tree → Bytes
 body_text None = []
 body_text (Some t) = compact_text (tree_data t)
 

@@ -1,5 +1,6 @@
 -- The tables of a host as they are printed. What a row hasn't is null.
-use Rattle.std.specs.Prelude.{ℕ, List, [], ◌∷◌, map, codes, Option, Some, None, option_and_then}
+use Rattle.std.specs.Prelude.{[], ◌∷◌, map, codes, Option, Some, None, option_and_then}
+use Rattle.net_addr.specs.Words.{Text}
 use Rattle.net_addr.specs.Spelling.{mac_text}
 use Rattle.api_types.specs.Printed.{Tree, truth, number, word}
 use Rattle.api_types.specs.declared.port.Pair.{Pair}
@@ -58,7 +59,7 @@ filter_tree row = fields (
 abbrev pub set_tree : SetRow → Tree
 set_tree row = fields ((codes "group", id_tree row.group) ∷ (codes "prefix", prefix_tree row.prefix) ∷ [])
 
-abbrev pub bridge_key_text : BridgeKey → List ℕ
+abbrev pub bridge_key_text : BridgeKey → Text
 bridge_key_text Dhcp = codes "dhcp"
 bridge_key_text (Mac mac) = mac_text mac
 
@@ -99,7 +100,7 @@ router_tree row = fields (
     (codes "gateway_address", or_null four_tree row.gateway) ∷ (codes "ports", list (map router_port_tree row.ports))
     ∷ (codes "router", id_tree row.router) ∷ (codes "snat", truth row.snat) ∷ (codes "up", truth row.up) ∷ [])
 
-abbrev pub rank_word : RouteRank → List ℕ
+abbrev pub rank_word : RouteRank → Text
 rank_word Connected = codes "connected"
 rank_word Extra = codes "extra"
 rank_word Default = codes "default"

@@ -1,5 +1,6 @@
 -- What becomes of a frame, as it is printed.
-use Rattle.std.specs.Prelude.{ℕ, List, [], ◌∷◌, map, codes}
+use Rattle.std.specs.Prelude.{[], ◌∷◌, map, codes}
+use Rattle.net_addr.specs.Words.{Text}
 use Rattle.net_addr.specs.Spelling.{addr_text, mac_text}
 use Rattle.api_types.specs.Printed.{Tree, null, number, word}
 use Rattle.api_types.specs.declared.subnet.Hop.{Hop}
@@ -34,7 +35,7 @@ ask_answer_tree (Arp address mac) = fields (
     (codes "address", address_tree address) ∷ (codes "kind", word (codes "Answered")) ∷ (codes "mac", mac_tree mac) ∷ [])
 ask_answer_tree (Leased lease) = fields ((codes "kind", word (codes "Answered")) ∷ (codes "lease", lease_tree lease) ∷ [])
 
-abbrev pub cause_word : DropCause → List ℕ
+abbrev pub cause_word : DropCause → Text
 cause_word Dead = codes "Dead"
 cause_word Unsupported = codes "Unsupported"
 cause_word Spoof = codes "Spoof"
@@ -48,7 +49,7 @@ cause_word Expired = codes "Expired"
 cause_word NoRoute = codes "NoRoute"
 cause_word TranslationFull = codes "TranslationFull"
 
-abbrev pub toward_text : Toward → List ℕ
+abbrev pub toward_text : Toward → Text
 toward_text (Mac mac) = mac_text mac
 toward_text (Address address) = addr_text address
 toward_text Dhcp = codes "dhcp"

@@ -1,5 +1,6 @@
 -- Frames as requests of the lab write them. This server's own.
 use Rattle.std.specs.Prelude.{ℕ, ◌==◌, ◌||◌, not, Bool, List, [], ◌∷◌, ◌++◌, Option, option_map, option_and_then, codes}
+use Rattle.net_addr.specs.Words.{Text}
 use Rattle.serde_json.specs.Data.{Data}
 use Rattle.api_types.specs.declared.group.Ethertype.{Ethertype}
 use Rattle.api_types.specs.declared.group.Ethertype.TheVariants.{Ipv4, Ipv6}
@@ -50,10 +51,10 @@ abbrev pub carried_of : Data → Option Carried
 carried_of = word_of ((codes "tcp", carried.Tcp) ∷ (codes "udp", carried.Udp) ∷ (codes "echo_ask", carried.EchoAsk)
     ∷ (codes "echo_reply", carried.EchoReply) ∷ (codes "other", carried.Other) ∷ [])
 
-abbrev pub packet_names : List (List ℕ)
+abbrev pub packet_names : List Text
 packet_names = codes "kind" ∷ codes "src" ∷ codes "dst" ∷ codes "from" ∷ codes "to" ∷ codes "ttl" ∷ codes "proto" ∷ []
 
-abbrev pub part_names : Carried → List (List ℕ)
+abbrev pub part_names : Carried → List Text
 part_names carried.Tcp = codes "sport" ∷ codes "dport" ∷ []
 part_names carried.Udp = codes "sport" ∷ codes "dport" ∷ []
 part_names carried.EchoAsk = codes "id" ∷ []

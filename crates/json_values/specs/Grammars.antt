@@ -3,6 +3,7 @@ use Rattle.std.specs.Prelude.{ℕ, ◌^◌, ◌-◌, ◌==◌, ◌&&◌, ◌||�
 use Rattle.std.specs.Char.{is_ascii_alphanumeric}
 use Rattle.std.specs.List.{list_all, starts_with}
 use Rattle.std.specs.Str.{bytes_eq, chars, str_to_ascii_lowercase}
+use Rattle.net_addr.specs.Words.{Text}
 use Rattle.serde_json.specs.Data.{Data, Members}
 use Rattle.serde_json.specs.Events.{members_len}
 use Rattle.serde_json.specs.Find.{as_str, as_object}
@@ -36,24 +37,24 @@ use Rattle.json_values.specs.Values.{kept, whole_of, said_by, word_in, word_of, 
 use Rattle.json_values.specs.Items.{id_of, address_of, exact_of, span_of, hop_of, fixed_of, pair_of, other_id, other_hop}
 
 -- at most 255 characters
-abbrev pub is_short : List ℕ → Bool
+abbrev pub is_short : Text → Bool
 is_short text = nat_le (length (chars text)) 255
 
-abbrev pub short_text : Data → Option (List ℕ)
+abbrev pub short_text : Data → Option Text
 short_text d = kept is_short (as_str d)
 
 -- `default` names the group that each project has
-abbrev pub is_free_name : List ℕ → Bool
+abbrev pub is_free_name : Text → Bool
 is_free_name text = not (bytes_eq text (codes "default"))
 
-abbrev pub group_name : Data → Option (List ℕ)
+abbrev pub group_name : Data → Option Text
 group_name d = kept is_free_name (short_text d)
 
 -- owners that begin with `network:` are the server's
-abbrev pub is_free_owner : List ℕ → Bool
+abbrev pub is_free_owner : Text → Bool
 is_free_owner text = not (starts_with nat_eq text (codes "network:"))
 
-abbrev pub device_owner : Data → Option (List ℕ)
+abbrev pub device_owner : Data → Option Text
 device_owner d = kept is_free_owner (short_text d)
 
 -- a letter or a digit of ASCII, a hyphen or an underscore
@@ -61,17 +62,17 @@ abbrev pub is_project_byte : ℕ → Bool
 is_project_byte b = is_ascii_alphanumeric b || (b == 45 || b == 95)
 
 -- 1 to 64 of them
-abbrev pub is_project_name : List ℕ → Bool
+abbrev pub is_project_name : Text → Bool
 is_project_name text = nat_le 1 (length text) && (nat_le (length text) 64 && list_all is_project_byte text)
 
-abbrev pub project_name : Data → Option (List ℕ)
+abbrev pub project_name : Data → Option Text
 project_name d = kept is_project_name (as_str d)
 
 -- a project, or `*` for all
-abbrev pub is_target : List ℕ → Bool
+abbrev pub is_target : Text → Bool
 is_target text = bytes_eq text (codes "*") || is_project_name text
 
-abbrev pub target_name : Data → Option (List ℕ)
+abbrev pub target_name : Data → Option Text
 target_name d = kept is_target (as_str d)
 
 abbrev pub network_type_of : Data → Option NetworkType
@@ -132,19 +133,19 @@ abbrev pub direction_of : Data → Option Direction
 direction_of = word_of ((codes "ingress", Ingress) ∷ (codes "egress", Egress) ∷ [])
 
 -- in any ASCII case
-abbrev pub ethertype_in : List ℕ → Option Ethertype
+abbrev pub ethertype_in : Text → Option Ethertype
 ethertype_in text = word_in ((codes "ipv4", Ipv4) ∷ (codes "ipv6", Ipv6) ∷ []) (str_to_ascii_lowercase text)
 
 abbrev pub ethertype_of : Data → Option Ethertype
 ethertype_of = said_by ethertype_in
 
 -- protocols by their names (IANA)
-abbrev pub named_protocol : List ℕ → Option ℕ
+abbrev pub named_protocol : Text → Option ℕ
 named_protocol = word_in ((codes "icmp", 1) ∷ (codes "igmp", 2) ∷ (codes "tcp", 6) ∷ (codes "udp", 17) ∷ (codes "gre", 47)
     ∷ (codes "esp", 50) ∷ (codes "ah", 51) ∷ (codes "ipv6-icmp", 58) ∷ (codes "icmpv6", 58) ∷ (codes "ospf", 89) ∷ (codes "vrrp", 112) ∷ (codes "sctp", 132) ∷ [])
 
 -- a name, or a number's text
-abbrev pub protocol_in : List ℕ → Option ℕ
+abbrev pub protocol_in : Text → Option ℕ
 protocol_in text = or_else (named_protocol text) (number_in 256 text)
 
 -- a name, a number's text or a number to 255

@@ -1,5 +1,6 @@
 -- Ids and addresses, and the items of lists (OpenStack API reference, Networking API v2.0).
 use Rattle.std.specs.Prelude.{ℕ, ◌||◌, ◌==◌, ◌&&◌, not, Bool, nat_le, [], ◌∷◌, Option, is_some, option_map, codes}
+use Rattle.net_addr.specs.Words.{MacAddress}
 use Rattle.serde_json.specs.Data.{Data}
 use Rattle.serde_json.specs.Find.{as_bool}
 use Rattle.net_addr.specs.Addresses.{addr_eq, number, same_version}
@@ -31,7 +32,7 @@ six_of = said_by six_in
 abbrev pub address_of : Data → Option Addr
 address_of = said_by address_in
 
-abbrev pub mac_of : Data → Option ℕ
+abbrev pub mac_of : Data → Option MacAddress
 mac_of = said_by mac_in
 
 -- the MAC of one card

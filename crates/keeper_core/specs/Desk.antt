@@ -1,6 +1,7 @@
 -- What a desk tells, and what its calls do to that.
 use Rattle.std.specs.Prelude.{◌≡◌, ℕ, ◌+◌, ◌-◌, List, [], ◌∷◌, ◌++◌, Option, Some, None, option_map, unwrap_or, Result, Ok, Err, ⊤, Bool, ◌&&◌, nat_eq}
 use Rattle.std.specs.List.{list_all}
+use Rattle.net_addr.specs.Words.{Bytes, Text}
 use Rattle.api_types.specs.RowLists.{RowLists}
 use Rattle.api_types.specs.Rows.{no_rows}
 use Rattle.keeper_core.specs.Ends.{Unread, FailingUnread, Written, FailingWritten}
@@ -21,25 +22,25 @@ AddsAsk (Ok x) ask old new = new ≡ option_map (λ asks. asks ++ ask ∷ []) ol
 AddsAsk (Err refusal) ask old new = AddsRefused refusal ask old new
 
 -- the bytes of the settings with this name, and none where there are no such settings
-abbrev pub file_named : List ℕ → List (Named (List ℕ)) → List ℕ
+abbrev pub file_named : Text → List (Named Bytes) → Bytes
 file_named name files = unwrap_or (value_named name files) []
 
 -- rows of stores: by name, those of the last one without a name that was closed, and the name of the one that is open, where one is
 pub record Stores : Type 0 where
   pub named : List (Named RowLists)
   pub unnamed : Option RowLists
-  pub opened : Option (Option (List ℕ))
+  pub opened : Option (Option Text)
 
 -- the rows with which a store opens: those with its name, and none where there are no such rows or it has no name
-abbrev pub opening_rows : Option (List ℕ) → Stores → RowLists
+abbrev pub opening_rows : Option Text → Stores → RowLists
 opening_rows None stores = no_rows
 opening_rows (Some name) stores = unwrap_or (value_named name stores.named) no_rows
 
-abbrev pub opened_as : Option (List ℕ) → Stores → Stores
+abbrev pub opened_as : Option Text → Stores → Stores
 opened_as name stores = record { named = stores.named; unnamed = stores.unnamed; opened = Some name }
 
 -- the store that is open closes with these rows
-abbrev pub closed_as : Option (Option (List ℕ)) → RowLists → Stores → Stores
+abbrev pub closed_as : Option (Option Text) → RowLists → Stores → Stores
 closed_as None rows stores = stores
 closed_as (Some None) rows stores = record { named = stores.named; unnamed = Some rows; opened = None }
 closed_as (Some (Some name)) rows stores = record { named = with_value name rows stores.named; unnamed = stores.unnamed; opened = None }
@@ -52,8 +53,8 @@ Closes (Some stores) (Some rows) new = new ≡ Some (closed_as stores.opened row
 
 -- a connection that was handed back: what its two ends tell, and their counts of faults
 pub record Ended : Type 0 where
-  pub left : Option (List ℕ)
-  pub written : Option (List ℕ)
+  pub left : Option Bytes
+  pub written : Option Bytes
   pub flushed : Option ℕ
   pub input_faults : ℕ
   pub output_faults : ℕ
@@ -92,7 +93,7 @@ TakesBack (Some returned) end (Some new) = new ≡ record { ended = returned.end
 
 -- ---- desks in memory
 
-module _ {I O : Type 0} (left : I → Option (List ℕ)) (input_faults : I → ℕ) (written : O → Option (List ℕ)) (flushed : O → Option ℕ) (output_faults : O → ℕ) where
+module _ {I O : Type 0} (left : I → Option Bytes) (input_faults : I → ℕ) (written : O → Option Bytes) (flushed : O → Option ℕ) (output_faults : O → ℕ) where
   abbrev pub end_of : I × O → Ended
   end_of pair = record { left = left pair.0; written = written pair.1; flushed = flushed pair.1; input_faults = input_faults pair.0; output_faults = output_faults pair.1 }
 
@@ -118,7 +119,7 @@ pub record Handed (P : Type 0) : Type 0 where
 -- all that a desk in memory tells
 pub record DeskTold (P : Type 0) : Type 0 where
   pub asks : List DeskAsk
-  pub files : List (Named (List ℕ))
+  pub files : List (Named Bytes)
   pub stores : Stores
   pub to_come : List P
   pub returned : Option Returned

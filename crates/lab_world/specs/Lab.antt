@@ -1,7 +1,8 @@
 -- What calls of the lab come to: what hosts make of an event, what the rows say of it, the hosts and their tables, and messages that
 -- hosts get or lose. They are for administrators alone.
-use Rattle.std.specs.Prelude.{◌≡◌, ◌⊎◌, ℕ, ◌∷◌, [], not, List, Option, Some, None, codes, find, is_some, map}
+use Rattle.std.specs.Prelude.{◌≡◌, ◌⊎◌, ◌∷◌, [], not, List, Option, Some, None, codes, find, is_some, map}
 use Rattle.std.specs.Str.{bytes_eq}
+use Rattle.net_addr.specs.Words.{Text, Version}
 use Rattle.api_types.specs.Ident.{ident_text}
 use Rattle.api_types.specs.Refusing.{first_refusal, not_found, when}
 use Rattle.api_types.specs.RowLists.{RowLists}
@@ -52,10 +53,10 @@ event_refusal rows caller (FromWire physical tag frame) = first_refusal (
 abbrev pub for_admins : Caller → LabOutcome → LabOutcome
 for_admins caller outcome = unless_barred (when (not caller.admin) (Forbidden AdminOnly)) outcome
 
-abbrev pub host_named : World → List ℕ → Option Agent
+abbrev pub host_named : World → Text → Option Agent
 host_named w name = find (λ (a : Agent). bytes_eq name a.name) w.agents
 
-abbrev pub with_host : List ℕ → Option Agent → (Agent → LabOutcome) → LabOutcome
+abbrev pub with_host : Text → Option Agent → (Agent → LabOutcome) → LabOutcome
 with_host name None on = Barred (NoHost name)
 with_host name (Some a) on = on a
 
@@ -71,7 +72,7 @@ abbrev pub stepped : World → Step → LabOutcome
 stepped w s = Answered (hosts_told (step w s)) (step w s)
 
 -- a host is looked for before the number, which is refused with the first and the last number that are kept
-abbrev pub delivered : World → List ℕ → ℕ → Agent → Option (List Item) → LabOutcome
+abbrev pub delivered : World → Text → Version → Agent → Option (List Item) → LabOutcome
 delivered w name number a None = Barred (NoMessage number (first_kept w.history) w.history.version)
 delivered w name number a (Some c) = Answered (Told (hearing number a.held)) (step w (Deliver name number))
 

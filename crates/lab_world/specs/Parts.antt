@@ -1,5 +1,6 @@
 -- A server's world by its parts in code.
-use Rattle.std.specs.Prelude.{◌≡◌, ℕ, Bool, List, map}
+use Rattle.std.specs.Prelude.{◌≡◌, Bool, List, map}
+use Rattle.net_addr.specs.Words.{Version}
 use Rattle.api_types.specs.RowLists.{RowLists}
 use Rattle.net_settings.specs.Settings.{SettingsParts}
 use Rattle.plane_types.specs.Node.{Node}
@@ -8,7 +9,7 @@ use Rattle.world_laws.specs.Agents.{agent_of}
 use Rattle.world_laws.specs.Lead.{IsWorld}
 use Rattle.world_laws.specs.World.{World}
 
-abbrev pub world_seen : SettingsParts → RowLists → ℕ → Kept → List Node → Bool → World
+abbrev pub world_seen : SettingsParts → RowLists → Version → Kept → List Node → Bool → World
 world_seen settings rows version kept nodes manual = record {
   settings = settings;
   manual = manual;
@@ -17,6 +18,6 @@ world_seen settings rows version kept nodes manual = record {
 }
 
 -- what is true between any two calls
-pub record AreParts (settings : SettingsParts) (rows : RowLists) (version : ℕ) (kept : Kept) (nodes : List Node) (manual : Bool) : Type 0 where
+pub record AreParts (settings : SettingsParts) (rows : RowLists) (version : Version) (kept : Kept) (nodes : List Node) (manual : Bool) : Type 0 where
   pub world : IsWorld (world_seen settings rows version kept nodes manual)
   pub numbered : kept.last ≡ version

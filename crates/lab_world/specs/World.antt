@@ -1,5 +1,6 @@
 -- What a server makes of an ask: the machine's step, which is a message to its hosts, or what the lab answers.
-use Rattle.std.specs.Prelude.{◌≡◌, ◌⊎◌, ℕ, Bool, true, false, List, Result, Ok, Err, ⊤}
+use Rattle.std.specs.Prelude.{◌≡◌, ◌⊎◌, Bool, true, false, List, Result, Ok, Err, ⊤}
+use Rattle.net_addr.specs.Words.{Text}
 use Rattle.api_types.specs.Outcome.{Outcome, Refused as RefusedWith, Told, Moved}
 use Rattle.api_types.specs.Printed.{reply_of}
 use Rattle.api_types.specs.Refusing.{answer_alone}
@@ -44,7 +45,7 @@ IsAskInForm caller (Lab call) = ⊤
 -- each host is told it but some that find no memory
 pub record Accepts (w : World) (rows : RowLists) (v : World) : Type 0 where
   pub change : List Item
-  pub left_out : List (List ℕ)
+  pub left_out : List Text
   pub fits : Fits w.history.rows change
   pub leads : rows ≡ after w.history.rows change
   pub is : v ≡ step w (Accept left_out change)

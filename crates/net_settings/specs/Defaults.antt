@@ -1,5 +1,6 @@
 -- The settings that hold where nothing is said.
-use Rattle.std.specs.Prelude.{ℕ, Bool, true, false, List, [], ◌∷◌, codes}
+use Rattle.std.specs.Prelude.{Bool, true, false, List, [], ◌∷◌, codes}
+use Rattle.net_addr.specs.Words.{Text}
 use Rattle.net_settings.specs.declared.settings.Driver.{Driver}
 use Rattle.net_settings.specs.declared.settings.Driver.TheVariants.{Openvswitch, L2population}
 use Rattle.net_settings.specs.declared.settings.Limit.TheVariants.{AtMost}
@@ -23,7 +24,7 @@ default_quotas = record {
 }
 
 -- a host on `physnet1`; routers and DHCP ports stand on a central one
-abbrev pub default_host : List ℕ → Bool → Host
+abbrev pub default_host : Text → Bool → Host
 default_host name central = record { name = name; physical = codes "physnet1" ∷ []; vxlan = true; l3 = central; dhcp = central }
 
 abbrev pub default_hosts : List Host

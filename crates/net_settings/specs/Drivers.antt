@@ -1,23 +1,24 @@
 -- The key `drivers`: a list of different names out of `openvswitch` and `l2population`, the
 -- mechanism drivers of Neutron's ML2 plug-in. Absent, it has both, in this order.
-use Rattle.std.specs.Prelude.{ℕ, Bool, true, false, ◌&&◌, List, map, codes, nat_le, Option, Some, None, is_some, unwrap_or, option_and_then, count_by, if◌then◌else◌}
+use Rattle.std.specs.Prelude.{Bool, true, false, ◌&&◌, List, map, codes, nat_le, Option, Some, None, is_some, unwrap_or, option_and_then, count_by, if◌then◌else◌}
 use Rattle.std.specs.List.{list_all}
 use Rattle.toml.specs.Data.{Data, Members, get_member}
 use Rattle.net_settings.specs.declared.settings.Driver.{Driver}
 use Rattle.net_settings.specs.declared.settings.Driver.TheVariants.{Openvswitch, L2population}
 use Rattle.net_settings.specs.Defaults.{default_drivers}
 use Rattle.std.specs.Str.{bytes_eq}
+use Rattle.net_addr.specs.Words.{Text}
 use Rattle.net_settings.specs.Texts.{texts_of}
 
 -- the driver with this name
-abbrev pub driver_named : List ℕ → Option Driver
+abbrev pub driver_named : Text → Option Driver
 driver_named name =
     if bytes_eq name (codes "openvswitch") then Some Openvswitch
     else if bytes_eq name (codes "l2population") then Some L2population
     else None
 
 -- the drivers of these names, if all name one
-abbrev pub drivers_among : List (List ℕ) → Option (List Driver)
+abbrev pub drivers_among : List Text → Option (List Driver)
 drivers_among names =
     if list_all (λ n. is_some (driver_named n)) names then Some (map (λ n. unwrap_or (driver_named n) Openvswitch) names) else None
 

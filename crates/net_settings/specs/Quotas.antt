@@ -1,7 +1,7 @@
 -- The key `quotas`: a table of limits by kind of resource, each from -1, which is no limit, to
 -- 2147483647 (Neutron's quotas, https://docs.openstack.org/api-ref/network/v2/#quotas-extension-quotas).
 -- A kind that isn't there has its default.
-use Rattle.std.specs.Prelude.{ℕ, ℤ, zero, suc, Bool, true, ◌&&◌, nat_le, List, [], ◌∷◌, codes, pos, negsuc, Option, Some, None, is_some, unwrap_or, option_and_then, if◌then◌else◌}
+use Rattle.std.specs.Prelude.{ℤ, zero, suc, Bool, true, ◌&&◌, nat_le, [], ◌∷◌, codes, pos, negsuc, Option, Some, None, is_some, unwrap_or, option_and_then, if◌then◌else◌}
 use Rattle.std.specs.List.{list_any}
 use Rattle.toml.specs.Data.{Data, Members, no_members, member, get_member, as_integer, as_table}
 use Rattle.net_settings.specs.declared.settings.Limit.{Limit}
@@ -9,6 +9,7 @@ use Rattle.net_settings.specs.declared.settings.Limit.TheVariants.{Unlimited, At
 use Rattle.net_settings.specs.declared.settings.Quotas.{Quotas}
 use Rattle.net_settings.specs.Defaults.{default_quotas}
 use Rattle.std.specs.Str.{bytes_eq}
+use Rattle.net_addr.specs.Words.{Text}
 
 -- -1 is no limit
 abbrev pub if_limit : ℤ → Option Limit
@@ -21,7 +22,7 @@ abbrev pub limit_of : Data → Option Limit
 limit_of d = option_and_then if_limit (as_integer d)
 
 -- the kinds of resources
-abbrev pub is_quota : List ℕ → Bool
+abbrev pub is_quota : Text → Bool
 is_quota key = list_any (bytes_eq key) (codes "network" ∷ codes "subnet" ∷ codes "port" ∷ codes "router" ∷ codes "floatingip" ∷ codes "security_group" ∷ codes "security_group_rule" ∷ codes "rbac_policy" ∷ [])
 
 -- each member is a limit at a kind's key
@@ -30,7 +31,7 @@ are_quotas no_members = true
 are_quotas (member key d ms) = (is_quota key && is_some (limit_of d)) && are_quotas ms
 
 -- the limit at a key, or its default
-abbrev pub limit_at : List ℕ → Limit → Members → Limit
+abbrev pub limit_at : Text → Limit → Members → Limit
 limit_at key default ms = unwrap_or (option_and_then limit_of (get_member key ms)) default
 
 -- the limit of each kind

@@ -1,5 +1,6 @@
 -- The status, the type and the message of each refusal (OpenStack API reference, Networking API v2.0: faults).
-use Rattle.std.specs.Prelude.{ℕ, List, [], ◌∷◌, ◌++◌, Option, Some, None, codes, decimal}
+use Rattle.std.specs.Prelude.{ℕ, [], ◌∷◌, ◌++◌, Option, Some, None, codes, decimal}
+use Rattle.net_addr.specs.Words.{Text}
 use Rattle.net_addr.specs.Spelling.{addr_text, mac_text}
 use Rattle.api_types.specs.Ident.{Ident, ident_text}
 use Rattle.api_types.specs.Titles.{resource_of, title_of}
@@ -44,7 +45,7 @@ code_of (NoHost name) = 404
 code_of (NoMessage asked first last) = 404
 
 -- the types of a row in use
-abbrev pub use_type : UseRule → List ℕ
+abbrev pub use_type : UseRule → Text
 use_type NetworkInUse = codes "NetworkInUse"
 use_type SubnetInUse = codes "SubnetInUse"
 use_type GatewayIpInUse = codes "GatewayIpInUse"
@@ -60,24 +61,24 @@ use_type RouterExternalGatewayInUseByFloatingIp = codes "RouterExternalGatewayIn
 use_type FloatingIpPortAlreadyAssociated = codes "FloatingIPPortAlreadyAssociated"
 
 -- the types of a value that is held
-abbrev pub taken_type : Value → List ℕ
+abbrev pub taken_type : Value → Text
 taken_type (Address address) = codes "IpAddressInUse"
 taken_type (Mac mac) = codes "MacAddressInUse"
 
 -- the types of a row that is there already: a rule, or else a policy
-abbrev pub exists_type : Kind → List ℕ
+abbrev pub exists_type : Kind → Text
 exists_type Rule = codes "SecurityGroupRuleExists"
 exists_type kind = codes "DuplicateRbacPolicy"
 
 -- the types of a segment in use, which is never a local one
-abbrev pub segment_type : Segment → List ℕ
+abbrev pub segment_type : Segment → Text
 segment_type Local = codes "FlatNetworkInUse"
 segment_type (Flat physical) = codes "FlatNetworkInUse"
 segment_type (Vlan physical tag) = codes "VlanIdInUse"
 segment_type (Vxlan number) = codes "TunnelIdInUse"
 
 -- the type; that of a row that isn't found begins with its kind
-abbrev pub type_of : Refusal → List ℕ
+abbrev pub type_of : Refusal → Text
 type_of Malformed = codes "MalformedRequest"
 type_of HeadLarge = codes "HeadTooLarge"
 type_of BodyLarge = codes "BodyTooLarge"
@@ -104,28 +105,28 @@ type_of (NoHost name) = codes "HostNotFound"
 type_of (NoMessage asked first last) = codes "MessageGone"
 
 -- the name of a rule of policy
-abbrev pub rule_name : PolicyRule → List ℕ
+abbrev pub rule_name : PolicyRule → Text
 rule_name AdminOnly = codes "admin_only"
 rule_name OwnerOnly = codes "owner_only"
 rule_name NetworkOwner = codes "network_owner"
 rule_name NetworkAccess = codes "network_access"
 rule_name PortDelete = codes "port_delete"
 
-abbrev pub body_message : Option (List ℕ) → List ℕ
+abbrev pub body_message : Option Text → Text
 body_message None = codes "The body is not an object."
 body_message (Some member) = codes "The body is not an object with the one member " ++ member ++ codes "."
 
 -- what is told of the row that uses another
-abbrev pub user_text : Option (Kind × Ident) → List ℕ
+abbrev pub user_text : Option (Kind × Ident) → Text
 user_text None = codes "."
 user_text (Some by) = codes " by " ++ resource_of by.0 ++ codes " " ++ ident_text by.1 ++ codes "."
 
-abbrev pub value_text : Value → List ℕ
+abbrev pub value_text : Value → Text
 value_text (Address address) = codes "IP address " ++ addr_text address
 value_text (Mac mac) = codes "MAC address " ++ mac_text mac
 
 -- the message
-abbrev pub message_of : Refusal → List ℕ
+abbrev pub message_of : Refusal → Text
 message_of Malformed = codes "The request could not be read."
 message_of HeadLarge = codes "The request head is larger than 16384 bytes or 64 fields."
 message_of BodyLarge = codes "The request body is larger than 65536 bytes."

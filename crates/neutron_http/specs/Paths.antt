@@ -1,5 +1,6 @@
 -- The paths of the Networking API and of the lab, and which of them a text is.
-use Rattle.std.specs.Prelude.{ℕ, List, [], ◌∷◌, ◌++◌, Result, Ok, Err, Option, option_map, codes}
+use Rattle.std.specs.Prelude.{List, [], ◌∷◌, ◌++◌, Result, Ok, Err, Option, option_map, codes}
+use Rattle.net_addr.specs.Words.{Bytes, Text}
 use Rattle.matchit.specs.Route.{Scan, parse_route}
 use Rattle.matchit.specs.declared.error.InsertError.{InsertError}
 use Rattle.matchit.specs.Rows.{RowsOf}
@@ -12,7 +13,7 @@ use Rattle.neutron_http.specs.declared.route.RoutePath.{RoutePath}
 use Rattle.neutron_http.specs.declared.route.RoutePath.TheVariants.{Rows, Row, AddInterface, RemoveInterface, Frames, Explain, Deliver, Resync, Restart, Forget, Settle, Hosts, Tables}
 
 -- the text of the path of all rows of a kind (OpenStack API reference, Networking API v2.0); projects have none
-abbrev pub rows_text : Kind → List ℕ
+abbrev pub rows_text : Kind → Text
 rows_text Project = []
 rows_text Network = codes "/v2.0/networks"
 rows_text Subnet = codes "/v2.0/subnets"
@@ -24,7 +25,7 @@ rows_text Floating = codes "/v2.0/floatingips"
 rows_text Policy = codes "/v2.0/rbac-policies"
 
 -- the text of the path of one row of a kind
-abbrev pub row_text : Kind → List ℕ
+abbrev pub row_text : Kind → Text
 row_text Project = []
 row_text Network = rows_text Network ++ codes "/{id}"
 row_text Subnet = rows_text Subnet ++ codes "/{id}"
@@ -36,7 +37,7 @@ row_text Floating = rows_text Floating ++ codes "/{id}"
 row_text Policy = rows_text Policy ++ codes "/{id}"
 
 -- the text of a path, with a name in braces for each parameter
-abbrev pub template_of : RoutePath → List ℕ
+abbrev pub template_of : RoutePath → Text
 template_of (Rows kind) = rows_text kind
 template_of (Row kind) = row_text kind
 template_of AddInterface = codes "/v2.0/routers/{id}/add_router_interface"
@@ -73,5 +74,5 @@ abbrev pub routes : RowsOf (RouteOf RoutePath)
 routes = with_routes all_paths []
 
 -- the path that `matchit` finds for a text
-abbrev pub path_at : List ℕ → Option RoutePath
+abbrev pub path_at : Bytes → Option RoutePath
 path_at text = option_map (λ route. route.value) (first routes text)

@@ -1,5 +1,6 @@
 -- What a request asks, by its route, its query and its body (OpenStack API reference, Networking API v2.0; the lab is this server's own).
-use Rattle.std.specs.Prelude.{ℕ, List, [], ◌∷◌, Some, option_map, codes}
+use Rattle.std.specs.Prelude.{List, [], ◌∷◌, Some, option_map, codes}
+use Rattle.net_addr.specs.Words.{Bytes, Text}
 use Rattle.api_types.specs.declared.call.Call.TheVariants.{List as ListRows, Show, Create as CreateRow, Update as UpdateRow, Delete as DeleteRow, AddInterface, RemoveInterface}
 use Rattle.api_types.specs.declared.call.IdText.{IdText}
 use Rattle.api_types.specs.declared.call.InterfaceBy.{InterfaceBy}
@@ -24,12 +25,12 @@ use Rattle.neutron_json.specs.Bodies.{Read, Says, NoFrame, BadName, member_read,
 use Rattle.neutron_json.specs.declared.attribute.Edit.TheVariants.{Create, Update}
 
 -- the first text that stands in the path where the route has a name, or none
-abbrev pub first_text : List (List ℕ) → List ℕ
+abbrev pub first_text : List Text → Text
 first_text [] = []
 first_text (text ∷ texts) = text
 
 -- a text with the id that it spells, if any
-abbrev pub id_text : List ℕ → IdText
+abbrev pub id_text : Text → IdText
 id_text text = record { text = text; id = id_in text }
 
 abbrev pub row_named : Route → IdText
@@ -47,29 +48,29 @@ abbrev pub update : IdText → Form → Ask
 update name form = Api (UpdateRow name form)
 
 -- a body that creates a row
-abbrev pub creation_read : Kind → List ℕ → Read Ask
+abbrev pub creation_read : Kind → Bytes → Read Ask
 creation_read kind body = member_read Create (resource_of kind) (λ d. attributes_of kind) (λ d. option_map creation (form_of kind d)) body
 
 -- a body that updates one
-abbrev pub update_read : Kind → IdText → List ℕ → Read Ask
+abbrev pub update_read : Kind → IdText → Bytes → Read Ask
 update_read kind name body = member_read Update (resource_of kind) (λ d. attributes_of kind) (λ d. option_map (update name) (form_of kind d)) body
 
 abbrev pub on_event : (Event → LabCall) → Event → Ask
 on_event call event = Lab (call event)
 
-abbrev pub event_read : (Event → LabCall) → List ℕ → Read Ask
+abbrev pub event_read : (Event → LabCall) → Bytes → Read Ask
 event_read call body = member_read Create (codes "event") event_attributes (λ d. option_map (on_event call) (event_of d)) body
 
-abbrev pub on_host : (List ℕ → LabCall) → List ℕ → Ask
+abbrev pub on_host : (Text → LabCall) → Text → Ask
 on_host call host = Lab (call host)
 
-abbrev pub host_read : List ℕ → (List ℕ → LabCall) → List ℕ → Read Ask
+abbrev pub host_read : Text → (Text → LabCall) → Bytes → Read Ask
 host_read name call body = member_read Create name (λ d. host_attributes) (λ d. option_map (on_host call) (host_of d)) body
 
-abbrev pub deliver_read : List ℕ → Read Ask
+abbrev pub deliver_read : Bytes → Read Ask
 deliver_read body = member_read Create (codes "deliver") (λ d. deliver_attributes) (λ d. option_map Lab (deliver_of d)) body
 
-abbrev pub settle_read : List ℕ → Read Ask
+abbrev pub settle_read : Bytes → Read Ask
 settle_read body = member_read Create (codes "settle") (λ d. []) (λ d. Some (Lab Settle)) body
 
 abbrev pub adding : IdText → InterfaceBy → Ask
@@ -79,21 +80,21 @@ abbrev pub removing : IdText → InterfaceBy → Ask
 removing router by = Api (RemoveInterface router by)
 
 -- a query is asked of all rows of a kind, any other method creates one
-abbrev pub rows_read : Kind → Method → Query → List ℕ → Read Ask
+abbrev pub rows_read : Kind → Method → Query → Bytes → Read Ask
 rows_read kind Get query body = Says (Api (ListRows kind query))
 rows_read kind Post query body = creation_read kind body
 rows_read kind Put query body = creation_read kind body
 rows_read kind Delete query body = creation_read kind body
 
 -- one row is shown, deleted, or by any other method updated
-abbrev pub row_read : Kind → Method → IdText → Query → List ℕ → Read Ask
+abbrev pub row_read : Kind → Method → IdText → Query → Bytes → Read Ask
 row_read kind Get name query body = Says (Api (Show kind name query.fields))
 row_read kind Delete name query body = Says (Api (DeleteRow kind name))
 row_read kind Put name query body = update_read kind name body
 row_read kind Post name query body = update_read kind name body
 
 -- what a request asks, or why its body is refused. GET and DELETE have no body to look at
-abbrev pub ask_of : Route → Query → List ℕ → Read Ask
+abbrev pub ask_of : Route → Query → Bytes → Read Ask
 ask_of route query body = elim route.path [
   | path.Rows kind ↦ rows_read kind route.method query body
   | path.Row kind ↦ row_read kind route.method (row_named route) query body

@@ -1,5 +1,6 @@
 -- What bodies of the lab ask. This server's own.
 use Rattle.std.specs.Prelude.{ℕ, List, if◌then◌else◌, Option, is_some, option_map, codes}
+use Rattle.net_addr.specs.Words.{Text}
 use Rattle.serde_json.specs.Data.{Data}
 use Rattle.serde_json.specs.Find.{get}
 use Rattle.api_types.specs.Ident.{Ident}
@@ -26,7 +27,7 @@ abbrev pub port_event : Data → Option Event
 port_event d = applied (option_map sent (member_of id_of (codes "port") d)) (member_of frame_of (codes "frame") d)
 
 -- a frame from a physical network; null, which is no tag, says that there is none
-abbrev pub wire : Option ℕ → List ℕ → Frame → Event
+abbrev pub wire : Option ℕ → Text → Frame → Event
 wire tag physical frame = FromWire physical tag frame
 
 abbrev pub wire_event : Data → Option Event
@@ -36,10 +37,10 @@ wire_event d = applied (option_map (wire (member_of wire_tag (codes "segmentatio
 abbrev pub event_of : Data → Option Event
 event_of d = if is_some (get (codes "port") d) then port_event d else wire_event d
 
-abbrev pub host_of : Data → Option (List ℕ)
+abbrev pub host_of : Data → Option Text
 host_of d = member_of short_text (codes "host") d
 
-abbrev pub delivery : List ℕ → ℕ → LabCall
+abbrev pub delivery : Text → ℕ → LabCall
 delivery host number = Deliver host number
 
 abbrev pub deliver_of : Data → Option LabCall

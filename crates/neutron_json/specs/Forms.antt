@@ -1,5 +1,6 @@
 -- The attributes of an object as a form of its kind.
-use Rattle.std.specs.Prelude.{ℕ, Bool, true, false, ◌&&◌, if◌then◌else◌, List, Option, Some, None, bytes_eq, codes, option_and_then}
+use Rattle.std.specs.Prelude.{ℕ, Bool, true, false, ◌&&◌, if◌then◌else◌, Option, Some, None, bytes_eq, codes, option_and_then}
+use Rattle.net_addr.specs.Words.{Text}
 use Rattle.serde_json.specs.Data.{Data}
 use Rattle.serde_json.specs.Find.{as_bool, as_str, get}
 use Rattle.api_types.specs.Lists.{is_some_so}
@@ -31,7 +32,7 @@ given_by says None = Absent
 given_by says (Some d) = is_or_null (says d)
 
 -- what an object says of an attribute: nothing, its value, or null. Of a value that is allowed and isn't read, null is meant
-abbrev pub given : {T : Type 0} → (Data → Option T) → Data → List ℕ → Given T
+abbrev pub given : {T : Type 0} → (Data → Option T) → Data → Text → Given T
 given says d name = given_by says (get name d)
 
 abbrev pub network_form : Data → NetworkForm

@@ -1,5 +1,6 @@
 -- Connections that are served one after the other.
 use Rattle.std.specs.Prelude.{◌≡◌, ◌⊎◌, ℕ, ◌+◌, ◌^◌, ◌<◌, ◌≤◌, Bool, true, false, List, [], ◌∷◌, ◌++◌, length, map, replicate, Option, option_map, ⊤}
+use Rattle.net_addr.specs.Words.{Bytes, Text}
 use Rattle.http_session.specs.Serves.{moment}
 use Rattle.http_session.specs.declared.session_end.SessionEnd.{SessionEnd}
 use Rattle.http_session.specs.declared.session_end.SessionEnd.TheVariants.{OutOfMemory, ReadFault, WriteFault}
@@ -20,7 +21,7 @@ pub record Served : Type 0 where
 
 -- one session of at most 2^40 bytes, from a world and a store's count of faults to what they are behind it
 pub record IsServed (old : World) (before : ℕ) (c : Served) (new : World) (behind : ℕ) : Type 0 where
-  pub buffer : List ℕ
+  pub buffer : Bytes
   pub taken : ℕ
   pub within : taken ≤ 2 ^ 40
   pub promises : Promises (2 ^ 40)
@@ -91,7 +92,7 @@ abbrev pub asked_too : DeskAsk → Line → Line
 asked_too ask a = record { to_come = a.to_come; returned = a.returned; asks = option_map (λ asks. asks ++ ask ∷ []) a.asks }
 
 -- the desk listens at the address and connections are served; or it fails, or memory is wanting, and none is
-abbrev pub Listens : ℕ → List ℕ → ℕ → World → ℕ → Line → ℕ → World → ℕ → Line → ℕ → Type 0
+abbrev pub Listens : ℕ → Text → ℕ → World → ℕ → Line → ℕ → World → ℕ → Line → ℕ → Type 0
 Listens status address most old before a faults new behind b now =
     ServesAll status most old before (asked_too (Listen address) a) faults new behind b now
     ⊎ (((status ≡ 7) × (new ≡ old) × (behind ≡ before) × (b ≡ asked_too (Listen address) a) × RoseBy 1 faults now)

@@ -1,7 +1,8 @@
 -- A drill: a session over requests that are made, and its summary.
-use Rattle.std.specs.Prelude.{◌≡◌, ◌⊎◌, ℕ, ◌^◌, ◌==◌, Bool, true, false, if◌then◌else◌, List, [], ◌++◌, length, Option, Some, codes, option_map}
+use Rattle.std.specs.Prelude.{◌≡◌, ◌⊎◌, ℕ, ◌^◌, ◌==◌, Bool, true, false, if◌then◌else◌, [], ◌++◌, length, Option, Some, codes, option_map}
 use Rattle.std.specs.Fmt.{decimal}
 use Rattle.std.specs.Io.KnownBytes.{Appends}
+use Rattle.net_addr.specs.Words.{Bytes, Text, Version}
 use Rattle.api_types.specs.Rows.{no_rows}
 use Rattle.api_types.specs.declared.refusal.Refusal.{Refusal}
 use Rattle.api_types.specs.declared.refusal.Refusal.TheVariants as refusal
@@ -85,7 +86,7 @@ is_outside other = false
 
 -- While all is whole, a request is answered by the step of the API or of the lab, every host holds the version of now behind it, and it is
 -- counted by its outcome. So where all is whole at the end, it is so of each request.
-pub record DrillSteps (old : Drill) (asked : Asked) (written : List ℕ) (new : Drill) : Type 0 where
+pub record DrillSteps (old : Drill) (asked : Asked) (written : Bytes) (new : Drill) : Type 0 where
   pub whole : new.tally.whole ≡ true → old.tally.whole ≡ true
   pub steps : new.tally.whole ≡ true → Steps old.world asked written new.world
   pub heard : new.tally.whole ≡ true → IsSynced new.world
@@ -110,10 +111,10 @@ abbrev pub fresh_drill : Drill
 fresh_drill = record { world = opened default_parts false no_rows; tally = fresh_tally }
 
 -- a session over the made requests comes to its end: its replies, what is counted of them, and the version of the rows behind it
-pub record IsDrilled (start size : ℕ) (out : List ℕ) (tally : Tally) (version : ℕ) : Type 0 where
+pub record IsDrilled (start size : ℕ) (out : Bytes) (tally : Tally) (version : Version) : Type 0 where
   pub drill : Drill
-  pub buffer : List ℕ
-  pub left : Option (List ℕ)
+  pub buffer : Bytes
+  pub left : Option Bytes
   pub flushed : Option ℕ
   pub taken : ℕ
   pub serves : Serves DrillSteps drill_replies (2 ^ 40)
@@ -125,29 +126,29 @@ pub record IsDrilled (start size : ℕ) (out : List ℕ) (tally : Tally) (versio
 
 -- ---- what is written
 
-abbrev pub count_line : List ℕ → ℕ → List ℕ
+abbrev pub count_line : Text → ℕ → Bytes
 count_line name count = name ++ codes " " ++ decimal count ++ codes "\n"
 
-abbrev pub summary_text : Tally → ℕ → List ℕ
+abbrev pub summary_text : Tally → Version → Bytes
 summary_text t version =
     count_line (codes "requests") t.requests ++ count_line (codes "201") t.created ++ count_line (codes "200") t.fine ++ count_line (codes "409") t.conflicts
     ++ count_line (codes "delivered") t.delivered ++ count_line (codes "version") version
 
 -- the replies, where they are wanted, and the summary
-pub record IsDrillText (start size : ℕ) (replies : Bool) (text : List ℕ) : Type 0 where
-  pub out : List ℕ
+pub record IsDrillText (start size : ℕ) (replies : Bool) (text : Bytes) : Type 0 where
+  pub out : Bytes
   pub tally : Tally
-  pub version : ℕ
+  pub version : Version
   pub drilled : IsDrilled start size out tally version
   pub is : text ≡ (if replies then out else []) ++ summary_text tally version
 
 -- all of it is written and flushed, or a front of it
-abbrev pub IsWrittenOut : ℕ → List ℕ → Option (List ℕ) → Option (List ℕ) → Option ℕ → Type 0
+abbrev pub IsWrittenOut : ℕ → Bytes → Option Bytes → Option Bytes → Option ℕ → Type 0
 IsWrittenOut status text old new flushed =
     ((status ≡ 0) × Appends old new text × (flushed ≡ option_map length new))
-    ⊎ (((status ≡ 3) ⊎ (status ≡ 4)) × ((front : List ℕ) × (back : List ℕ) × (text ≡ front ++ back) × Appends old new front))
+    ⊎ (((status ≡ 3) ⊎ (status ≡ 4)) × ((front : Bytes) × (back : Bytes) × (text ≡ front ++ back) × Appends old new front))
 
 -- a drill writes nothing for want of memory, or what it is to write
-abbrev pub RunsDrill : ℕ → ℕ → Bool → Option (List ℕ) → Option (List ℕ) → Option ℕ → ℕ → Type 0
+abbrev pub RunsDrill : ℕ → ℕ → Bool → Option Bytes → Option Bytes → Option ℕ → ℕ → Type 0
 RunsDrill start size replies old new flushed status =
-    ((status ≡ 4) × (new ≡ old)) ⊎ ((text : List ℕ) × IsDrillText start size replies text × IsWrittenOut status text old new flushed)
+    ((status ≡ 4) × (new ≡ old)) ⊎ ((text : Bytes) × IsDrillText start size replies text × IsWrittenOut status text old new flushed)

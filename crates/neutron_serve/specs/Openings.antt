@@ -1,5 +1,6 @@
 -- What a run starts from: settings, and the rows that a store keeps; or why it starts from nothing.
 use Rattle.std.specs.Prelude.{◌≡◌, ◌⊎◌, ℕ, Bool, true, false, List, [], ◌∷◌, ◌++◌, Option, Some, None, Ok, Err, IfSome, is_some, option_map, ⊤}
+use Rattle.net_addr.specs.Words.{Bytes, Text}
 use Rattle.api_check.specs.FirstBroken.{first_broken_of}
 use Rattle.api_check.specs.declared.broken.Inconsistent.{Inconsistent}
 use Rattle.api_types.specs.RowLists.{RowLists}
@@ -30,19 +31,19 @@ is_manual Manual = true
 -- what a desk tells, its connections aside
 pub record DeskSeen : Type 0 where
   pub asks : Option (List DeskAsk)
-  pub files : Option (List (Named (List ℕ)))
+  pub files : Option (List (Named Bytes))
   pub stores : Option Stores
   pub faults : ℕ
   pub store_faults : ℕ
 
-abbrev pub desk_seen : Option (List DeskAsk) → Option (List (Named (List ℕ))) → Option Stores → ℕ → ℕ → DeskSeen
+abbrev pub desk_seen : Option (List DeskAsk) → Option (List (Named Bytes)) → Option Stores → ℕ → ℕ → DeskSeen
 desk_seen asks files stores faults store_faults =
     record { asks = asks; files = files; stores = stores; faults = faults; store_faults = store_faults }
 
 -- ---- what is asked
 
 -- the settings, where they are named
-abbrev pub settings_asks : Option (List ℕ) → List DeskAsk
+abbrev pub settings_asks : Option Text → List DeskAsk
 settings_asks None = []
 settings_asks (Some name) = Settings name ∷ []
 
@@ -60,21 +61,21 @@ pub record AsksFirst (all : List DeskAsk) (old new : Option (List DeskAsk)) : Ty
 -- ---- what is given
 
 -- bytes are those of the settings with this name, where they are told
-abbrev pub AreNamed : Option (List (Named (List ℕ))) → List ℕ → List ℕ → Type 0
+abbrev pub AreNamed : Option (List (Named Bytes)) → Text → Bytes → Type 0
 AreNamed files name bytes = IfSome files (λ told. bytes ≡ file_named name told)
 
 -- the settings are those that the named bytes spell, and the default ones without a name
-abbrev pub AreSettings : Option (List (Named (List ℕ))) → Option (List ℕ) → SettingsParts → Type 0
+abbrev pub AreSettings : Option (List (Named Bytes)) → Option Text → SettingsParts → Type 0
 AreSettings files None settings = settings ≡ default_parts
-AreSettings files (Some name) settings = (bytes : List ℕ) × AreNamed files name bytes × (settings_of bytes ≡ Ok settings)
+AreSettings files (Some name) settings = (bytes : Bytes) × AreNamed files name bytes × (settings_of bytes ≡ Ok settings)
 
 -- the named bytes spell no settings: this is the first key that breaks its rule
-abbrev pub AreBadSettings : Option (List (Named (List ℕ))) → Option (List ℕ) → Type 0
+abbrev pub AreBadSettings : Option (List (Named Bytes)) → Option Text → Type 0
 AreBadSettings files None = ⊥
-AreBadSettings files (Some name) = (bytes : List ℕ) × (key : List ℕ) × AreNamed files name bytes × (settings_of bytes ≡ Err key)
+AreBadSettings files (Some name) = (bytes : Bytes) × (key : Text) × AreNamed files name bytes × (settings_of bytes ≡ Err key)
 
 -- the rows are those with which the named store opens, where they are told
-abbrev pub AreStored : Option Stores → Option (List ℕ) → RowLists → Type 0
+abbrev pub AreStored : Option Stores → Option Text → RowLists → Type 0
 AreStored stores name rows = IfSome stores (λ told. rows ≡ opening_rows name told)
 
 -- settings and rows with which a world is opened: they break no clause of consistency
@@ -127,7 +128,7 @@ IsStoreCause Failed settings opening old new = RoseBy 1 old.faults new.faults �
 IsStoreCause OutOfMemory settings opening old new = ⊤
 
 -- the stores are as they were, or the one that was opened is closed with the rows that it had
-abbrev pub StoresStay : Option (List ℕ) → Option Stores → Option Stores → Type 0
+abbrev pub StoresStay : Option Text → Option Stores → Option Stores → Type 0
 StoresStay name old new = (new ≡ old) ⊎ (new ≡ option_map (λ s. closed_as (Some name) (opening_rows name s) (opened_as name s)) old)
 
 -- the settings are those that are named, and it ends with the store or its rows

@@ -6,6 +6,7 @@
 -- footing alone; and after any messages that hosts missed, got twice or lost in a restart, whenever every host holds the version of now,
 -- each frame that is sent through the tables has exactly the outcome, path and tracked entries that the rows give.
 use Rattle.std.specs.Prelude.{◌≡◌, ℕ, ◌+◌, ◌≤◌, Bool, true, false, List, Ok, None, Some, map}
+use Rattle.net_addr.specs.Words.{Bytes, Version}
 use Rattle.api_types.specs.Consistent.{IsConsistent}
 use Rattle.api_types.specs.Lists.{Each}
 use Rattle.api_types.specs.Outcome.{Moved, Refused, Told}
@@ -37,7 +38,7 @@ use Rattle.neutron_serve.specs.Steps.{Steps, fixed_replies, request_outcome}
 
 -- the reply tells what the hosts' tables make of an event. Where every host holds the version of now these are the outcome, path and
 -- entries that the rows give, hosts left aside, and the path crosses between networks at routers alone
-pub record FrameTold (world : World) (event : Event) (close : Bool) (reply : List ℕ) : Type 0 where
+pub record FrameTold (world : World) (event : Event) (close : Bool) (reply : Bytes) : Type 0 where
   pub told : reply ≡ lab_bytes close (Seen (fabric_verdict (seats world) event))
   pub means : IsSynced world → without_hosts (fabric_verdict (seats world) event) ≡ rows_verdict world.history.rows (all_entries (seats world)) event
   pub crosses : IsSynced world → CrossesAtRouters world.history.rows (fabric_verdict (seats world) event)
@@ -53,7 +54,7 @@ pub record FramesTold (world : World) : Type 0 where
 -- a host that holds a version, while the change behind it is kept, has the rows of that version, and one that holds the version of now
 -- has the rows of now; its tables are those that its rows give to it, also while it is behind or holds nothing
 pub record HostsFollow (world : World) : Type 0 where
-  pub told : Each (λ (a : Agent). (v : ℕ) → a.held ≡ Some v → first_kept world.history ≤ v + 1 → a.rows ≡ rows_at world.history v) world.agents
+  pub told : Each (λ (a : Agent). (v : Version) → a.held ≡ Some v → first_kept world.history ≤ v + 1 → a.rows ≡ rows_at world.history v) world.agents
   pub now : Each (λ (a : Agent). a.held ≡ Some world.history.version → a.rows ≡ world.history.rows) world.agents
   pub realised : Each (λ (a : Agent). Realises a.rows a.name a.tables) world.agents
 
@@ -65,7 +66,7 @@ is_refusal (ByLab (Barred refusal)) = true
 is_refusal (ByLab (Answered answer world)) = false
 
 -- what is promised of a request
-pub record Promised (old : World) (asked : Asked) (reply : List ℕ) (new : World) : Type 0 where
+pub record Promised (old : World) (asked : Asked) (reply : Bytes) (new : World) : Type 0 where
   -- it is answered by the step of the Networking API or of the lab, which alone moves rows, messages and hosts
   pub steps : Steps old asked reply new
   -- before it the rows are consistent, kept changes lead from version to version, and hosts follow them

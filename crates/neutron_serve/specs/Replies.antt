@@ -1,5 +1,6 @@
 -- The reply to a request (OpenStack API reference, Networking API v2.0: normal response codes and faults; RFC 9110, section 15).
-use Rattle.std.specs.Prelude.{ℕ, Bool, List, Option, Some, None}
+use Rattle.std.specs.Prelude.{ℕ, Bool, Option, Some, None}
+use Rattle.net_addr.specs.Words.{Bytes, Text}
 use Rattle.api_types.specs.Outcome.{Refused, Told, Moved}
 use Rattle.api_types.specs.Printed.{Reply, OneRow, ManyRows, NewRow, NoRow, InterfaceRow, reply_of}
 use Rattle.api_types.specs.declared.refusal.Refusal.{Refusal}
@@ -23,21 +24,21 @@ answer_code (ManyRows kind rows) = 200
 answer_code (InterfaceRow row) = 200
 
 -- the methods that a path has, where a method is refused
-abbrev pub allowed_by : Refusal → Option (List ℕ)
+abbrev pub allowed_by : Refusal → Option Text
 allowed_by (NoMethod allowed) = Some allowed
 allowed_by refusal = None
 
-abbrev pub answer_bytes : Bool → Reply → List ℕ
+abbrev pub answer_bytes : Bool → Reply → Bytes
 answer_bytes close reply = reply_bytes (answer_code reply) close None (body_text (answer_tree reply))
 
-abbrev pub refusal_bytes : Bool → Refusal → List ℕ
+abbrev pub refusal_bytes : Bool → Refusal → Bytes
 refusal_bytes close refusal = reply_bytes (code_of refusal) close (allowed_by refusal) (body_text (Some (fault_tree refusal)))
 
-abbrev pub lab_bytes : Bool → LabAnswer → List ℕ
+abbrev pub lab_bytes : Bool → LabAnswer → Bytes
 lab_bytes close answer = reply_bytes 200 close None (body_text (Some (lab_tree answer)))
 
 -- the bytes of the reply
-abbrev pub outcome_bytes : Bool → AskOutcome → List ℕ
+abbrev pub outcome_bytes : Bool → AskOutcome → Bytes
 outcome_bytes close (ByMachine (Refused refusal)) = refusal_bytes close refusal
 outcome_bytes close (ByMachine (Told reply)) = answer_bytes close reply
 outcome_bytes close (ByMachine (Moved rows reply)) = answer_bytes close reply
@@ -51,10 +52,10 @@ code_in (Done answer) = answer_code (reply_of answer)
 code_in (LabDone answer) = 200
 code_in (RefusedBy refusal) = code_of refusal
 
-abbrev pub allowed_in : told.Reply → Option (List ℕ)
+abbrev pub allowed_in : told.Reply → Option Text
 allowed_in (Done answer) = None
 allowed_in (LabDone answer) = None
 allowed_in (RefusedBy refusal) = allowed_by refusal
 
-abbrev pub reply_written : Bool → told.Reply → List ℕ
+abbrev pub reply_written : Bool → told.Reply → Bytes
 reply_written close reply = reply_bytes (code_in reply) close (allowed_in reply) (body_of reply)

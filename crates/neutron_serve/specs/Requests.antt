@@ -1,6 +1,7 @@
 -- Who asks, and what, by the parts of a request (OpenStack API reference, Networking API v2.0: requests; RFC 9110; the identity middleware
 -- names the caller by `X-Project-Id` and `X-Roles`).
-use Rattle.std.specs.Prelude.{ℕ, Bool, List, map, if◌then◌else◌, Option, Some, None, Result, Ok, Err, option_map}
+use Rattle.std.specs.Prelude.{Bool, map, if◌then◌else◌, Option, Some, None, Result, Ok, Err, option_map}
+use Rattle.net_addr.specs.Words.{Bytes, Text}
 use Rattle.api_types.specs.declared.call.Caller.{Caller}
 use Rattle.api_types.specs.declared.call.Filter.{Filter}
 use Rattle.api_types.specs.declared.call.Query.{Query}
@@ -20,11 +21,11 @@ use Rattle.neutron_json.specs.Bodies.{Read, Says, NoFrame, BadName}
 use Rattle.plane_types.specs.declared.ask.Ask.{Ask}
 
 -- the caller: the project that is named, and whether the roles have `admin`
-abbrev pub caller_named : List ℕ → Bool → Option Caller
+abbrev pub caller_named : Text → Bool → Option Caller
 caller_named name admin = if is_project_name name then Some (record { project = name; admin = admin }) else None
 
 -- no project, or a text that is no project's name, names no caller
-abbrev pub caller_of : Option (List ℕ) → Bool → Option Caller
+abbrev pub caller_of : Option Text → Bool → Option Caller
 caller_of None admin = None
 caller_of (Some name) admin = caller_named name admin
 
@@ -47,19 +48,19 @@ by_body (NoFrame member) = Err (BadBody member)
 by_body (BadName name) = Err (Invalid name)
 
 -- so is a query, before the body is looked at
-abbrev pub by_query : Route → List ℕ → QueryRead → Result Ask Refusal
+abbrev pub by_query : Route → Bytes → QueryRead → Result Ask Refusal
 by_query route body (Asks asked) = by_body (ask_of route (query_asked asked) body)
 by_query route body (queries.BadName name) = Err (Invalid name)
 
 -- and so are a path that isn't there, and a method that it hasn't
-abbrev pub by_route : List ℕ → List ℕ → Routed → Result Ask Refusal
+abbrev pub by_route : Bytes → Bytes → Routed → Result Ask Refusal
 by_route query body Nowhere = Err NoRoute
 by_route query body (Without path) = Err (NoMethod (allowed_text path))
 by_route query body (To path method parameters) =
     by_query (record { path = path; method = method; parameters = parameters }) body (query_read path method query)
 
 -- what a request asks, or its refusal
-unfoldable pub asked_by : List ℕ → List ℕ → List ℕ → List ℕ → Result Ask Refusal
+unfoldable pub asked_by : Bytes → Bytes → Bytes → Bytes → Result Ask Refusal
 asked_by method path query body = by_route query body (route_of method path)
 
 abbrev pub with_caller : Caller → Result Ask Refusal → Result (Caller × Ask) Refusal

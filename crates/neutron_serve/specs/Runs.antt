@@ -1,5 +1,6 @@
 -- What the program does by its words.
-use Rattle.std.specs.Prelude.{◌≡◌, ◌⊎◌, ℕ, ◌+◌, ◌-◌, ◌^◌, ◌≤◌, Bool, true, false, List, [], ◌++◌, Option, Some, None, min, option_map}
+use Rattle.std.specs.Prelude.{◌≡◌, ◌⊎◌, ℕ, ◌+◌, ◌-◌, ◌^◌, ◌≤◌, Bool, true, false, [], ◌++◌, Option, Some, None, min, option_map}
+use Rattle.net_addr.specs.Words.{Bytes, Text}
 use Rattle.http_session.specs.Serves.{moment}
 use Rattle.http_session.specs.declared.session_end.SessionEnd.{SessionEnd}
 use Rattle.http_session.specs.declared.session_end.SessionEnd.TheVariants.{Done, ReadFault, WriteFault, Budget, OutOfMemory}
@@ -49,11 +50,11 @@ opening_of (Some line) = opening_in line
 
 -- what an input and an output tell before and after
 pub record Ends : Type 0 where
-  pub left : Option (List ℕ)
-  pub written : Option (List ℕ)
+  pub left : Option Bytes
+  pub written : Option Bytes
   pub flushed : Option ℕ
 
-abbrev pub ends : Option (List ℕ) → Option (List ℕ) → Option ℕ → Ends
+abbrev pub ends : Option Bytes → Option Bytes → Option ℕ → Ends
 ends left written flushed = record { left = left; written = written; flushed = flushed }
 
 -- the store that was opened is closed with these rows, and the desk counts its faults
@@ -70,7 +71,7 @@ pub record RunsOpened (opening : Opening) (a b : DeskSeen) (x y : Ends) (end : S
   pub before : ℕ
   pub behind : ℕ
   pub world : World
-  pub buffer : List ℕ
+  pub buffer : Bytes
   pub taken : ℕ
   pub within : taken ≤ 2 ^ 40
   pub promises : Promises (2 ^ 40)
@@ -88,7 +89,7 @@ RunsSession opening a b x y status =
 -- ---- connections
 
 -- what is opened listens, and connections are served over it
-pub record ServesOpened (opening : Opening) (address : List ℕ) (most : ℕ) (a b : DeskSeen) (x y : Connections) (status : ℕ) : Type 0 where
+pub record ServesOpened (opening : Opening) (address : Text) (most : ℕ) (a b : DeskSeen) (x y : Connections) (status : ℕ) : Type 0 where
   pub settings : SettingsParts
   pub rows : RowLists
   pub opens : Opens a opening settings rows
@@ -100,7 +101,7 @@ pub record ServesOpened (opening : Opening) (address : List ℕ) (most : ℕ) (a
   pub closed : Closed opening world.history.rows behind a b
 
 -- nothing is opened and no connection is asked for, or connections are served
-abbrev pub RunsServe : Opening → List ℕ → ℕ → DeskSeen → DeskSeen → Connections → Connections → ℕ → Type 0
+abbrev pub RunsServe : Opening → Text → ℕ → DeskSeen → DeskSeen → Connections → Connections → ℕ → Type 0
 RunsServe opening address most a b x y status =
     ((why : Unopened) × (status ≡ unopened_status why) × IsUnopened why opening a b × (y.to_come ≡ x.to_come) × (y.returned ≡ x.returned))
     ⊎ ServesOpened opening address most a b x y status

@@ -1,5 +1,6 @@
 -- What a request makes of the server, and its reply.
-use Rattle.std.specs.Prelude.{◌≡◌, ℕ, ◌==◌, List, true, if◌then◌else◌, Result, Ok, Err, None}
+use Rattle.std.specs.Prelude.{◌≡◌, ℕ, ◌==◌, true, if◌then◌else◌, Result, Ok, Err, None}
+use Rattle.net_addr.specs.Words.{Bytes}
 use Rattle.api_types.specs.Outcome.{Refused}
 use Rattle.api_types.specs.declared.call.Caller.{Caller}
 use Rattle.api_types.specs.declared.refusal.Refusal.{Refusal}
@@ -20,7 +21,7 @@ request_outcome world (Ok request) = ask_outcome world request.0 request.1
 request_outcome world (Err refusal) = ByMachine (Refused refusal)
 
 -- one request: the world moves by its outcome, whose reply is written
-pub record Steps (old : World) (asked : Asked) (reply : List ℕ) (new : World) : Type 0 where
+pub record Steps (old : World) (asked : Asked) (reply : Bytes) (new : World) : Type 0 where
   pub moves : MovesBy old (request_outcome old (request_of asked)) new
   pub replies : reply ≡ outcome_bytes (closes asked.head) (request_outcome old (request_of asked))
 

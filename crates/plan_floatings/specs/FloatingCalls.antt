@@ -42,9 +42,10 @@ use Rattle.net_addr.specs.Addresses.{number}
 use Rattle.net_addr.specs.declared.address.Addr.TheVariants.{V4}
 use Rattle.net_settings.specs.Settings.{SettingsParts}
 use Rattle.std.specs.Prelude.{Bool, List, None, Option, Some, [], codes, if◌then◌else◌, is_none, not, option_and_then, option_map, ℕ, ◌&&◌, ◌∷◌}
+use Rattle.net_addr.specs.Words.{MacAddress, Text}
 use Rattle.api_policy.specs.Reserved.{floating_for_admin}
 
-abbrev pub floating_shown : RowLists → Caller → FloatingRow → List (List ℕ) → ShownRow
+abbrev pub floating_shown : RowLists → Caller → FloatingRow → List Text → ShownRow
 floating_shown rows caller f fields = shown_as FloatingKind caller.admin fields (floating_members f)
 
 -- `fixed_ip_address` stands beside a port alone
@@ -60,7 +61,7 @@ aim_asked rows caller form = option_and_then (aim_at (value_of form.fixed_ip_add
 
 -- making a floating address
 
-abbrev pub body_refusal : RowLists → Caller → FloatingForm → List ℕ → Option NetworkRow → Option Refusal
+abbrev pub body_refusal : RowLists → Caller → FloatingForm → Text → Option NetworkRow → Option Refusal
 body_refusal rows caller form owner n = first_refusal (
     when (lacks_port form) (Invalid (codes "fixed_ip_address"))
     ∷ when (are_unlike form.project_id form.tenant_id) (Invalid (codes "tenant_id"))
@@ -86,7 +87,7 @@ abbrev pub outer_address : RowLists → Ident → Option ℕ → Option Fixed
 outer_address rows network None = floating_address (λ x. not (is_address_held rows.ports network x)) (subnets_on rows.subnets network)
 outer_address rows network (Some x) = option_map (λ (s : SubnetRow). fixed_at s.id (V4 x)) (subnet_with rows network (V4 x))
 
-abbrev pub new_floating : FloatingForm → List ℕ → NetworkRow → Ident → Ident → ℕ → Option Target → FloatingRow
+abbrev pub new_floating : FloatingForm → Text → NetworkRow → Ident → Ident → ℕ → Option Target → FloatingRow
 new_floating form owner n i own x target = record {
   id = i;
   project = owner;
@@ -98,13 +99,13 @@ new_floating form owner n i own x target = record {
 }
 
 -- the port that holds it, on no host
-abbrev pub own_port : SettingsParts → NetworkRow → FloatingRow → ℕ → Fixed → PortRow
+abbrev pub own_port : SettingsParts → NetworkRow → FloatingRow → MacAddress → Fixed → PortRow
 own_port settings n f mac outer = service_port settings n f.own_port [] mac (outer ∷ []) floating_owner (ident_text f.id) []
 
 abbrev pub floating_added : Caller → RowLists → FloatingRow → PortRow → Outcome
 floating_added caller rows f p = accepted rows (Add (Floating f) ∷ Add (Port p) ∷ []) (λ after. NewRow (floating_shown after caller f []))
 
-abbrev pub floating_with : SettingsParts → State → Caller → FloatingForm → List ℕ → NetworkRow → Option Target → Outcome
+abbrev pub floating_with : SettingsParts → State → Caller → FloatingForm → Text → NetworkRow → Option Target → Outcome
 floating_with settings state caller form owner n target =
     unless (over_quota settings state.rows owner FloatingKind)
     (needing (PoolsSpent n.id) (outer_address state.rows n.id (value_of form.floating_ip_address)) (λ outer.
@@ -113,7 +114,7 @@ floating_with settings state caller form owner n target =
     let f : FloatingRow = new_floating form owner n (drawn_id drawing 0) (drawn_id drawing 1) (number outer.address) target in
     floating_added caller drawing.rows f (own_port settings n f mac outer)))))
 
-abbrev pub floating_made : SettingsParts → State → Caller → FloatingForm → List ℕ → Option NetworkRow → Outcome
+abbrev pub floating_made : SettingsParts → State → Caller → FloatingForm → Text → Option NetworkRow → Outcome
 floating_made settings state caller form owner network =
     unless (body_refusal state.rows caller form owner network)
     (needing (not_found NetworkKind (text_of (value_of form.floating_network_id))) network (λ n.

@@ -15,10 +15,11 @@ use Rattle.api_types.specs.declared.subnet.SubnetRow.{SubnetRow}
 use Rattle.net_addr.specs.Prefixes.{is_host_of}
 use Rattle.net_addr.specs.declared.address.Addr.TheVariants.{V4 as Four}
 use Rattle.net_addr.specs.declared.address.Addr.{Addr}
-use Rattle.std.specs.Prelude.{List, None, Option, Some, [], bytes_eq, codes, find, is_none, not, ℕ, ◌||◌, ◌∷◌}
+use Rattle.std.specs.Prelude.{None, Option, Some, [], bytes_eq, codes, find, is_none, not, ℕ, ◌||◌, ◌∷◌}
+use Rattle.net_addr.specs.Words.{Text}
 
 -- `floating_network_id` is external to the project
-abbrev pub bad_outside : RowLists → List ℕ → NetworkRow → Option Refusal
+abbrev pub bad_outside : RowLists → Text → NetworkRow → Option Refusal
 bad_outside rows owner n = when (not (is_external_to rows.policies n.id owner)) (Invalid (codes "floating_network_id"))
 
 -- the subnet of the network in which the named address is a host address
@@ -31,7 +32,7 @@ bad_address rows None n = None
 bad_address rows (Some x) n = when (is_none (subnet_with rows n.id (Four x))) (Invalid (codes "floating_ip_address"))
 
 -- the rules of `port_id` and `fixed_ip_address`: the port is the project's and no service's, and has the address
-abbrev pub bad_aim : List ℕ → Option ℕ → PortRow → Option Refusal
+abbrev pub bad_aim : Text → Option ℕ → PortRow → Option Refusal
 bad_aim project address p = first_refusal (
     when (not (bytes_eq p.project project) || is_service p.owner) (Invalid (codes "port_id"))
     ∷ when (is_none (fixed_for address p.fixed)) (Invalid (codes "fixed_ip_address"))

@@ -32,17 +32,18 @@ use Rattle.api_types.specs.declared.refusal.Refusal.TheVariants.{CountersSpent, 
 use Rattle.api_types.specs.declared.refusal.Refusal.{Refusal}
 use Rattle.net_settings.specs.Settings.{SettingsParts}
 use Rattle.row_laws.specs.Gone.{names_group}
-use Rattle.std.specs.Prelude.{Bool, List, None, Option, Some, [], bytes_eq, codes, false, filter, option_map, option_to_list, true, ℕ, ◌&&◌, ◌++◌, ◌∷◌}
+use Rattle.std.specs.Prelude.{Bool, List, None, Option, Some, [], bytes_eq, codes, false, filter, option_map, option_to_list, true, ◌&&◌, ◌++◌, ◌∷◌}
+use Rattle.net_addr.specs.Words.{Text}
 
-abbrev pub group_shown : RowLists → Caller → GroupRow → List (List ℕ) → ShownRow
+abbrev pub group_shown : RowLists → Caller → GroupRow → List Text → ShownRow
 group_shown rows caller g fields = shown_as GroupKind caller.admin fields (group_members rows g)
 
-abbrev pub rule_shown : RowLists → Caller → RuleRow → List (List ℕ) → ShownRow
+abbrev pub rule_shown : RowLists → Caller → RuleRow → List Text → ShownRow
 rule_shown rows caller r fields = shown_as RuleKind caller.admin fields (rule_members r)
 
 -- making a group, with its two rules: all may go out
 
-abbrev pub new_group : GroupForm → List ℕ → Ident → GroupRow
+abbrev pub new_group : GroupForm → Text → Ident → GroupRow
 new_group form owner i = record {
   id = i;
   project = owner;
@@ -71,14 +72,14 @@ group_added caller drawing g =
     accepted drawing.rows (Add (Group g) ∷ Add (Rule (egress_rule g Ipv4 (drawn_id drawing 1))) ∷ Add (Rule (egress_rule g Ipv6 (drawn_id drawing 2))) ∷ [])
     (λ rows. NewRow (group_shown rows caller g []))
 
-abbrev pub group_creation_refusal : SettingsParts → RowLists → Caller → GroupForm → List ℕ → Option Refusal
+abbrev pub group_creation_refusal : SettingsParts → RowLists → Caller → GroupForm → Text → Option Refusal
 group_creation_refusal settings rows caller form owner = first_refusal (
     when (are_unlike form.project_id form.tenant_id) (Invalid (codes "tenant_id"))
     ∷ admin_only caller (is_for_other caller form.project_id form.tenant_id)
     ∷ over_quota settings rows owner GroupKind
     ∷ [])
 
-abbrev pub group_made : SettingsParts → State → Caller → GroupForm → List ℕ → Outcome
+abbrev pub group_made : SettingsParts → State → Caller → GroupForm → Text → Outcome
 group_made settings state caller form owner =
     unless (group_creation_refusal settings state.rows caller form owner)
     (needing CountersSpent (drawing_at state owner 3) (λ drawing. group_added caller drawing (new_group form owner (drawn_id drawing 0))))

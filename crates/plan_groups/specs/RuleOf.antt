@@ -13,7 +13,8 @@ use Rattle.plan_groups.specs.RuleParts.{is_bad_max, is_bad_min, is_bad_protocol,
 use Rattle.plan_groups.specs.declared.parts.RuleAttribute.TheVariants.{PortRangeMax, PortRangeMin, Protocol, RemoteGroupId, RemoteIpPrefix}
 use Rattle.plan_groups.specs.declared.parts.RuleAttribute.{RuleAttribute}
 use Rattle.plan_groups.specs.declared.parts.RuleParts.{RuleParts}
-use Rattle.std.specs.Prelude.{List, Option, [], codes, is_some, ℕ, ◌&&◌, ◌∷◌}
+use Rattle.std.specs.Prelude.{Option, [], codes, is_some, ◌&&◌, ◌∷◌}
+use Rattle.net_addr.specs.Words.{Text}
 
 abbrev pub parts_of : RuleRow → RuleParts
 parts_of r = record {
@@ -38,7 +39,7 @@ parts_asked form = record {
 }
 
 -- a rule of a group and a project that says this, and no more
-abbrev pub bare_rule : Ident → List ℕ → RuleParts → RuleRow
+abbrev pub bare_rule : Ident → Text → RuleParts → RuleRow
 bare_rule group project parts = record {
   id = no_id;
   project = project;
@@ -54,7 +55,7 @@ bare_rule group project parts = record {
 }
 
 -- the names of attributes in bodies
-abbrev pub attribute_name : RuleAttribute → List ℕ
+abbrev pub attribute_name : RuleAttribute → Text
 attribute_name PortRangeMax = codes "port_range_max"
 attribute_name PortRangeMin = codes "port_range_min"
 attribute_name Protocol = codes "protocol"

@@ -34,9 +34,10 @@ use Rattle.api_types.specs.declared.refusal.Refusal.TheVariants.{CountersSpent, 
 use Rattle.api_types.specs.declared.refusal.Refusal.{Refusal}
 use Rattle.net_settings.specs.Settings.{SettingsParts}
 use Rattle.std.specs.Prelude.{Bool, List, None, Option, Some, [], codes, false, filter, if◌then◌else◌, is_none, not, true, ℕ, ◌&&◌, ◌++◌, ◌+◌, ◌||◌, ◌∷◌}
+use Rattle.net_addr.specs.Words.{Text}
 use Rattle.api_policy.specs.Reserved.{network_for_admin}
 
-abbrev pub network_shown : RowLists → Caller → NetworkRow → List (List ℕ) → ShownRow
+abbrev pub network_shown : RowLists → Caller → NetworkRow → List Text → ShownRow
 network_shown rows caller n fields = shown_as NetworkKind caller.admin fields (network_members rows caller n)
 
 -- `shared` and `router:external` are policies with target `*`, of the network's project
@@ -72,7 +73,7 @@ openings n drawing first shared external =
 
 -- making a network
 
-abbrev pub new_network : List ℕ → NetworkForm → Ident → Segment → NetworkRow
+abbrev pub new_network : Text → NetworkForm → Ident → Segment → NetworkRow
 new_network owner form i segment = record {
   id = i;
   project = owner;
@@ -87,7 +88,7 @@ network_added caller drawing form n =
     accepted drawing.rows (Add (Network n) ∷ openings n drawing 1 (value_or false form.shared) (value_or false form.router_external))
     (λ rows. NewRow (network_shown rows caller n []))
 
-abbrev pub creation_refusal : SettingsParts → RowLists → Caller → NetworkForm → List ℕ → Option Refusal
+abbrev pub creation_refusal : SettingsParts → RowLists → Caller → NetworkForm → Text → Option Refusal
 creation_refusal settings rows caller form owner = first_refusal (
     when (is_bad_physical form) (Invalid (codes "provider:physical_network"))
     ∷ when (is_bad_number form) (Invalid (codes "provider:segmentation_id"))
@@ -102,7 +103,7 @@ creation_refusal settings rows caller form owner = first_refusal (
 abbrev pub openings_count : NetworkForm → ℕ
 openings_count form = one_if (value_or false form.shared) + one_if (value_or false form.router_external)
 
-abbrev pub network_made : SettingsParts → State → Caller → NetworkForm → List ℕ → Outcome
+abbrev pub network_made : SettingsParts → State → Caller → NetworkForm → Text → Outcome
 network_made settings state caller form owner =
     unless (creation_refusal settings state.rows caller form owner)
     (needing NoNetwork (chosen_segment settings state.rows.networks (asked_segment form)) (λ segment.

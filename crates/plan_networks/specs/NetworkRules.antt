@@ -9,10 +9,11 @@ use Rattle.api_types.specs.declared.refusal.Refusal.{Refusal}
 use Rattle.net_settings.specs.Settings.{SettingsParts}
 use Rattle.net_settings.specs.declared.settings.Host.{Host}
 use Rattle.std.specs.List.{list_any}
-use Rattle.std.specs.Prelude.{Bool, List, Option, [], bytes_eq, codes, not, ℕ, ◌&&◌}
+use Rattle.std.specs.Prelude.{Bool, Option, [], bytes_eq, codes, not, ◌&&◌}
+use Rattle.net_addr.specs.Words.{Text}
 
 -- some host is wired to the physical network
-abbrev pub is_on_hosts : SettingsParts → List ℕ → Bool
+abbrev pub is_on_hosts : SettingsParts → Text → Bool
 is_on_hosts settings physical = list_any (λ (h : Host). list_any (bytes_eq physical) h.physical) settings.hosts
 
 -- `provider:physical_network`

@@ -14,7 +14,8 @@ use Rattle.net_settings.specs.Settings.{SettingsParts}
 use Rattle.plan_networks.specs.NetworkCalls.{creation_refusal}
 use Rattle.plan_networks.specs.NetworkRules.{bad_wire}
 use Rattle.std.specs.Option.{option_or}
-use Rattle.std.specs.Prelude.{List, Option, [], codes, is_none, ℕ, ◌∷◌}
+use Rattle.std.specs.Prelude.{List, Option, [], codes, is_none, ◌∷◌}
+use Rattle.net_addr.specs.Words.{Text}
 use Rattle.api_policy.specs.Reserved.{network_for_admin}
 
 -- of what forbids a creation: what the body alone does, and what the rows do
@@ -30,16 +31,16 @@ body_refusals settings caller form =
 abbrev pub body_refusal : SettingsParts → Caller → NetworkForm → Option Refusal
 body_refusal settings caller form = first_refusal (body_refusals settings caller form)
 
-abbrev pub rows_refusals : SettingsParts → RowLists → NetworkForm → List ℕ → List (Option Refusal)
+abbrev pub rows_refusals : SettingsParts → RowLists → NetworkForm → Text → List (Option Refusal)
 rows_refusals settings rows form owner =
     segment_in_use rows.networks (asked_segment form)
     ∷ over_quota settings rows owner NetworkKind
     ∷ []
 
-abbrev pub rows_refusal : SettingsParts → RowLists → NetworkForm → List ℕ → Option Refusal
+abbrev pub rows_refusal : SettingsParts → RowLists → NetworkForm → Text → Option Refusal
 rows_refusal settings rows form owner = first_refusal (rows_refusals settings rows form owner)
 
 -- and then there has to be a segment
-abbrev pub segment_refusal : SettingsParts → RowLists → Caller → NetworkForm → List ℕ → Option Refusal
+abbrev pub segment_refusal : SettingsParts → RowLists → Caller → NetworkForm → Text → Option Refusal
 segment_refusal settings rows caller form owner =
     option_or (creation_refusal settings rows caller form owner) (when (is_none (chosen_segment settings rows.networks (asked_segment form))) NoNetwork)

@@ -28,10 +28,11 @@ use Rattle.api_types.specs.declared.policy.PolicyRow.{PolicyRow}
 use Rattle.api_types.specs.declared.refusal.Refusal.TheVariants.{CountersSpent, Exists, Invalid}
 use Rattle.api_types.specs.declared.refusal.Refusal.{Refusal}
 use Rattle.net_settings.specs.Settings.{SettingsParts}
-use Rattle.std.specs.Prelude.{List, Option, [], codes, find, option_map, true, ℕ, ◌∷◌}
+use Rattle.std.specs.Prelude.{List, Option, [], codes, find, option_map, true, ◌∷◌}
+use Rattle.net_addr.specs.Words.{Text}
 use Rattle.api_policy.specs.Reserved.{policy_for_admin}
 
-abbrev pub policy_shown : RowLists → Caller → PolicyRow → List (List ℕ) → ShownRow
+abbrev pub policy_shown : RowLists → Caller → PolicyRow → List Text → ShownRow
 policy_shown rows caller l fields = shown_as PolicyKind caller.admin fields (policy_members l)
 
 -- one of these policies says the same
@@ -43,7 +44,7 @@ policy_exists l = Exists PolicyKind l.id
 
 -- making a policy
 
-abbrev pub new_policy : PolicyForm → List ℕ → Ident → Ident → PolicyRow
+abbrev pub new_policy : PolicyForm → Text → Ident → Ident → PolicyRow
 new_policy form owner network i = record {
   id = i;
   project = owner;
@@ -52,7 +53,7 @@ new_policy form owner network i = record {
   target = value_or [] form.target_tenant;
 }
 
-abbrev pub creation_refusal : SettingsParts → RowLists → Caller → PolicyForm → List ℕ → NetworkRow → Option Refusal
+abbrev pub creation_refusal : SettingsParts → RowLists → Caller → PolicyForm → Text → NetworkRow → Option Refusal
 creation_refusal settings rows caller form owner n = first_refusal (
     admin_only caller (policy_for_admin caller form)
     ∷ network_owner rows caller true n.id
@@ -63,7 +64,7 @@ creation_refusal settings rows caller form owner n = first_refusal (
 abbrev pub policy_added : Caller → RowLists → PolicyRow → Outcome
 policy_added caller rows l = accepted rows (Add (Policy l) ∷ []) (λ after. NewRow (policy_shown after caller l []))
 
-abbrev pub policy_made : SettingsParts → State → Caller → PolicyForm → List ℕ → Outcome
+abbrev pub policy_made : SettingsParts → State → Caller → PolicyForm → Text → Outcome
 policy_made settings state caller form owner =
     needing (not_found NetworkKind (text_of (value_of form.object_id))) (network_seen state.rows caller (value_of form.object_id)) (λ n.
     unless (creation_refusal settings state.rows caller form owner n)

@@ -28,7 +28,8 @@ use Rattle.net_settings.specs.Settings.{SettingsParts}
 use Rattle.plan_ports.specs.PortCalls.{bad_bare_after, changes_service, is_group_for, items_of, mac_after, new_port, port_added, values_taken}
 use Rattle.plan_ports.specs.PortRules.{bad_fixed, is_subnet_seen}
 use Rattle.plan_ports.specs.declared.supply.Supply.{Supply}
-use Rattle.std.specs.Prelude.{Bool, List, Option, [], codes, not, ℕ, ◌&&◌, ◌∷◌, ◌≡◌}
+use Rattle.std.specs.Prelude.{Bool, List, Option, [], codes, not, ◌&&◌, ◌∷◌, ◌≡◌}
+use Rattle.net_addr.specs.Words.{MacAddress, Text}
 use Rattle.api_policy.specs.Reserved.{port_for_admin, port_for_owner}
 
 -- groups and pairs of a port without port security, by whether there are none
@@ -41,7 +42,7 @@ bare_refusal secured no_groups no_pairs = first_refusal (
 -- making a port
 
 -- the groups that it names, and what the rules of policy forbid on the network
-abbrev pub standing_refusal : RowLists → Caller → PortForm → NetworkRow → List ℕ → Option Refusal
+abbrev pub standing_refusal : RowLists → Caller → PortForm → NetworkRow → Text → Option Refusal
 standing_refusal rows caller form n owner = first_refusal (
     unless_all GroupKind (is_group_for rows caller owner) (value_or [] form.security_groups)
     ∷ admin_only caller (port_for_admin caller form)
@@ -53,7 +54,7 @@ standing_refusal rows caller form n owner = first_refusal (
 abbrev pub first_taken : RowLists → PortForm → Ident → Supply → Option Refusal
 first_taken rows form network s = values_taken (is_in s.held) (is_mac_held rows.ports network) network (first_known s.subnets s.mac form.fixed_ips) form
 
-abbrev pub first_refused : SettingsParts → RowLists → Caller → PortForm → NetworkRow → List ℕ → Supply → Option Refusal
+abbrev pub first_refused : SettingsParts → RowLists → Caller → PortForm → NetworkRow → Text → Supply → Option Refusal
 first_refused settings rows caller form n owner s = first_refusal (
     standing_refusal rows caller form n owner
     ∷ first_taken rows form n.id s
@@ -64,7 +65,7 @@ abbrev pub first_fixed : PortForm → Supply → Option (List Fixed)
 first_fixed form s = first_addresses (λ x. not (is_in s.held x)) s.subnets s.mac form.fixed_ips
 
 -- where it goes on once its MAC address and its addresses are chosen
-abbrev pub ids_drawn : SettingsParts → State → Caller → PortForm → NetworkRow → List ℕ → ℕ → List Fixed → Outcome
+abbrev pub ids_drawn : SettingsParts → State → Caller → PortForm → NetworkRow → Text → MacAddress → List Fixed → Outcome
 ids_drawn settings state caller form n owner mac fixed =
     needing CountersSpent (drawing_at state owner 1) (λ d. port_added caller d.rows (new_port settings d.rows caller form n owner (drawn_id d 0) mac fixed))
 
@@ -106,14 +107,14 @@ abbrev pub next_fixed : PortForm → PortRow → Supply → Option (List Fixed)
 next_fixed form p s = next_addresses (λ x. not (is_in s.held x)) s.subnets p s.mac form.fixed_ips
 
 -- by what addresses are chosen: these subnets, in which addresses of MAC addresses fit, the addresses that others hold, and the MAC address
-pub record IsSupply (subnets : List SubnetRow) (is_held : Addr → Bool) (mac : ℕ) (s : Supply) : Type 0 where
+pub record IsSupply (subnets : List SubnetRow) (is_held : Addr → Bool) (mac : MacAddress) (s : Supply) : Type 0 where
   pub on_network : s.subnets ≡ subnets
   pub holds : (x : Addr) → is_in s.held x ≡ is_held x
   pub has : s.mac ≡ mac
   pub fit : Pass fits_eui s.subnets
 
 -- of a new port with this MAC address
-abbrev pub IsFirstSupply : RowLists → Ident → ℕ → Supply → Type 0
+abbrev pub IsFirstSupply : RowLists → Ident → MacAddress → Supply → Type 0
 IsFirstSupply rows network mac s = IsSupply (subnets_on rows.subnets network) (is_address_held rows.ports network) mac s
 
 -- of a port that is changed

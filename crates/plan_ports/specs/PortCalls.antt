@@ -47,10 +47,11 @@ use Rattle.api_types.specs.declared.refusal.Value.TheVariants.{Mac as MacValue}
 use Rattle.api_types.specs.declared.subnet.SubnetRow.{SubnetRow}
 use Rattle.net_addr.specs.declared.address.Addr.{Addr}
 use Rattle.net_settings.specs.Settings.{SettingsParts}
-use Rattle.std.specs.Prelude.{Bool, List, None, Option, Some, [], bytes_eq, codes, false, find, map, not, option_and_then, true, unwrap_or, ℕ, ◌++◌, ◌||◌, ◌∷◌}
+use Rattle.std.specs.Prelude.{Bool, List, None, Option, Some, [], bytes_eq, codes, false, find, map, not, option_and_then, true, unwrap_or, ◌++◌, ◌||◌, ◌∷◌}
+use Rattle.net_addr.specs.Words.{MacAddress, Text}
 use Rattle.api_policy.specs.Reserved.{port_for_admin, port_for_owner}
 
-abbrev pub port_shown : RowLists → Caller → PortRow → List (List ℕ) → ShownRow
+abbrev pub port_shown : RowLists → Caller → PortRow → List Text → ShownRow
 port_shown rows caller p fields = shown_as PortKind caller.admin fields (port_members rows p)
 
 -- the rules on what a body gives
@@ -59,22 +60,22 @@ abbrev pub items_of : PortForm → List FixedAsked
 items_of form = value_or [] form.fixed_ips
 
 -- the group is there, is seen, and is of the port's project
-abbrev pub is_group_for : RowLists → Caller → List ℕ → Ident → Bool
+abbrev pub is_group_for : RowLists → Caller → Text → Ident → Bool
 is_group_for rows caller project i = is_some_so (λ (g : GroupRow). bytes_eq g.project project) (group_seen rows caller (Some i))
 
 -- a named MAC address is held, or before it an address that is known, by which are held
-abbrev pub mac_taken : (ℕ → Bool) → Ident → Option ℕ → Option Refusal
+abbrev pub mac_taken : (MacAddress → Bool) → Ident → Option MacAddress → Option Refusal
 mac_taken held network None = None
 mac_taken held network (Some mac) = when (held mac) (Taken (MacValue mac) network)
 
-abbrev pub values_taken : (Addr → Bool) → (ℕ → Bool) → Ident → List Addr → PortForm → Option Refusal
+abbrev pub values_taken : (Addr → Bool) → (MacAddress → Bool) → Ident → List Addr → PortForm → Option Refusal
 values_taken held mac_held network known form = first_refusal (
     address_taken held network known
     ∷ mac_taken mac_held network (value_of form.mac_address)
     ∷ [])
 
 -- a pair without a MAC address has the port's
-abbrev pub pair_of : ℕ → PairAsked → Pair
+abbrev pub pair_of : MacAddress → PairAsked → Pair
 pair_of mac asked = record { mac = unwrap_or asked.mac mac; prefix = asked.prefix }
 
 -- making a port
@@ -84,12 +85,12 @@ ids_of None = []
 ids_of (Some g) = g.id ∷ []
 
 -- where no groups are named, the default group of the project, where the port is filtered
-abbrev pub groups_at_first : List GroupRow → List ℕ → Bool → Given (List Ident) → List Ident
+abbrev pub groups_at_first : List GroupRow → Text → Bool → Given (List Ident) → List Ident
 groups_at_first groups project secured (Is named) = named
 groups_at_first groups project false _ = []
 groups_at_first groups project true _ = ids_of (find (is_default_of project) groups)
 
-abbrev pub new_port : SettingsParts → RowLists → Caller → PortForm → NetworkRow → List ℕ → Ident → ℕ → List Fixed → PortRow
+abbrev pub new_port : SettingsParts → RowLists → Caller → PortForm → NetworkRow → Text → Ident → MacAddress → List Fixed → PortRow
 new_port settings rows caller form n owner i mac fixed = record {
   id = i;
   project = owner;
@@ -110,7 +111,7 @@ new_port settings rows caller form n owner i mac fixed = record {
 }
 
 -- the MAC address that a new port will have
-abbrev pub mac_at_first : List PortRow → PortForm → Ident → ℕ
+abbrev pub mac_at_first : List PortRow → PortForm → Ident → MacAddress
 mac_at_first ports form network = expected_mac (mac_for ports network form.mac_address)
 
 -- the rule of `fixed_ips` of a new port
@@ -126,7 +127,7 @@ body_refusal rows caller form = first_refusal (
     ∷ unless_all SubnetKind (is_subnet_seen rows caller) (named_subnets (items_of form))
     ∷ [])
 
-abbrev pub creation_refusal : SettingsParts → RowLists → Caller → PortForm → NetworkRow → List ℕ → Option Refusal
+abbrev pub creation_refusal : SettingsParts → RowLists → Caller → PortForm → NetworkRow → Text → Option Refusal
 creation_refusal settings rows caller form n owner = first_refusal (
     unless_all GroupKind (is_group_for rows caller owner) (value_or [] form.security_groups)
     ∷ admin_only caller (port_for_admin caller form)
@@ -143,7 +144,7 @@ abbrev pub addresses_at_first : RowLists → PortForm → Ident → Option (List
 addresses_at_first rows form network =
     first_addresses (λ x. not (is_address_held rows.ports network x)) (subnets_on rows.subnets network) (mac_at_first rows.ports form network) form.fixed_ips
 
-abbrev pub port_made : SettingsParts → State → Caller → PortForm → NetworkRow → List ℕ → Outcome
+abbrev pub port_made : SettingsParts → State → Caller → PortForm → NetworkRow → Text → Outcome
 port_made settings state caller form n owner =
     unless (creation_refusal settings state.rows caller form n owner)
     (needing (PoolsSpent n.id) (addresses_at_first state.rows form n.id) (λ fixed.
@@ -167,15 +168,15 @@ changes_service form =
     || is_given form.binding_host_id || is_given form.binding_vnic_type
 
 -- the MAC address that a changed port will have
-abbrev pub mac_after : PortForm → PortRow → ℕ
+abbrev pub mac_after : PortForm → PortRow → MacAddress
 mac_after form p = value_or p.mac form.mac_address
 
-abbrev pub vif_after : SettingsParts → NetworkRow → Given (List ℕ) → Vif → Vif
+abbrev pub vif_after : SettingsParts → NetworkRow → Given Text → Vif → Vif
 vif_after settings n Absent old = old
 vif_after settings n Null old = old
 vif_after settings n (Is host) old = bound settings n.segment host
 
-abbrev pub pairs_after : ℕ → Given (List PairAsked) → List Pair → List Pair
+abbrev pub pairs_after : MacAddress → Given (List PairAsked) → List Pair → List Pair
 pairs_after mac Absent old = old
 pairs_after mac Null old = old
 pairs_after mac (Is asked) old = map (pair_of mac) asked

@@ -13,13 +13,14 @@ use Rattle.api_types.specs.declared.refusal.Refusal.TheVariants.{Invalid}
 use Rattle.api_types.specs.declared.refusal.Refusal.{Refusal}
 use Rattle.api_types.specs.declared.subnet.SubnetRow.{SubnetRow}
 use Rattle.std.specs.List.{list_all}
-use Rattle.std.specs.Prelude.{Bool, List, Option, Some, [], codes, is_some, not, ℕ, ◌&&◌, ◌∷◌}
+use Rattle.std.specs.Prelude.{Bool, List, Option, Some, [], codes, is_some, not, ◌&&◌, ◌∷◌}
+use Rattle.net_addr.specs.Words.{MacAddress}
 
 -- `fixed_ips`, where the subnets that are named are seen
 abbrev pub is_subnet_seen : RowLists → Caller → Ident → Bool
 is_subnet_seen rows caller i = is_some (subnet_seen rows caller (Some i))
 
-abbrev pub bad_fixed : RowLists → Caller → List SubnetRow → ℕ → List Fixed → List FixedAsked → Option Refusal
+abbrev pub bad_fixed : RowLists → Caller → List SubnetRow → MacAddress → List Fixed → List FixedAsked → Option Refusal
 bad_fixed rows caller subnets mac old asked =
     when (list_all (is_subnet_seen rows caller) (named_subnets asked) && not (are_placed subnets mac old asked)) (Invalid (codes "fixed_ips"))
 

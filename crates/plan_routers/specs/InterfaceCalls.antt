@@ -40,7 +40,8 @@ use Rattle.api_types.specs.declared.router.RouterRow.{RouterRow}
 use Rattle.api_types.specs.declared.subnet.SubnetRow.{SubnetRow}
 use Rattle.net_addr.specs.declared.address.Addr.{Addr}
 use Rattle.net_settings.specs.Settings.{SettingsParts}
-use Rattle.std.specs.Prelude.{List, Option, Some, [], codes, false, find, true, ℕ, ◌++◌, ◌∷◌}
+use Rattle.std.specs.Prelude.{List, Option, Some, [], codes, false, find, true, ◌++◌, ◌∷◌}
+use Rattle.net_addr.specs.Words.{MacAddress}
 
 -- what is answered: the router, the port and its subnet
 
@@ -68,7 +69,7 @@ subnet_refusal rows caller r s x = first_refusal (
     ∷ when (is_address_held rows.ports s.network x) (Taken (AddressValue x) s.network)
     ∷ [])
 
-abbrev pub interface_port : SettingsParts → RowLists → Caller → RouterRow → NetworkRow → Ident → ℕ → Fixed → PortRow
+abbrev pub interface_port : SettingsParts → RowLists → Caller → RouterRow → NetworkRow → Ident → MacAddress → Fixed → PortRow
 interface_port settings rows caller r n i mac f =
     let p : PortRow = service_port settings n i r.project mac (f ∷ []) interface_owner (ident_text r.id) (host_or_none r.host) in
     record p { by_admin = is_marked rows caller r.project n }

@@ -20,11 +20,12 @@ use Rattle.call_parts.specs.State.{State, is_last}
 use Rattle.net_settings.specs.Settings.{SettingsParts}
 use Rattle.plan_routers.specs.RouterCalls.{bad_first_gateway, gateway_name, gateway_network, lost_gateway, new_gateway, outer_addresses, outer_taken}
 use Rattle.plan_routers.specs.RouterRules.{bad_gateway, bad_routes}
-use Rattle.std.specs.Prelude.{List, Option, [], codes, is_none, is_some, option_and_then, ℕ, ◌∷◌}
+use Rattle.std.specs.Prelude.{Option, [], codes, is_none, is_some, option_and_then, ◌∷◌}
+use Rattle.net_addr.specs.Words.{Text}
 use Rattle.api_policy.specs.Reserved.{router_for_admin, snat_asked}
 
 -- of a new router: what its body asks for
-abbrev pub first_body_refusal : RowLists → Caller → RouterForm → List ℕ → Option Refusal
+abbrev pub first_body_refusal : RowLists → Caller → RouterForm → Text → Option Refusal
 first_body_refusal rows caller form owner = first_refusal (
     when (are_unlike form.project_id form.tenant_id) (Invalid (codes "tenant_id"))
     ∷ bad_first_gateway rows caller form owner
@@ -32,7 +33,7 @@ first_body_refusal rows caller form owner = first_refusal (
     ∷ [])
 
 -- what the policy, the addresses that are held and the quota forbid of it
-abbrev pub first_standing_refusal : SettingsParts → RowLists → Caller → RouterForm → List ℕ → Option Refusal
+abbrev pub first_standing_refusal : SettingsParts → RowLists → Caller → RouterForm → Text → Option Refusal
 first_standing_refusal settings rows caller form owner = first_refusal (
     admin_only caller (router_for_admin caller form)
     ∷ option_and_then (outer_taken rows) (gateway_network rows caller form)

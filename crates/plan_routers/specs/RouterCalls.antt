@@ -39,10 +39,11 @@ use Rattle.api_types.specs.declared.refusal.Refusal.{Refusal}
 use Rattle.api_types.specs.declared.router.Gateway.{Gateway}
 use Rattle.api_types.specs.declared.router.RouterRow.{RouterRow}
 use Rattle.net_settings.specs.Settings.{SettingsParts}
-use Rattle.std.specs.Prelude.{Bool, List, None, Option, Some, [], codes, if◌then◌else◌, is_some, not, option_and_then, option_map, true, unwrap_or, ℕ, ◌&&◌, ◌++◌, ◌∷◌}
+use Rattle.std.specs.Prelude.{Bool, List, None, Option, Some, [], codes, if◌then◌else◌, is_some, not, option_and_then, option_map, true, unwrap_or, ◌&&◌, ◌++◌, ◌∷◌}
+use Rattle.net_addr.specs.Words.{MacAddress, Text}
 use Rattle.api_policy.specs.Reserved.{router_for_admin, snat_asked}
 
-abbrev pub router_shown : RowLists → Caller → RouterRow → List (List ℕ) → ShownRow
+abbrev pub router_shown : RowLists → Caller → RouterRow → List Text → ShownRow
 router_shown rows caller r fields = shown_as RouterKind caller.admin fields (router_members rows r)
 
 -- the gateway that a body asks for
@@ -54,7 +55,7 @@ abbrev pub gateway_network : RowLists → Caller → RouterForm → Option Netwo
 gateway_network rows caller form = network_seen rows caller (gateway_name form)
 
 -- the addresses of the port on the external network, and the first of them that its MAC address gives and another port holds
-abbrev pub outer_mac : RowLists → NetworkRow → ℕ
+abbrev pub outer_mac : RowLists → NetworkRow → MacAddress
 outer_mac rows n = expected_mac (free_mac rows.ports n.id)
 
 abbrev pub outer_addresses : RowLists → NetworkRow → Option (List Fixed)
@@ -64,7 +65,7 @@ abbrev pub outer_taken : RowLists → NetworkRow → Option Refusal
 outer_taken rows n = address_taken (is_address_held rows.ports n.id) n.id (addresses_of (gateway_euis (outer_mac rows n) (subnets_on rows.subnets n.id)))
 
 -- the port, and the router with it
-abbrev pub gateway_port : SettingsParts → RouterRow → NetworkRow → Ident → ℕ → List Fixed → PortRow
+abbrev pub gateway_port : SettingsParts → RouterRow → NetworkRow → Ident → MacAddress → List Fixed → PortRow
 gateway_port settings r n i mac fixed = service_port settings n i [] mac fixed gateway_owner (ident_text r.id) (host_or_none r.host)
 
 abbrev pub with_gateway : RouterRow → Ident → Ident → Bool → RouterRow
@@ -75,7 +76,7 @@ gateway_edits r p snat = Add (Port p) ∷ Put (Router (with_gateway r p.network 
 
 -- making a router
 
-abbrev pub new_router : SettingsParts → RouterForm → List ℕ → Ident → RouterRow
+abbrev pub new_router : SettingsParts → RouterForm → Text → Ident → RouterRow
 new_router settings form owner i = record {
   id = i;
   project = owner;
@@ -88,12 +89,12 @@ new_router settings form owner i = record {
 }
 
 -- a caller who may not name the project isn't told of what is external to it
-abbrev pub bad_first_gateway : RowLists → Caller → RouterForm → List ℕ → Option Refusal
+abbrev pub bad_first_gateway : RowLists → Caller → RouterForm → Text → Option Refusal
 bad_first_gateway rows caller form owner =
     if not caller.admin && is_for_other caller form.project_id form.tenant_id then None
     else option_and_then (bad_gateway rows owner []) (gateway_network rows caller form)
 
-abbrev pub creation_refusal : SettingsParts → RowLists → Caller → RouterForm → List ℕ → Option Refusal
+abbrev pub creation_refusal : SettingsParts → RowLists → Caller → RouterForm → Text → Option Refusal
 creation_refusal settings rows caller form owner = first_refusal (
     when (are_unlike form.project_id form.tenant_id) (Invalid (codes "tenant_id"))
     ∷ bad_first_gateway rows caller form owner
@@ -110,7 +111,7 @@ abbrev pub gateway_added : Caller → RowLists → RouterRow → PortRow → Boo
 gateway_added caller rows r p snat = router_added caller rows r (with_gateway r p.network p.id snat) (gateway_edits r p snat)
 
 -- without a gateway, or with one on a network
-abbrev pub router_with : SettingsParts → State → Caller → RouterForm → List ℕ → Option NetworkRow → Outcome
+abbrev pub router_with : SettingsParts → State → Caller → RouterForm → Text → Option NetworkRow → Outcome
 router_with settings state caller form owner None =
     needing CountersSpent (drawing_at state owner 1) (λ drawing.
     router_added caller drawing.rows (new_router settings form owner (drawn_id drawing 0)) (new_router settings form owner (drawn_id drawing 0)) [])
@@ -121,7 +122,7 @@ router_with settings state caller form owner (Some n) =
     let r : RouterRow = new_router settings form owner (drawn_id drawing 0) in
     gateway_added caller drawing.rows r (gateway_port settings r n (drawn_id drawing 1) mac fixed) (unwrap_or (snat_asked form) true))))
 
-abbrev pub router_made : SettingsParts → State → Caller → RouterForm → List ℕ → Outcome
+abbrev pub router_made : SettingsParts → State → Caller → RouterForm → Text → Outcome
 router_made settings state caller form owner =
     unless (creation_refusal settings state.rows caller form owner)
     (router_with settings state caller form owner (gateway_network state.rows caller form))

@@ -18,14 +18,15 @@ use Rattle.api_types.specs.declared.subnet.Hop.{Hop}
 use Rattle.api_types.specs.declared.subnet.SubnetRow.{SubnetRow}
 use Rattle.net_addr.specs.Prefixes.{overlaps}
 use Rattle.std.specs.List.{list_any}
-use Rattle.std.specs.Prelude.{Bool, List, Option, [], codes, not, ℕ, ◌&&◌, ◌||◌}
+use Rattle.std.specs.Prelude.{Bool, List, Option, [], codes, not, ◌&&◌, ◌||◌}
+use Rattle.net_addr.specs.Words.{Text}
 
 -- a subnet of the network overlaps one of an interface
 abbrev pub overlaps_interface : RowLists → List PortRow → NetworkRow → Bool
 overlaps_interface rows interfaces n = list_any (λ (s : SubnetRow). list_any (touches rows.subnets s.prefix) interfaces) (subnets_on rows.subnets n.id)
 
 -- the rule of `external_gateway_info`, by the router's project and its interfaces
-abbrev pub bad_gateway : RowLists → List ℕ → List PortRow → NetworkRow → Option Refusal
+abbrev pub bad_gateway : RowLists → Text → List PortRow → NetworkRow → Option Refusal
 bad_gateway rows project interfaces n =
     when (not (is_external_to rows.policies n.id project) || overlaps_interface rows interfaces n) (Invalid (codes "external_gateway_info"))
 

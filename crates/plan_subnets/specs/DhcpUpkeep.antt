@@ -20,7 +20,8 @@ use Rattle.api_types.specs.declared.subnet.SubnetRow.{SubnetRow}
 use Rattle.net_addr.specs.Prefixes.{eui, first_address}
 use Rattle.net_addr.specs.declared.address.Addr.{Addr}
 use Rattle.net_settings.specs.Settings.{SettingsParts}
-use Rattle.std.specs.Prelude.{Bool, List, None, Option, Some, [], false, find, is_none, not, true, ℕ, ◌&&◌, ◌++◌, ◌∷◌}
+use Rattle.std.specs.Prelude.{Bool, List, None, Option, Some, [], false, find, is_none, not, true, ◌&&◌, ◌++◌, ◌∷◌}
+use Rattle.net_addr.specs.Words.{MacAddress}
 use Rattle.row_laws.specs.Leased.{outside}
 
 abbrev pub dhcp_port_on : List PortRow → Ident → Option PortRow
@@ -31,7 +32,7 @@ abbrev pub makes_dhcp_port : List PortRow → Ident → Bool → Bool
 makes_dhcp_port ports network begins = begins && is_none (dhcp_port_on ports network)
 
 -- the MAC address that it has, or will have
-abbrev pub dhcp_mac : List PortRow → Ident → Option PortRow → ℕ
+abbrev pub dhcp_mac : List PortRow → Ident → Option PortRow → MacAddress
 dhcp_mac ports network None = expected_mac (free_mac ports network)
 dhcp_mac ports network (Some p) = p.mac
 
@@ -45,16 +46,16 @@ abbrev pub dhcp_address : List PortRow → Ident → Bool → SubnetRow → Opti
 dhcp_address ports network false s = Some (first_address s.prefix)
 dhcp_address ports network true s = served_address ports network s (is_eui s)
 
-abbrev pub new_dhcp_port : SettingsParts → NetworkRow → Ident → ℕ → Fixed → PortRow
+abbrev pub new_dhcp_port : SettingsParts → NetworkRow → Ident → MacAddress → Fixed → PortRow
 new_dhcp_port settings n i mac f =
     service_port settings n i n.project mac (f ∷ []) dhcp_owner [] (host_or_none (dhcp_host settings n.segment))
 
 -- a new address is held last
-abbrev pub serving : SettingsParts → NetworkRow → Option PortRow → Ident → ℕ → Fixed → List Edit
+abbrev pub serving : SettingsParts → NetworkRow → Option PortRow → Ident → MacAddress → Fixed → List Edit
 serving settings n None i mac f = Add (Port (new_dhcp_port settings n i mac f)) ∷ []
 serving settings n (Some p) i mac f = Put (Port (record p { fixed = p.fixed ++ f ∷ [] })) ∷ []
 
-abbrev pub begin_serving : SettingsParts → RowLists → NetworkRow → Bool → Ident → ℕ → Fixed → List Edit
+abbrev pub begin_serving : SettingsParts → RowLists → NetworkRow → Bool → Ident → MacAddress → Fixed → List Edit
 begin_serving settings rows n false i mac f = []
 begin_serving settings rows n true i mac f = serving settings n (dhcp_port_on rows.ports n.id) i mac f
 

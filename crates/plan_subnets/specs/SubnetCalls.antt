@@ -37,9 +37,10 @@ use Rattle.net_addr.specs.Prefixes.{Prefix, Span}
 use Rattle.net_addr.specs.declared.address.Addr.TheVariants.{V4}
 use Rattle.net_addr.specs.declared.address.Addr.{Addr}
 use Rattle.net_settings.specs.Settings.{SettingsParts}
-use Rattle.std.specs.Prelude.{Bool, List, None, Option, Some, [], if◌then◌else◌, not, option_and_then, true, ℕ, ◌&&◌, ◌++◌, ◌∷◌}
+use Rattle.std.specs.Prelude.{Bool, List, None, Option, Some, [], if◌then◌else◌, not, option_and_then, true, ◌&&◌, ◌++◌, ◌∷◌}
+use Rattle.net_addr.specs.Words.{MacAddress, Text}
 
-abbrev pub subnet_shown : RowLists → Caller → SubnetRow → List (List ℕ) → ShownRow
+abbrev pub subnet_shown : RowLists → Caller → SubnetRow → List Text → ShownRow
 subnet_shown rows caller s fields = shown_as SubnetKind caller.admin fields (subnet_members s)
 
 -- the gateway and the pools as they would stand
@@ -89,7 +90,7 @@ creation_refusal settings rows caller n = first_refusal (
     ∷ [])
 
 -- the DHCP port holds the address; its id is drawn after the subnet's
-abbrev pub subnet_added : SettingsParts → Caller → Drawing → NetworkRow → SubnetRow → Addr → ℕ → Outcome
+abbrev pub subnet_added : SettingsParts → Caller → Drawing → NetworkRow → SubnetRow → Addr → MacAddress → Outcome
 subnet_added settings caller drawing n s x mac =
     accepted drawing.rows (Add (Subnet s) ∷ begin_serving settings drawing.rows n s.dhcp (drawn_id drawing 1) mac (fixed_at s.id x))
     (λ rows. NewRow (subnet_shown rows caller s []))
@@ -133,7 +134,7 @@ update_refusal rows caller form old new = first_refusal (
     ∷ old_gateway_in_use rows caller old new
     ∷ [])
 
-abbrev pub subnet_edits : SettingsParts → RowLists → NetworkRow → SubnetRow → SubnetRow → Ident → ℕ → Fixed → List Edit
+abbrev pub subnet_edits : SettingsParts → RowLists → NetworkRow → SubnetRow → SubnetRow → Ident → MacAddress → Fixed → List Edit
 subnet_edits settings rows n old new i mac f =
     Put (Subnet new)
     ∷ begin_serving settings rows n (new.dhcp && not old.dhcp) i mac f

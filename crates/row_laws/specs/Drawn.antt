@@ -1,5 +1,6 @@
 -- What holds of rows in which ids were drawn for a project.
-use Rattle.std.specs.Prelude.{◌≡◌, ℕ, ◌<◌, List, true, None}
+use Rattle.std.specs.Prelude.{◌≡◌, ℕ, ◌<◌, true, None}
+use Rattle.net_addr.specs.Words.{Text}
 use Rattle.api_types.specs.Ident.{Ident}
 use Rattle.api_types.specs.Table.{row_of}
 use Rattle.api_types.specs.RowLists.{RowLists}
@@ -9,7 +10,7 @@ use Rattle.api_types.specs.Consistent.Numbered.{times_in, is_drawn}
 use Rattle.api_types.specs.Consistent.Named.{is_registered}
 
 -- the rows are consistent, the ids are new and drawn, the project is registered, and rows of other kinds than projects, groups and rules are as before
-pub record IsDrawing (rows : RowLists) (name : List ℕ) (many : ℕ) (d : Drawing) : Type 0 where
+pub record IsDrawing (rows : RowLists) (name : Text) (many : ℕ) (d : Drawing) : Type 0 where
   pub consistent : IsConsistent d.rows
   pub fresh : (k : ℕ) → k < many → times_in d.rows (drawn_id d k) ≡ 0
   pub drawn : (k : ℕ) → k < many → is_drawn d.rows.projects (drawn_id d k) ≡ true

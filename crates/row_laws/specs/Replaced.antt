@@ -2,6 +2,7 @@
 use Rattle.std.specs.Prelude.{◌≡◌, ◌≤◌, ℕ, Bool, List, true, false, slice_set, length, count_by, nat_le}
 use Rattle.std.specs.Prelude.{◌&&◌, ◌||◌, not, Option, Some, None}
 use Rattle.std.specs.List.{list_any, list_all}
+use Rattle.net_addr.specs.Words.{Text}
 use Rattle.net_addr.specs.Addresses.{is_four}
 use Rattle.api_types.specs.Ident.{Ident}
 use Rattle.api_types.specs.Table.{ident_eq}
@@ -63,7 +64,7 @@ abbrev pub is_held_still : PortRow → Target → Fixed → Bool
 is_held_still new t x = not (is_four x.address t.fixed) || list_any (λ (y : Fixed). is_four y.address t.fixed && ident_eq x.subnet y.subnet) new.fixed
 
 -- an owner that is no service's
-pub record ServesNothing (owner : List ℕ) : Type 0 where
+pub record ServesNothing (owner : Text) : Type 0 where
   pub no_interface : is_interface owner ≡ false
   pub no_gateway : is_gateway owner ≡ false
   pub no_dhcp : is_dhcp owner ≡ false
