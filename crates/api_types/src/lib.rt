@@ -11,6 +11,7 @@ mod answer;
 mod call;
 mod change;
 mod edit;
+mod fits;
 mod floating;
 mod form;
 mod group;
@@ -21,6 +22,7 @@ mod lease;
 mod network;
 mod order;
 mod owners;
+mod page;
 mod policy;
 mod port;
 mod project;
@@ -38,6 +40,7 @@ pub use answer::{Answer, Members, Printed, Shown, ShownList};
 pub use call::{Call, Caller, Filter, IdText, InterfaceBy, Query};
 pub use change::{Change, Item};
 pub use edit::OfKind;
+pub use fits::FitsRows;
 pub use floating::{FloatingRow, Target, is_own_port};
 pub use form::{
     FixedAsked, FloatingForm, Form, GatewayAsked, Given, GroupForm, IpVersion, NetworkForm,
@@ -55,6 +58,7 @@ pub use owners::{
     device_is, is_dhcp, is_floating, is_gateway, is_interface, is_port_of, is_router_port,
     is_service,
 };
+pub use page::{PageRow, PageRows};
 pub use policy::{Action, PolicyRow};
 pub use port::{Fixed, FixedList, Pair, PortRow, Vif};
 pub use project::ProjectRow;
