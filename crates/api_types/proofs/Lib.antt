@@ -8,3 +8,5 @@ pub mod NameLemmas
 pub mod IdTexts
 pub mod IdLemmas
 pub mod SortLemmas
+pub mod ItemLemmas
+pub mod KindLemmas

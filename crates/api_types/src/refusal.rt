@@ -135,6 +135,15 @@ pub enum Refusal {
         first: u64,
         last: u64,
     },
+    /// 409: the rows have another version than the one whose page is asked for.
+    VersionMoved {
+        asked: u64,
+        now: u64,
+    },
+    /// 404: the page is neither the first nor begun by a row.
+    NoPage {
+        number: u64,
+    },
 }
 
 impl From<OutOfMemory> for Refusal {

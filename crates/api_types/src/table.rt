@@ -1,8 +1,8 @@
 //! The rows of one kind, found by id and seen as a list in order of creation.
 
-ghost use Rattle.std.specs.Prelude.{◌≡◌, ◌<◌, ◌≤◌, None, [], ◌∷◌, ◌++◌, length, slice_get, slice_set, insert, remove, option_copied, IfOk, OnOk, OnErr};
+ghost use Rattle.std.specs.Prelude.{◌≡◌, ◌<◌, ◌≤◌, None, [], ◌∷◌, ◌++◌, length, slice_get, slice_set, insert, remove, is_some, option_and_then, option_copied, IfOk, IfSome, OnOk, OnErr};
 ghost use Rattle.api_types.specs.Ident.{Ident};
-ghost use Rattle.api_types.specs.Table.{row_of, HaveOwnIds};
+ghost use Rattle.api_types.specs.Table.{row_of, place_of, HaveOwnIds};
 
 use crate::id::Id;
 use crate::shared::Shared;
@@ -70,6 +70,16 @@ impl<R: Keyed> Table<R> {
             Some(row) => Some(row.get()),
             None => None,
         }
+    }
+
+    /// The place of the row with this id. Its cost is the same however many rows there are.
+    pub fn place(&self, id: Id) -> Option<usize>
+        ensures place { result ≡ place_of R.id_of id self.now }
+        ensures row { option_and_then (slice_get self.now) result ≡ row_of R.id_of id self.now }
+        ensures found { is_some result ≡ is_some (row_of R.id_of id self.now) }
+        ensures within { IfSome result (λ place. place < length self.now) }
+    {
+        self.by_id.get_index_of(&id)
     }
 
     /// Adds a row with a new id, last, or leaves all as it is.

@@ -1,14 +1,14 @@
 -- What each reply prints (OpenStack API reference, Networking API v2.0; the lab's replies are this server's own).
-use Rattle.std.specs.Prelude.{[], ◌∷◌, map, codes, Option, Some, None}
+use Rattle.std.specs.Prelude.{ℕ, Bool, [], ◌∷◌, map, codes, Option, Some, None}
 use Rattle.net_addr.specs.Words.{Bytes, Text}
-use Rattle.api_types.specs.Printed.{Tree, number, word, NamedTree, ShownRow, OneRow, ManyRows, NewRow, NoRow, InterfaceRow, reply_of}
+use Rattle.api_types.specs.Printed.{Tree, truth, number, word, NamedTree, ShownRow, OneRow, ManyRows, NewRow, NoRow, InterfaceRow, reply_of}
 use Rattle.api_types.specs.Printed as answered
 use Rattle.api_types.specs.declared.refusal.Refusal.{Refusal}
 use Rattle.neutron_http.specs.Faults.{type_of, message_of}
 use Rattle.api_types.specs.Titles.{collection_of, resource_of}
 use Rattle.plane_types.specs.declared.ask.HostState.{HostState}
 use Rattle.plane_types.specs.declared.ask.LabAnswer.{LabAnswer}
-use Rattle.plane_types.specs.declared.ask.LabAnswer.TheVariants.{Seen, Told, Hosts, Tables}
+use Rattle.plane_types.specs.declared.ask.LabAnswer.TheVariants.{Seen, Told, Hosts, Tables, Version, Change, Page}
 use Rattle.plane_types.specs.declared.ask.Reply.{Reply}
 use Rattle.plane_types.specs.declared.ask.Reply.TheVariants.{Done, LabDone, Refused}
 use Rattle.json_replies.specs.Printed.{fields, list, or_null, body_text}
@@ -33,11 +33,25 @@ answer_tree (InterfaceRow row) = Some (row_tree row)
 abbrev pub host_tree : HostState → Tree
 host_tree host = fields ((codes "held", or_null number host.held) ∷ (codes "name", word host.name) ∷ [])
 
+abbrev pub version_tree : ℕ → ℕ → Tree
+version_tree first last = fields ((codes "first", number first) ∷ (codes "last", number last) ∷ [])
+
+-- no ask is answered with a change or a page yet, so their items and rows aren't printed
+abbrev pub change_tree : ℕ → Tree
+change_tree n = fields ((codes "number", number n) ∷ [])
+
+abbrev pub page_tree : ℕ → ℕ → Bool → Tree
+page_tree version n last = fields (
+    (codes "last", truth last) ∷ (codes "number", number n) ∷ (codes "version", number version) ∷ [])
+
 abbrev pub lab_tree : LabAnswer → Tree
 lab_tree (Seen verdict) = only (codes "verdict") (verdict_tree verdict)
 lab_tree (Told heard) = only (codes "heard") (heard_tree heard)
 lab_tree (Hosts hosts) = only (codes "hosts") (list (map host_tree hosts))
 lab_tree (Tables tables) = only (codes "tables") (tables_tree tables)
+lab_tree (Version first last) = only (codes "version") (version_tree first last)
+lab_tree (Change n items) = only (codes "change") (change_tree n)
+lab_tree (Page version n last rows) = only (codes "page") (page_tree version n last)
 
 -- what a refusal says
 abbrev pub words_tree : Text → Text → Tree

@@ -1,10 +1,10 @@
 //! The body of each reply.
-ghost use Rattle.std.specs.Prelude.{◌≡◌, IfOk};
+ghost use Rattle.std.specs.Prelude.{◌≡◌, IfOk, codes};
 ghost use Rattle.serde_json.specs.Written.{compact_text};
 ghost use Rattle.api_types.specs.Printed.{shown_row, reply_of};
 ghost use Rattle.api_types.specs.Titles.{resource_of, collection_of};
 ghost use Rattle.json_replies.specs.Printed.{tree_data, body_text};
-ghost use Rattle.json_replies.specs.Bodies.{only, row_tree, answer_tree, host_tree, lab_tree, words_tree, fault_tree, body_of};
+ghost use Rattle.json_replies.specs.Bodies.{only, row_tree, answer_tree, host_tree, version_tree, change_tree, page_tree, lab_tree, words_tree, fault_tree, body_of};
 
 use crate::frame::put;
 use crate::printed::{Prints, members_of};
@@ -78,6 +78,83 @@ fn answered(alloc: Global, answer: &Answer) -> Result<Bytes, OutOfMemory>
     }
 }
 
+// The numbers of the kept changes.
+struct KeptNumbers {
+    first: u64,
+    last: u64,
+}
+
+impl Prints for KeptNumbers {
+    ghost tree = { λ k. version_tree k.first k.last };
+
+    fn value(&self, alloc: Global) -> Result<Value, OutOfMemory> {
+        let mut map = Map::new(alloc);
+        put(&mut map, alloc, "first", &self.first)?;
+        put(&mut map, alloc, "last", &self.last)?;
+        Ok(Value::Object(map))
+    }
+}
+
+// The number of a change.
+struct ChangeNumber {
+    number: u64,
+}
+
+impl Prints for ChangeNumber {
+    ghost tree = { λ c. change_tree c.number };
+
+    fn value(&self, alloc: Global) -> Result<Value, OutOfMemory> {
+        let mut map = Map::new(alloc);
+        put(&mut map, alloc, "number", &self.number)?;
+        Ok(Value::Object(map))
+    }
+}
+
+// The numbers of a page.
+struct PageNumbers {
+    version: u64,
+    number: u64,
+    last: bool,
+}
+
+impl Prints for PageNumbers {
+    ghost tree = { λ p. page_tree p.version p.number p.last };
+
+    fn value(&self, alloc: Global) -> Result<Value, OutOfMemory> {
+        let mut map = Map::new(alloc);
+        put(&mut map, alloc, "last", &self.last)?;
+        put(&mut map, alloc, "number", &self.number)?;
+        put(&mut map, alloc, "version", &self.version)?;
+        Ok(Value::Object(map))
+    }
+}
+
+fn print_version(alloc: Global, first: u64, last: u64) -> Result<Bytes, OutOfMemory>
+    ensures { IfOk result
+        (λ b. b ≡ compact_text (tree_data (only (codes "version") (version_tree first last)))) }
+{
+    only(alloc, "version", &KeptNumbers { first, last })
+}
+
+fn print_change(alloc: Global, number: u64) -> Result<Bytes, OutOfMemory>
+    ensures { IfOk result
+        (λ b. b ≡ compact_text (tree_data (only (codes "change") (change_tree number)))) }
+{
+    only(alloc, "change", &ChangeNumber { number })
+}
+
+fn print_page(alloc: Global, version: u64, number: u64, last: bool) -> Result<Bytes, OutOfMemory>
+    ensures { IfOk result
+        (λ b. b ≡ compact_text (tree_data (only (codes "page") (page_tree version number last)))) }
+{
+    let page = PageNumbers {
+        version,
+        number,
+        last,
+    };
+    only(alloc, "page", &page)
+}
+
 // The body of an answer of the lab.
 fn seen(alloc: Global, answer: &LabAnswer) -> Result<Bytes, OutOfMemory>
     ensures { IfOk result (λ b. b ≡ compact_text (tree_data (lab_tree answer.now))) }
@@ -87,6 +164,14 @@ fn seen(alloc: Global, answer: &LabAnswer) -> Result<Bytes, OutOfMemory>
         LabAnswer::Told(heard) => only(alloc, "heard", heard),
         LabAnswer::Hosts(hosts) => only(alloc, "hosts", hosts),
         LabAnswer::Tables(tables) => only(alloc, "tables", tables),
+        LabAnswer::Version { first, last } => print_version(alloc, *first, *last),
+        LabAnswer::Change { number, .. } => print_change(alloc, *number),
+        LabAnswer::Page {
+            version,
+            number,
+            last,
+            ..
+        } => print_page(alloc, *version, *number, *last),
     }
 }
 

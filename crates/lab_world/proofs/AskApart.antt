@@ -24,7 +24,7 @@ use Rattle.api_types.specs.Wires.{network_on}
 use Rattle.plane_types.specs.declared.ask.Ask.{Ask}
 use Rattle.plane_types.specs.declared.ask.Ask.TheVariants.{Api, Lab}
 use Rattle.plane_types.specs.declared.ask.LabCall.{LabCall}
-use Rattle.plane_types.specs.declared.ask.LabCall.TheVariants.{Deliver, Explain, Forget, Frames, Hosts, Resync, Restart, Settle, Tables}
+use Rattle.plane_types.specs.declared.ask.LabCall.TheVariants.{Change, Deliver, Explain, Forget, Frames, Hosts, Page, Resync, Restart, Settle, Tables, Version}
 use Rattle.plane_types.specs.declared.event.Event.{Event}
 use Rattle.plane_types.specs.declared.event.Event.TheVariants.{FromPort, FromWire}
 use Rattle.world_laws.specs.World.{World}
@@ -87,6 +87,9 @@ module _ (caller : Caller) (v w : World) (tenant : caller.admin ≡ false) (same
   lab_apart (Restart host) = admin_alike _ _
   lab_apart (Forget host) = admin_alike _ _
   lab_apart Settle = admin_alike _ _
+  lab_apart Version = refl
+  lab_apart (Change number) = refl
+  lab_apart (Page version number) = refl
 
 -- a call, at states under one and the same settings
 call_apart : (caller : Caller) (v w : World) → caller.admin ≡ false → not (is_empty caller.project) ≡ true → IsConsistent v.history.rows → IsConsistent w.history.rows → v.settings ≡ w.settings

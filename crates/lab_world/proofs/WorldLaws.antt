@@ -75,6 +75,9 @@ lab_fine w is caller (call.Resync name) = unless_fine (when (not caller.admin) (
 lab_fine w is caller (call.Restart name) = unless_fine (when (not caller.admin) (Forbidden AdminOnly)) _ (host_fine name (host_named w name) _ (λ a. step_kept w (Restart name) is tt))
 lab_fine w is caller (call.Forget name) = unless_fine (when (not caller.admin) (Forbidden AdminOnly)) _ (host_fine name (host_named w name) _ (λ a. step_kept w (Forget name) is tt))
 lab_fine w is caller call.Settle = unless_fine (when (not caller.admin) (Forbidden AdminOnly)) _ (step_kept w Settle is tt)
+lab_fine w is caller call.Version = tt
+lab_fine w is caller (call.Change number) = tt
+lab_fine w is caller (call.Page version number) = tt
 
 by_lab : (w v : World) → IsWorld w → (o : LabOutcome) → IsFine o → MovesBy w (ByLab o) v → IsWorld v
 by_lab w v is (Barred refusal) fine moves = subst IsWorld (sym moves) is

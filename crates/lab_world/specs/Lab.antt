@@ -12,7 +12,7 @@ use Rattle.api_types.specs.declared.change.Item.{Item}
 use Rattle.api_types.specs.declared.kind.Kind.TheVariants.{Port as PortKind}
 use Rattle.api_types.specs.declared.refusal.PolicyRule.TheVariants.{AdminOnly}
 use Rattle.api_types.specs.declared.refusal.Refusal.{Refusal}
-use Rattle.api_types.specs.declared.refusal.Refusal.TheVariants.{Forbidden, Invalid, NoHost, NoMessage, OutOfMemory}
+use Rattle.api_types.specs.declared.refusal.Refusal.TheVariants.{Forbidden, Invalid, NoHost, NoMessage, NoRoute, OutOfMemory}
 use Rattle.api_policy.specs.Visibility.{sees_row}
 use Rattle.plane_types.specs.Hosts.{all_entries}
 use Rattle.plane_types.specs.Node.{hearing}
@@ -86,6 +86,10 @@ lab_outcome w caller (call.Resync name) = for_admins caller (with_host name (hos
 lab_outcome w caller (call.Restart name) = for_admins caller (with_host name (host_named w name) (λ a. stepped w (Restart name)))
 lab_outcome w caller (call.Forget name) = for_admins caller (with_host name (host_named w name) (λ a. stepped w (Forget name)))
 lab_outcome w caller call.Settle = for_admins caller (stepped w Settle)
+-- no route leads to the three asks of agents in other processes yet
+lab_outcome w caller call.Version = Barred NoRoute
+lab_outcome w caller (call.Change number) = Barred NoRoute
+lab_outcome w caller (call.Page version number) = Barred NoRoute
 
 -- the refusal is the outcome's, or memory could not be had
 abbrev pub IsBarred : LabOutcome → Refusal → Type 0

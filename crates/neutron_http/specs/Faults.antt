@@ -15,7 +15,7 @@ use Rattle.api_types.specs.declared.refusal.UseRule.TheVariants.{NetworkInUse, S
 use Rattle.api_types.specs.declared.refusal.Value.{Value}
 use Rattle.api_types.specs.declared.refusal.Value.TheVariants.{Address, Mac}
 use Rattle.api_types.specs.declared.refusal.Refusal.{Refusal}
-use Rattle.api_types.specs.declared.refusal.Refusal.TheVariants.{Malformed, HeadLarge, BodyLarge, NoLength, NoCaller, NoRoute, NoMethod, BadBody, Invalid, NotFound, Forbidden, InUse, Taken, Exists, SegmentInUse, NoGateway, OverQuota, PoolsSpent, NoNetwork, CountersSpent, StoreFault, OutOfMemory, NoHost, NoMessage}
+use Rattle.api_types.specs.declared.refusal.Refusal.TheVariants.{Malformed, HeadLarge, BodyLarge, NoLength, NoCaller, NoRoute, NoMethod, BadBody, Invalid, NotFound, Forbidden, InUse, Taken, Exists, SegmentInUse, NoGateway, OverQuota, PoolsSpent, NoNetwork, CountersSpent, StoreFault, OutOfMemory, NoHost, NoMessage, VersionMoved, NoPage}
 
 -- the status code
 abbrev pub code_of : Refusal → ℕ
@@ -43,6 +43,8 @@ code_of StoreFault = 503
 code_of OutOfMemory = 507
 code_of (NoHost name) = 404
 code_of (NoMessage asked first last) = 404
+code_of (VersionMoved asked now) = 409
+code_of (NoPage number) = 404
 
 -- the types of a row in use
 abbrev pub use_type : UseRule → Text
@@ -103,6 +105,8 @@ type_of StoreFault = codes "StoreFault"
 type_of OutOfMemory = codes "OutOfMemory"
 type_of (NoHost name) = codes "HostNotFound"
 type_of (NoMessage asked first last) = codes "MessageGone"
+type_of (VersionMoved asked now) = codes "VersionMoved"
+type_of (NoPage number) = codes "PageNotFound"
 
 -- the name of a rule of policy
 abbrev pub rule_name : PolicyRule → Text
@@ -151,3 +155,5 @@ message_of StoreFault = codes "The store failed in this request."
 message_of OutOfMemory = codes "Memory could not be had."
 message_of (NoHost name) = codes "Host " ++ name ++ codes " could not be found."
 message_of (NoMessage asked first last) = codes "Message " ++ decimal asked ++ codes " is not kept: first " ++ decimal first ++ codes ", last " ++ decimal last ++ codes "."
+message_of (VersionMoved asked now) = codes "Version " ++ decimal asked ++ codes " is not the version of now: " ++ decimal now ++ codes "."
+message_of (NoPage number) = codes "Page " ++ decimal number ++ codes " could not be found."

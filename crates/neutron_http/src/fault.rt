@@ -32,11 +32,11 @@ fn code(refusal: &Refusal) -> u16
         Refusal::NoMethod { .. } => 405,
         Refusal::Malformed | Refusal::BadBody { .. } | Refusal::Invalid { .. } => 400,
         Refusal::NoRoute | Refusal::NotFound { .. } | Refusal::NoGateway { .. } => 404,
-        Refusal::NoHost { .. } | Refusal::NoMessage { .. } => 404,
+        Refusal::NoHost { .. } | Refusal::NoMessage { .. } | Refusal::NoPage { .. } => 404,
         Refusal::Forbidden { .. } => 403,
         Refusal::InUse { .. } | Refusal::Taken { .. } | Refusal::Exists { .. } => 409,
         Refusal::SegmentInUse { .. } | Refusal::OverQuota { .. } => 409,
-        Refusal::PoolsSpent { .. } => 409,
+        Refusal::PoolsSpent { .. } | Refusal::VersionMoved { .. } => 409,
         Refusal::NoNetwork | Refusal::CountersSpent | Refusal::StoreFault => 503,
         Refusal::OutOfMemory => 507,
     }
@@ -123,6 +123,8 @@ fn type_text(alloc: Global, refusal: &Refusal) -> Result<Text, OutOfMemory>
         Refusal::OutOfMemory => Text::of(alloc, "OutOfMemory"),
         Refusal::NoHost { .. } => Text::of(alloc, "HostNotFound"),
         Refusal::NoMessage { .. } => Text::of(alloc, "MessageGone"),
+        Refusal::VersionMoved { .. } => Text::of(alloc, "VersionMoved"),
+        Refusal::NoPage { .. } => Text::of(alloc, "PageNotFound"),
     }
 }
 
@@ -276,6 +278,26 @@ fn no_message(alloc: Global, asked: u64, first: u64, last: u64) -> Result<Text, 
     )?))
 }
 
+// The message of a version that isn't the current one.
+fn version_moved(alloc: Global, asked: u64, now: u64) -> Result<Text, OutOfMemory>
+    ensures { IfOk result
+        (λ t. t
+        ≡ codes "Version " ++ decimal asked ++ codes " is not the version of now: "
+        ++ decimal now ++ codes ".") }
+{
+    Ok(Text::from_string(format!(in alloc;
+        "Version {asked} is not the version of now: {now}."
+    )?))
+}
+
+// The message of a page that isn't there.
+fn no_page(alloc: Global, number: u64) -> Result<Text, OutOfMemory>
+    ensures { IfOk result
+        (λ t. t ≡ codes "Page " ++ decimal number ++ codes " could not be found.") }
+{
+    Ok(Text::from_string(format!(in alloc; "Page {number} could not be found.")?))
+}
+
 // The message of a row that isn't found.
 fn not_found(alloc: Global, kind: &Text, text: &Text) -> Result<Text, OutOfMemory>
     ensures { IfOk result
@@ -340,6 +362,8 @@ fn message(alloc: Global, refusal: &Refusal) -> Result<Text, OutOfMemory>
         Refusal::OutOfMemory => Text::of(alloc, "Memory could not be had."),
         Refusal::NoHost { name } => around(alloc, "Host ", name.as_str(), " could not be found."),
         Refusal::NoMessage { asked, first, last } => no_message(alloc, *asked, *first, *last),
+        Refusal::VersionMoved { asked, now } => version_moved(alloc, *asked, *now),
+        Refusal::NoPage { number } => no_page(alloc, *number),
     }
 }
 

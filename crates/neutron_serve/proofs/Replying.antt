@@ -108,6 +108,9 @@ quiet_lab w caller (call.Resync name) = quiet_unless w (call.Resync name) (when 
 quiet_lab w caller (call.Restart name) = quiet_unless w (call.Restart name) (when (not caller.admin) (Forbidden AdminOnly)) _ (quiet_host w (call.Restart name) name (host_named w name) _ (λ a none. absurd cc))
 quiet_lab w caller (call.Forget name) = quiet_unless w (call.Forget name) (when (not caller.admin) (Forbidden AdminOnly)) _ (quiet_host w (call.Forget name) name (host_named w name) _ (λ a none. absurd cc))
 quiet_lab w caller call.Settle = quiet_unless w call.Settle (when (not caller.admin) (Forbidden AdminOnly)) _ (λ none. absurd cc)
+quiet_lab w caller call.Version = tt
+quiet_lab w caller (call.Change number) = tt
+quiet_lab w caller (call.Page version number) = tt
 
 -- ---- what moves the world
 

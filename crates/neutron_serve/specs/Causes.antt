@@ -8,7 +8,7 @@ use Rattle.neutron_serve.specs.declared.api.Cause.TheVariants.{Step, StoreFault,
 use Rattle.plane_types.specs.declared.ask.Ask.{Ask}
 use Rattle.plane_types.specs.declared.ask.Ask.TheVariants.{Api, Lab}
 use Rattle.plane_types.specs.declared.ask.LabAnswer.{LabAnswer}
-use Rattle.plane_types.specs.declared.ask.LabAnswer.TheVariants.{Hosts, Seen, Tables, Told}
+use Rattle.plane_types.specs.declared.ask.LabAnswer.TheVariants.{Change, Hosts, Page, Seen, Tables, Told, Version}
 use Rattle.plane_types.specs.declared.ask.LabCall.{LabCall}
 use Rattle.plane_types.specs.declared.ask.LabCall.TheVariants as call
 use Rattle.plane_types.specs.declared.ask.Reply.{Reply}
@@ -21,12 +21,18 @@ tells_entries (Seen verdict) = not (is_empty verdict.fresh)
 tells_entries (Told heard) = false
 tells_entries (Hosts hosts) = false
 tells_entries (Tables tables) = false
+tells_entries (Version first last) = false
+tells_entries (Change number items) = false
+tells_entries (Page version number last rows) = false
 
 abbrev pub moves_hosts : LabCall → LabAnswer → Bool
 moves_hosts (call.Frames event) answer = tells_entries answer
 moves_hosts (call.Explain event) answer = false
 moves_hosts call.Hosts answer = false
 moves_hosts (call.Tables name) answer = false
+moves_hosts call.Version answer = false
+moves_hosts (call.Change number) answer = false
+moves_hosts (call.Page version number) answer = false
 moves_hosts (call.Deliver name number) answer = true
 moves_hosts (call.Resync name) answer = true
 moves_hosts (call.Restart name) answer = true

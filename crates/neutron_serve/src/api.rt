@@ -114,6 +114,7 @@ fn keeps_entries(answer: &LabAnswer) -> bool
     match answer {
         LabAnswer::Seen(verdict) => !verdict.fresh.is_empty(),
         LabAnswer::Told(_) | LabAnswer::Hosts(_) | LabAnswer::Tables(_) => false,
+        LabAnswer::Version { .. } | LabAnswer::Change { .. } | LabAnswer::Page { .. } => false,
     }
 }
 
@@ -124,6 +125,7 @@ fn moves_hosts(call: &LabCall, answer: &LabAnswer) -> bool
     match call {
         LabCall::Frames(_) => keeps_entries(answer),
         LabCall::Explain(_) | LabCall::Hosts | LabCall::Tables(_) => false,
+        LabCall::Version | LabCall::Change { .. } | LabCall::Page { .. } => false,
         LabCall::Deliver { .. }
         | LabCall::Resync(_)
         | LabCall::Restart(_)

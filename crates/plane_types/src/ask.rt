@@ -3,7 +3,7 @@
 use crate::event::Event;
 use crate::lists::TableLists;
 use crate::verdict::Verdict;
-use api_types::{Answer, Call, Refusal};
+use api_types::{Answer, Call, Change, PageRows, Refusal};
 use net_addr::{Seq, Text};
 
 /// What a request asks.
@@ -42,6 +42,12 @@ pub enum LabCall {
     Hosts,
     /// A host's tables.
     Tables(Text),
+    /// The numbers of the kept changes.
+    Version,
+    /// The change with this number.
+    Change { number: u64 },
+    /// A page of the rows, if they have this version.
+    Page { version: u64, number: u64 },
 }
 
 /// What a host makes of a change that it gets.
@@ -70,6 +76,23 @@ pub enum LabAnswer {
     Told(Heard),
     Hosts(Seq<HostState>),
     Tables(TableLists),
+    /// The first and the last number of the kept changes; the last is the current version.
+    Version {
+        first: u64,
+        last: u64,
+    },
+    /// The change with this number.
+    Change {
+        number: u64,
+        items: Change,
+    },
+    /// A page of the rows at a version, and whether it is the last one.
+    Page {
+        version: u64,
+        number: u64,
+        last: bool,
+        rows: PageRows,
+    },
 }
 
 impl Drop for LabAnswer {
@@ -79,6 +102,17 @@ impl Drop for LabAnswer {
             LabAnswer::Told(_) => {}
             LabAnswer::Hosts(_) => {}
             LabAnswer::Tables(_) => {}
+            LabAnswer::Version { first: _, last: _ } => {}
+            LabAnswer::Change {
+                number: _,
+                items: _,
+            } => {}
+            LabAnswer::Page {
+                version: _,
+                number: _,
+                last: _,
+                rows: _,
+            } => {}
         }
     }
 }
