@@ -6,6 +6,7 @@ use Rattle.api_types.specs.declared.call.Caller.{Caller}
 use Rattle.api_ml2.specs.Carrying.{carries}
 use Rattle.plane_types.specs.Crossing.{CrossesAtRouters}
 use Rattle.plane_types.specs.Hosts.{Host, all_entries}
+use Rattle.plane_types.specs.PortSecurity.{IsLetIn, IsLetOut}
 use Rattle.plane_types.specs.Verdicts.{fabric_verdict, hosts_after, with_made_from, made_at, rows_verdict, without_hosts}
 use Rattle.plane_types.specs.declared.ask.LabAnswer.TheVariants.{Seen}
 use Rattle.plane_types.specs.declared.ask.LabCall.TheVariants.{Frames}
@@ -15,6 +16,7 @@ use Rattle.plane_types.specs.declared.verdict.Verdict.{Verdict}
 use Rattle.plane_laws.specs.Bounds.{HasEightBits}
 use Rattle.plane_laws.proofs.BoundsTables.{bounded-by_tables}
 use Rattle.plane_laws.proofs.CrossingTop.{by-tables}
+use Rattle.plane_laws.proofs.SecurityLaw.{in-by-tables, out-by-tables}
 use Rattle.plane_laws.proofs.Theorem.{tables-mean-rows}
 use Rattle.world_laws.specs.Agents.{Agent, seat}
 use Rattle.world_laws.specs.Lead.{IsWorld}
@@ -30,6 +32,12 @@ frame_means w event is synced = tables-mean-rows (carries w.settings.hosts) w.hi
 pub frame_crosses : (w : World) (event : Event) → IsWorld w → IsSynced w → CrossesAtRouters w.history.rows (fabric_verdict (seats w) event)
 frame_crosses w event is synced = by-tables (carries w.settings.hosts) w.history.rows (seats w) (synced_hold w is synced) event
 
+pub frame_let_in : (w : World) (event : Event) → IsWorld w → IsSynced w → IsLetIn w.history.rows (fabric_verdict (seats w) event)
+frame_let_in w event is synced = in-by-tables (carries w.settings.hosts) w.history.rows (seats w) (synced_hold w is synced) event
+
+pub frame_let_out : (w : World) (event : Event) → IsWorld w → IsSynced w → IsLetOut w.history.rows event (fabric_verdict (seats w) event)
+frame_let_out w event is synced = out-by-tables (carries w.settings.hosts) w.history.rows (seats w) (synced_hold w is synced) event
+
 -- the same of a verdict that is answered
 pub answer_means : (w v : World) (caller : Caller) (event : Event) (verdict : Verdict) → IsWorld w → lab_outcome w caller (Frames event) ≡ Answered (Seen verdict) v → IsSynced w
     → without_hosts verdict ≡ rows_verdict w.history.rows (all_entries (seats w)) event
@@ -37,6 +45,12 @@ answer_means w v caller event verdict is told synced = ap without_hosts (sym (ve
 
 pub answer_crosses : (w v : World) (caller : Caller) (event : Event) (verdict : Verdict) → IsWorld w → lab_outcome w caller (Frames event) ≡ Answered (Seen verdict) v → IsSynced w → CrossesAtRouters w.history.rows verdict
 answer_crosses w v caller event verdict is told synced = subst (CrossesAtRouters w.history.rows) (verdict_is w caller event verdict v told) (frame_crosses w event is synced)
+
+pub answer_let_in : (w v : World) (caller : Caller) (event : Event) (verdict : Verdict) → IsWorld w → lab_outcome w caller (Frames event) ≡ Answered (Seen verdict) v → IsSynced w → IsLetIn w.history.rows verdict
+answer_let_in w v caller event verdict is told synced = subst (IsLetIn w.history.rows) (verdict_is w caller event verdict v told) (frame_let_in w event is synced)
+
+pub answer_let_out : (w v : World) (caller : Caller) (event : Event) (verdict : Verdict) → IsWorld w → lab_outcome w caller (Frames event) ≡ Answered (Seen verdict) v → IsSynced w → IsLetOut w.history.rows event verdict
+answer_let_out w v caller event verdict is told synced = subst (IsLetOut w.history.rows event) (verdict_is w caller event verdict v told) (frame_let_out w event is synced)
 
 -- an event makes no more entries than there is room for
 pub fresh_few : (hosts : List Host) (event : Event) → HasEightBits event → length (fabric_verdict hosts event).fresh ≤ 256

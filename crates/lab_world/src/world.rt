@@ -8,6 +8,7 @@ ghost use Rattle.net_settings.specs.Rules.{MeetsRules};
 ghost use Rattle.plane_types.specs.Crossing.{CrossesAtRouters};
 ghost use Rattle.plane_types.specs.Hosts.{all_entries};
 ghost use Rattle.plane_types.specs.Node.{Node, first_node};
+ghost use Rattle.plane_types.specs.PortSecurity.{IsLetIn, IsLetOut};
 ghost use Rattle.plane_types.specs.Verdicts.{rows_verdict, without_hosts};
 ghost use Rattle.plane_types.specs.declared.ask.Ask.TheVariants.{Lab as LabAsk};
 ghost use Rattle.plane_types.specs.declared.ask.LabAnswer.TheVariants.{Seen};
@@ -120,7 +121,8 @@ impl World {
     /// kept as a message, of which the last 1,024 are, and the version has risen by one; where
     /// delivery isn't manual each host is told it but those that find no memory. Frames go by the
     /// tables that the hosts hold. While each host holds the version of now they come to what the
-    /// rows say, and cross between networks at routers alone. The entries that they make are kept at
+    /// rows say, cross between networks at routers alone, and are let in and out by ports as their
+    /// groups and guards allow, or as answers to that. The entries that they make are kept at
     /// the hosts that made them. After a refusal all is as it was: one for want of memory, which is
     /// free, one because the store failed to keep an accepted change, where the keeper counted a
     /// fault, or that of the ask. The cost grows with the rows, for an accepted change with that of
@@ -145,6 +147,14 @@ impl World {
             → ask.now ≡ LabAsk (Frames event) → result ≡ Reply.LabDone (Seen verdict)
             → IsSynced self.old
             → CrossesAtRouters self.old.history.rows verdict }
+        ensures lets_in { (event : TheEvent) (verdict : TheVerdict)
+            → ask.now ≡ LabAsk (Frames event) → result ≡ Reply.LabDone (Seen verdict)
+            → IsSynced self.old
+            → IsLetIn self.old.history.rows verdict }
+        ensures lets_out { (event : TheEvent) (verdict : TheVerdict)
+            → ask.now ≡ LabAsk (Frames event) → result ≡ Reply.LabDone (Seen verdict)
+            → IsSynced self.old
+            → IsLetOut self.old.history.rows event verdict }
         ensures store_fault { result ≡ Reply.Refused Refusal.StoreFault
             → (is_change (ask_outcome self.old caller.now ask.now) ≡ true)
             × RoseBy 1 (K.faults keeper.old) (K.faults keeper.new) }

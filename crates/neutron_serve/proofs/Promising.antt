@@ -16,12 +16,12 @@ use Rattle.plane_types.specs.declared.ask.LabCall.TheVariants.{Frames}
 use Rattle.plane_types.specs.declared.event.Event.{Event}
 use Rattle.world_laws.specs.Lead.{IsWorld}
 use Rattle.world_laws.specs.World.{World, seats}
-use Rattle.world_laws.proofs.MeaningLaw.{held_rows, rows_of_now, synced_cross, synced_mean}
+use Rattle.world_laws.proofs.MeaningLaw.{held_rows, rows_of_now, synced_cross, synced_let_in, synced_let_out, synced_mean}
 use Rattle.lab_world.specs.Lab.{Answered, Barred, event_refusal}
 use Rattle.lab_world.specs.World.{AskOutcome, ByLab, ByMachine, IsAskInForm, MovesBy, OfApi, OfLab, Said, ask_outcome, state_of, told_of}
 use Rattle.lab_world.proofs.AskApart.{ask_apart}
 use Rattle.lab_world.proofs.Asking.{frames_told}
-use Rattle.lab_world.proofs.FrameLaws.{frame_crosses, frame_means, sent_seats, sent_synced}
+use Rattle.lab_world.proofs.FrameLaws.{frame_crosses, frame_let_in, frame_let_out, frame_means, sent_seats, sent_synced}
 use Rattle.lab_world.proofs.WorldLaws.{ask_keeps, sound_of}
 use Rattle.http_heads.specs.Fields.{closes, is_admin, project_of}
 use Rattle.http_heads.specs.Heads.{Asked}
@@ -93,6 +93,8 @@ frame_told old caller event close reply world none is =
       told = is ∙ ap (λ o. outcome_bytes close (ByLab o)) (frames_told old caller event verdict none refl);
       means = λ synced. frame_means old event world synced;
       crosses = λ synced. frame_crosses old event world synced;
+      lets_in = λ synced. frame_let_in old event world synced;
+      lets_out = λ synced. frame_let_out old event world synced;
     }
 
 -- the bytes are those of what is told
@@ -128,7 +130,14 @@ step_promised old new asked reply world s = record {
   world = world;
   hosts = record { told = held_rows old world; now = rows_of_now old world; realised = world.realised };
   frame = λ caller event is none. frame_told old caller event (closes asked.head) reply world none (s.replies ∙ ap (λ r. outcome_bytes (closes asked.head) (request_outcome old r)) is);
-  frames = record { means = synced_mean old world; crosses = synced_cross old world; follows = sent_seats old; stays = sent_synced old };
+  frames = record {
+    means = synced_mean old world;
+    crosses = synced_cross old world;
+    lets_in = synced_let_in old world;
+    lets_out = synced_let_out old world;
+    follows = sent_seats old;
+    stays = sent_synced old;
+  };
   apart = λ caller ask is tenant other consistent one same.
       s.replies ∙ ap (λ r. outcome_bytes (closes asked.head) (request_outcome old r)) is
       ∙ told_apart old other caller ask (closes asked.head) (formed asked caller ask is).named world tenant consistent one same;

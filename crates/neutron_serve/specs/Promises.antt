@@ -1,10 +1,14 @@
 -- What a session promises. Begin here.
 --
--- Whole requests are answered once each, in their order, each by one whole reply (`Serves`). Where the store fails to keep a
--- change, or memory is wanting, the reply says so and nothing has moved; want of memory may come in the place of any reply. Each other
--- request is promised what follows: the reply and the rows are those of the machine of the Networking API; a tenant's reply depends on its
--- footing alone; and after any messages that hosts missed, got twice or lost in a restart, whenever every host holds the version of now,
--- each frame that is sent through the tables has exactly the outcome, path and tracked entries that the rows give.
+-- Whole requests are answered once each, in their order, each by one whole reply (`Serves`).
+-- Where the store fails to keep a change, or memory runs out, the reply says so and nothing has
+-- moved; out of memory may come in place of any reply. Each other request is promised what
+-- follows: the reply and the rows are those of the machine of the Networking API; a tenant's
+-- reply depends on its footing alone; and after any messages that hosts missed, got twice or lost
+-- in a restart, whenever every host holds the current version, each frame that is sent through the
+-- tables has exactly the outcome, path and tracked entries that the rows give. Then two laws hold
+-- of what frames do: they cross between networks at routers alone and end where their path ends;
+-- and secured ports let in and out what their groups and guards allow, and answers to it.
 use Rattle.std.specs.Prelude.{◌≡◌, ℕ, ◌+◌, ◌≤◌, Bool, true, false, List, Ok, None, Some, map}
 use Rattle.net_addr.specs.Words.{Bytes, Version}
 use Rattle.api_types.specs.Consistent.{IsConsistent}
@@ -14,6 +18,7 @@ use Rattle.api_types.specs.declared.call.Caller.{Caller}
 use Rattle.api_machine.specs.Footing.{footing}
 use Rattle.plane_types.specs.Crossing.{CrossesAtRouters}
 use Rattle.plane_types.specs.Hosts.{all_entries}
+use Rattle.plane_types.specs.PortSecurity.{AreLetOut, IsLetIn, IsLetOut}
 use Rattle.plane_types.specs.Realises.{Realises}
 use Rattle.plane_types.specs.Verdicts.{fabric_verdict, fabric_verdicts, hosts_after, rows_verdict, rows_verdicts, without_hosts}
 use Rattle.plane_types.specs.declared.ask.Ask.{Ask}
@@ -36,26 +41,47 @@ use Rattle.neutron_serve.specs.Replies.{lab_bytes, outcome_bytes}
 use Rattle.neutron_serve.specs.Requests.{request_of}
 use Rattle.neutron_serve.specs.Steps.{Steps, fixed_replies, request_outcome}
 
--- the reply tells what the hosts' tables make of an event. Where every host holds the version of now these are the outcome, path and
--- entries that the rows give, hosts left aside, and the path crosses between networks at routers alone
+-- the reply tells what the hosts' tables make of an event. Where every host holds the current
+-- version these are the outcome, path and entries that the rows give, hosts left aside; the path
+-- crosses between networks at routers alone, and what is delivered, absorbed or sent out by a
+-- wire ends on the last network of the path; what is delivered to a secured port is allowed in by
+-- a rule of its groups, or answers what a rule lets out; and what a secured port sends and isn't
+-- dropped passed its guard, and is allowed out or answers
 pub record FrameTold (world : World) (event : Event) (close : Bool) (reply : Bytes) : Type 0 where
   pub told : reply ≡ lab_bytes close (Seen (fabric_verdict (seats world) event))
-  pub means : IsSynced world → without_hosts (fabric_verdict (seats world) event) ≡ rows_verdict world.history.rows (all_entries (seats world)) event
-  pub crosses : IsSynced world → CrossesAtRouters world.history.rows (fabric_verdict (seats world) event)
+  pub means : IsSynced world
+      → without_hosts (fabric_verdict (seats world) event)
+      ≡ rows_verdict world.history.rows (all_entries (seats world)) event
+  pub crosses : IsSynced world
+      → CrossesAtRouters world.history.rows (fabric_verdict (seats world) event)
+  pub lets_in : IsSynced world → IsLetIn world.history.rows (fabric_verdict (seats world) event)
+  pub lets_out : IsSynced world
+      → IsLetOut world.history.rows event (fabric_verdict (seats world) event)
 
--- where every host holds the version of now, so it is with events one after the other, of which each sees the entries that those before
--- it made; and they leave it so
+-- where every host holds the current version, so it is with events one after the other, of which
+-- each sees the entries that those before it made; and they leave it so
 pub record FramesTold (world : World) : Type 0 where
-  pub means : IsSynced world → (events : List Event) → map without_hosts (fabric_verdicts (seats world) events) ≡ rows_verdicts world.history.rows (all_entries (seats world)) events
-  pub crosses : IsSynced world → (events : List Event) → Each (CrossesAtRouters world.history.rows) (fabric_verdicts (seats world) events)
-  pub follows : (event : Event) → seats (step world (Send event)) ≡ hosts_after (seats world) event
+  pub means : IsSynced world → (events : List Event)
+      → map without_hosts (fabric_verdicts (seats world) events)
+      ≡ rows_verdicts world.history.rows (all_entries (seats world)) events
+  pub crosses : IsSynced world → (events : List Event)
+      → Each (CrossesAtRouters world.history.rows) (fabric_verdicts (seats world) events)
+  pub lets_in : IsSynced world → (events : List Event)
+      → Each (IsLetIn world.history.rows) (fabric_verdicts (seats world) events)
+  pub lets_out : IsSynced world → (events : List Event)
+      → AreLetOut world.history.rows events (fabric_verdicts (seats world) events)
+  pub follows : (event : Event)
+      → seats (step world (Send event)) ≡ hosts_after (seats world) event
   pub stays : IsSynced world → (event : Event) → IsSynced (step world (Send event))
 
--- a host that holds a version, while the change behind it is kept, has the rows of that version, and one that holds the version of now
--- has the rows of now; its tables are those that its rows give to it, also while it is behind or holds nothing
+-- a host that holds a version, while the change behind it is kept, has the rows of that version,
+-- and one that holds the current version has the current rows; its tables are those that its rows
+-- give to it, also while it is behind or holds nothing
 pub record HostsFollow (world : World) : Type 0 where
-  pub told : Each (λ (a : Agent). (v : Version) → a.held ≡ Some v → first_kept world.history ≤ v + 1 → a.rows ≡ rows_at world.history v) world.agents
-  pub now : Each (λ (a : Agent). a.held ≡ Some world.history.version → a.rows ≡ world.history.rows) world.agents
+  pub told : Each (λ (a : Agent). (v : Version) → a.held ≡ Some v → first_kept world.history ≤ v + 1
+      → a.rows ≡ rows_at world.history v) world.agents
+  pub now : Each (λ (a : Agent). a.held ≡ Some world.history.version
+      → a.rows ≡ world.history.rows) world.agents
   pub realised : Each (λ (a : Agent). Realises a.rows a.name a.tables) world.agents
 
 abbrev pub is_refusal : AskOutcome → Bool
@@ -67,18 +93,25 @@ is_refusal (ByLab (Answered answer world)) = false
 
 -- what is promised of a request
 pub record Promised (old : World) (asked : Asked) (reply : Bytes) (new : World) : Type 0 where
-  -- it is answered by the step of the Networking API or of the lab, which alone moves rows, messages and hosts
+  -- it is answered by the step of the Networking API or of the lab, which alone moves rows,
+  -- messages and hosts
   pub steps : Steps old asked reply new
-  -- before it the rows are consistent, kept changes lead from version to version, and hosts follow them
+  -- before it the rows are consistent, kept changes lead from version to version, and hosts follow
+  -- them
   pub world : IsWorld old
   pub hosts : HostsFollow old
-  -- a frame that it sends goes by the hosts' tables, and, where they hold the version of now, comes to what the rows say
-  pub frame : (caller : Caller) (event : Event) → request_of asked ≡ Ok (caller, Lab (Frames event)) → event_refusal old.history.rows caller event ≡ None
+  -- a frame that it sends goes by the hosts' tables, and, where they hold the current version,
+  -- comes to what the rows say, by the two laws of frames
+  pub frame : (caller : Caller) (event : Event) → request_of asked ≡ Ok (caller, Lab (Frames event))
+      → event_refusal old.history.rows caller event ≡ None
       → FrameTold old event (closes asked.head) reply
   pub frames : FramesTold old
-  -- a tenant is told what it would be told at any server of these settings with consistent rows in which it has the same footing
-  pub apart : (caller : Caller) (ask : Ask) → request_of asked ≡ Ok (caller, ask) → caller.admin ≡ false
-      → (other : World) → IsConsistent other.history.rows → other.settings ≡ old.settings → footing other.settings (state_of other) caller ≡ footing old.settings (state_of old) caller
+  -- a tenant is told what it would be told at any server of these settings with consistent rows in
+  -- which it has the same footing
+  pub apart : (caller : Caller) (ask : Ask) → request_of asked ≡ Ok (caller, ask)
+      → caller.admin ≡ false
+      → (other : World) → IsConsistent other.history.rows → other.settings ≡ old.settings
+      → footing other.settings (state_of other) caller ≡ footing old.settings (state_of old) caller
       → reply ≡ outcome_bytes (closes asked.head) (ask_outcome other caller ask)
   -- a refusal leaves all as it was
   pub refused : is_refusal (request_outcome old (request_of asked)) ≡ true → new ≡ old

@@ -26,6 +26,7 @@ pub mod MadeLaw
 pub mod PlacedLaw
 pub mod KeptLaw
 pub mod ListLaw
+pub mod SecurityLaw
 pub mod BoundsLaw
 pub mod BoundsTables
 pub mod WorkedRouting

@@ -1,7 +1,7 @@
 -- The law for lists of events, entries kept at the hosts that made them.
 use Rattle.std.proofs.Common.{◌≡◌, ℕ, zero, suc, List, [], ◌∷◌, ◌++◌, map, Bool, true, false, not, Option, Some, None, refl, ap, sym, subst, ◌∙◌}
 use Rattle.std.specs.Prelude.{find, option_map, ◌&&◌, ◌||◌, ◌==◌, if◌then◌else◌, is_some}
-use Rattle.std.specs.List.{list_any}
+use Rattle.std.specs.List.{list_any, zip}
 use Rattle.std.specs.Str.{bytes_eq}
 use Rattle.std.proofs.lemmas.Bool.{and_parts}
 use Rattle.std.proofs.lemmas.List.{append-nil}
@@ -44,6 +44,7 @@ use Rattle.plane_types.specs.declared.entry.Entry.{Entry}
 use Rattle.plane_types.specs.declared.entry.Entry.TheVariants.{Flow, Snat}
 use Rattle.plane_types.specs.declared.event.Event.{Event}
 use Rattle.plane_types.specs.declared.frame.Key.{Key}
+use Rattle.plane_types.specs.declared.verdict.Verdict.{Verdict as ToldVerdict}
 use Rattle.plane_laws.proofs.Facts.{AllOf, AtMostOne, EntriesStand, FrameFacts, SyncedFacts, has_id, is_tap_id, stands_at}
 use Rattle.plane_laws.specs.Held.{HoldRows}
 
@@ -263,8 +264,21 @@ unfolding hosts_after_all
 lists-held carry rows hosts held [] = held
 lists-held carry rows hosts held (e ∷ events) = lists-held carry rows (hosts_after hosts e) (held-after carry rows hosts held e) events
 
-pub lists-cross : (carry : List ℕ → Segment → Bool) (rows : RowLists) (hosts : List Host) → HoldRows carry rows hosts → (events : List Event) → Each (CrossesAtRouters rows) (fabric_verdicts hosts events)
+-- what holds of the verdict on any event, by any hosts that hold the rows, holds of each of a list
+pub each-verdict : (carry : List ℕ → Segment → Bool) (rows : RowLists) (P : ToldVerdict → Type 0) → ((hosts : List Host) → HoldRows carry rows hosts → (e : Event) → P (fabric_verdict hosts e))
+    → (hosts : List Host) → HoldRows carry rows hosts → (events : List Event) → Each P (fabric_verdicts hosts events)
 unfolding fabric_verdicts
-lists-cross carry rows hosts held [] k v at = none_some v _ at
-lists-cross carry rows hosts held (e ∷ events) zero v at = subst (CrossesAtRouters rows) (some_equal (fabric_verdict hosts e) v at) (by-tables carry rows hosts held e)
-lists-cross carry rows hosts held (e ∷ events) (suc k) v at = lists-cross carry rows (hosts_after hosts e) (held-after carry rows hosts held e) events k v at
+each-verdict carry rows P one hosts held [] k v at = none_some v _ at
+each-verdict carry rows P one hosts held (e ∷ events) zero v at = subst P (some_equal (fabric_verdict hosts e) v at) (one hosts held e)
+each-verdict carry rows P one hosts held (e ∷ events) (suc k) v at = each-verdict carry rows P one (hosts_after hosts e) (held-after carry rows hosts held e) events k v at
+
+pub lists-cross : (carry : List ℕ → Segment → Bool) (rows : RowLists) (hosts : List Host) → HoldRows carry rows hosts → (events : List Event) → Each (CrossesAtRouters rows) (fabric_verdicts hosts events)
+lists-cross carry rows = each-verdict carry rows (CrossesAtRouters rows) (by-tables carry rows)
+
+-- and so of each with its event
+pub each-pair : (carry : List ℕ → Segment → Bool) (rows : RowLists) (P : Event → ToldVerdict → Type 0) → ((hosts : List Host) → HoldRows carry rows hosts → (e : Event) → P e (fabric_verdict hosts e))
+    → (hosts : List Host) → HoldRows carry rows hosts → (events : List Event) → Each (λ (x : Event × ToldVerdict). P x.0 x.1) (zip events (fabric_verdicts hosts events))
+unfolding fabric_verdicts
+each-pair carry rows P one hosts held [] k x at = none_some x _ at
+each-pair carry rows P one hosts held (e ∷ events) zero x at = subst (λ (y : Event × ToldVerdict). P y.0 y.1) (some_equal (e, fabric_verdict hosts e) x at) (one hosts held e)
+each-pair carry rows P one hosts held (e ∷ events) (suc k) x at = each-pair carry rows P one (hosts_after hosts e) (held-after carry rows hosts held e) events k x at

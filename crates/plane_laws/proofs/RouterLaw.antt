@@ -198,7 +198,7 @@ module _ (rows : RowLists) (hosts : List Host) (good : FrameFacts rows) (synced 
           by None e = no-leg e
           by (Some o) e = with-leg o e
 
-    by-routed : (x : Routed) → Lower p.ttl x → meant (fate_after hosts (walk hosts (steps - 1)) h (RouterIn q.id r.id (ip_frame p)) run (table_routed h.tables (router_row rows h.tables.tags r) x)) ≡ after_router rows (port_fate rows (all_entries hosts) many) r (trace_of run) x
+    by-routed : (x : Routed) → Lower (router_view rows r).id p.ttl x → meant (fate_after hosts (walk hosts (steps - 1)) h (RouterIn q.id r.id (ip_frame p)) run (table_routed h.tables (router_row rows h.tables.tags r) x)) ≡ after_router rows (port_fate rows (all_entries hosts) many) r (trace_of run) x
     by-routed (RouteEnds o) low = ap (λ t. end_fate t o) (trace-plain h (RouterIn q.id r.id (ip_frame p)) (End o None) run refl)
     by-routed (RouteSends made out hop p2) low = sends made out hop p2 low
 

@@ -15,6 +15,7 @@ ghost use Rattle.plane_types.specs.Crossing.{CrossesAtRouters};
 ghost use Rattle.plane_types.specs.Hosts.{Host, all_entries, is_named};
 ghost use Rattle.api_types.specs.Live.{is_live};
 ghost use Rattle.plane_types.specs.Attached.{IsAttached};
+ghost use Rattle.plane_types.specs.PortSecurity.{AreLetOut, IsLetIn, IsLetOut};
 ghost use Rattle.plane_types.specs.Verdicts.{fabric_verdict, fabric_verdicts, hosts_after, hosts_after_all, rows_verdict, rows_verdicts, without_hosts};
 ghost use Rattle.plane_types.specs.declared.entry.Entry.{Entry};
 ghost use Rattle.plane_types.specs.declared.event.Event.{Event};
@@ -49,8 +50,9 @@ pub fn entries_stay_placed()
         → Each IsAttached hosts → (event : Event) → Each IsAttached (hosts_after hosts event) }
 {}
 
-/// A frame crosses between networks only at routers that have live ports on both, and is delivered
-/// to a port of the last network of its path; so does each of frames one after the other.
+/// A frame crosses between networks only at routers that have live ports on both. On the last
+/// network of its path is the port that it is delivered to, or a port of the router that absorbs
+/// it, or it leaves that network by a wire. So does each of frames one after the other.
 pub fn paths_cross_at_routers()
     ensures by_rows { (rows : RowLists) → IsConsistent rows
         → (entries : List Entry) (event : Event)
@@ -61,6 +63,29 @@ pub fn paths_cross_at_routers()
     ensures by_lists { (carries : List ℕ → Segment → Bool) (rows : RowLists) (hosts : List Host)
         → HoldRows carries rows hosts → (events : List Event)
         → Each (CrossesAtRouters rows) (fabric_verdicts hosts events) }
+{}
+
+/// What is delivered to a secured port is allowed in by a rule of its groups, or answers what a
+/// rule lets out. What a secured port sends and isn't dropped passed its guard, and is allowed out
+/// by a rule, or answers what a rule lets in. This is so whatever entries there are.
+pub fn port_security_holds()
+    ensures in_by_rows { (rows : RowLists) → IsConsistent rows
+        → (entries : List Entry) (event : Event)
+        → IsLetIn rows (rows_verdict rows entries event) }
+    ensures in_by_tables { (carries : List ℕ → Segment → Bool) (rows : RowLists)
+        (hosts : List Host) → HoldRows carries rows hosts → (event : Event)
+        → IsLetIn rows (fabric_verdict hosts event) }
+    ensures in_by_lists { (carries : List ℕ → Segment → Bool) (rows : RowLists)
+        (hosts : List Host) → HoldRows carries rows hosts → (events : List Event)
+        → Each (IsLetIn rows) (fabric_verdicts hosts events) }
+    ensures out_by_rows { (rows : RowLists) (entries : List Entry) (event : Event)
+        → IsLetOut rows event (rows_verdict rows entries event) }
+    ensures out_by_tables { (carries : List ℕ → Segment → Bool) (rows : RowLists)
+        (hosts : List Host) → HoldRows carries rows hosts → (event : Event)
+        → IsLetOut rows event (fabric_verdict hosts event) }
+    ensures out_by_lists { (carries : List ℕ → Segment → Bool) (rows : RowLists)
+        (hosts : List Host) → HoldRows carries rows hosts → (events : List Event)
+        → AreLetOut rows events (fabric_verdicts hosts events) }
 {}
 
 /// The port that holds a floating address is never live, so it needs no case of its own among

@@ -12,6 +12,7 @@ pub mod Packets
 pub mod Passage
 pub mod Attached
 pub mod Places
+pub mod PortSecurity
 pub mod Realises
 pub mod Routing
 pub mod Runs

@@ -10,11 +10,13 @@ use Rattle.api_ml2.specs.Carrying.{carries}
 use Rattle.plane_types.specs.Crossing.{CrossesAtRouters}
 use Rattle.plane_types.specs.Hosts.{Host, all_entries}
 use Rattle.plane_types.specs.Attached.{IsAttached}
+use Rattle.plane_types.specs.PortSecurity.{AreLetOut, IsLetIn}
 use Rattle.plane_types.specs.Realises.{Realises}
 use Rattle.plane_types.specs.Verdicts.{fabric_verdicts, rows_verdicts, without_hosts}
 use Rattle.plane_types.specs.declared.event.Event.{Event}
 use Rattle.plane_laws.specs.Held.{HoldRows}
 use Rattle.plane_laws.proofs.ListLaw.{lists-cross, lists-mean-rows}
+use Rattle.plane_laws.proofs.SecurityLaw.{in-by-lists, out-by-lists}
 use Rattle.bus_core.specs.History.{change_at, first_kept, rows_at}
 use Rattle.bus_core.proofs.HistoryLaw.{rows_now}
 use Rattle.plane_types.specs.Node.{follows}
@@ -72,6 +74,12 @@ synced_mean w is synced events = lists-mean-rows (carries w.settings.hosts) w.hi
 
 pub synced_cross : (w : World) → IsWorld w → IsSynced w → (events : List Event) → Each (CrossesAtRouters w.history.rows) (fabric_verdicts (seats w) events)
 synced_cross w is synced events = lists-cross (carries w.settings.hosts) w.history.rows (seats w) (synced_hold w is synced) events
+
+pub synced_let_in : (w : World) → IsWorld w → IsSynced w → (events : List Event) → Each (IsLetIn w.history.rows) (fabric_verdicts (seats w) events)
+synced_let_in w is synced events = in-by-lists (carries w.settings.hosts) w.history.rows (seats w) (synced_hold w is synced) events
+
+pub synced_let_out : (w : World) → IsWorld w → IsSynced w → (events : List Event) → AreLetOut w.history.rows events (fabric_verdicts (seats w) events)
+synced_let_out w is synced events = out-by-lists (carries w.settings.hosts) w.history.rows (seats w) (synced_hold w is synced) events
 
 -- ---- when all hold it
 

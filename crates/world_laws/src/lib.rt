@@ -14,6 +14,7 @@ ghost use Rattle.net_settings.specs.Rules.{MeetsRules};
 ghost use Rattle.net_settings.specs.Settings.{SettingsParts};
 ghost use Rattle.plane_types.specs.Crossing.{CrossesAtRouters};
 ghost use Rattle.plane_types.specs.Hosts.{all_entries};
+ghost use Rattle.plane_types.specs.PortSecurity.{AreLetOut, IsLetIn};
 ghost use Rattle.plane_types.specs.Realises.{Realises};
 ghost use Rattle.plane_types.specs.Verdicts.{fabric_verdicts, rows_verdicts, without_hosts};
 ghost use Rattle.plane_types.specs.declared.event.Event.{Event};
@@ -58,12 +59,17 @@ pub fn next_changes_fit()
 
 /// Where every host holds the version of now, events one after the other come by the hosts' tables
 /// to exactly what the rows of now give, and their paths cross between networks at routers alone.
+/// Ports let in and out what their groups and guards allow, and answers to it.
 pub fn synced_hosts_mean_rows()
     ensures verdicts { (w : World) → IsWorld w → IsSynced w → (events : List Event) →
         map without_hosts (fabric_verdicts (seats w) events) ≡ rows_verdicts w.history.rows
         (all_entries (seats w)) events }
     ensures paths { (w : World) → IsWorld w → IsSynced w → (events : List Event) →
         Each (CrossesAtRouters w.history.rows) (fabric_verdicts (seats w) events) }
+    ensures lets_in { (w : World) → IsWorld w → IsSynced w → (events : List Event) →
+        Each (IsLetIn w.history.rows) (fabric_verdicts (seats w) events) }
+    ensures lets_out { (w : World) → IsWorld w → IsSynced w → (events : List Event) →
+        AreLetOut w.history.rows events (fabric_verdicts (seats w) events) }
 {}
 
 /// Worlds with the same settings and hosts, and the same rows now and at each version that can be
