@@ -37,7 +37,9 @@ aim_at address p = option_map (λ f. record { port = p; fixed = f }) (fixed_for 
 -- the first router of the project with an interface on the subnet and its gateway on the network
 abbrev pub joins_to : RowLists → Text → Ident → Ident → RouterRow → Bool
 joins_to rows project network subnet r =
-    bytes_eq r.project project && is_some_so (λ (g : Gateway). ident_eq network g.network) r.gateway && has_interface rows.ports r.id subnet
+    bytes_eq r.project project
+    && is_some_so (λ (g : Gateway). ident_eq network g.network) r.gateway
+    && has_interface rows.ports r.id subnet
 
 abbrev pub router_for : RowLists → Text → Ident → Ident → Option RouterRow
 router_for rows project network subnet = find (joins_to rows project network subnet) rows.routers
@@ -45,8 +47,10 @@ router_for rows project network subnet = find (joins_to rows project network sub
 abbrev pub target_by : Aim → RouterRow → Target
 target_by aim r = record { port = aim.port.id; fixed = number aim.fixed.address; router = r.id }
 
--- goes on with the target, where there is an aim, and is refused where no router joins its subnet to the network
+-- goes on with the target, where there is an aim, and is refused where no router joins its subnet
+-- to the network
 abbrev pub with_target : RowLists → Text → Ident → Option Aim → (Option Target → Outcome) → Outcome
 with_target rows project network None rest = rest None
 with_target rows project network (Some aim) rest =
-    needing (NoGateway network aim.fixed.subnet) (router_for rows project network aim.fixed.subnet) (λ r. rest (Some (target_by aim r)))
+    needing (NoGateway network aim.fixed.subnet) (router_for rows project network aim.fixed.subnet)
+    (λ r. rest (Some (target_by aim r)))

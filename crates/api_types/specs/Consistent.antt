@@ -1,5 +1,6 @@
--- Rows are consistent: what a loaded store must meet, and what each accepted call keeps. The fourteen clauses are in the
--- order in which a broken one is told; what the eighth says of settings stands apart, in `AreCarried`.
+-- Rows are consistent: what a loaded store must meet, and what each accepted call keeps. The
+-- fourteen clauses are in the order in which a broken one is told; what the eighth says of
+-- settings stands apart, in `AreCarried`.
 pub mod Numbered
 pub mod Named
 pub mod InForm

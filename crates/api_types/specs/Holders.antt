@@ -47,15 +47,18 @@ abbrev pub live_on : RowLists → Ident → Option PortRow → Option PortRow
 live_on rows n None = None
 live_on rows n (Some q) = if ident_eq n q.network && is_live rows q then Some q else None
 
--- .. or, for an associated floating address of the network, the live gateway port on the network of the router that it names
+-- .. or, for an associated floating address of the network, the live gateway port on the network
+-- of the router that it names
 unfoldable pub floating_holder : RowLists → FloatingRow → Option PortRow
-floating_holder rows f = live_on rows f.network (option_and_then (gateway_port rows) (target_router rows f.target))
+floating_holder rows f =
+    live_on rows f.network (option_and_then (gateway_port rows) (target_router rows f.target))
 
 abbrev pub floats_at : Ident → Addr → FloatingRow → Bool
 floats_at n x f = ident_eq n f.network && addr_eq (V4 f.address) x
 
 abbrev pub held_by_floating : RowLists → Ident → Addr → Option PortRow
-held_by_floating rows n x = option_and_then (floating_holder rows) (find (floats_at n x) rows.floatings)
+held_by_floating rows n x =
+    option_and_then (floating_holder rows) (find (floats_at n x) rows.floatings)
 
 abbrev pub holder : RowLists → Ident → Addr → Option PortRow
 holder rows n x = option_or (find (holds_live rows n x) rows.ports) (held_by_floating rows n x)

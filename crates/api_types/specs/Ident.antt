@@ -1,4 +1,5 @@
--- What an id is, and how it is laid out as a UUID of version 8 and variant 10 (RFC 9562, section 5.8).
+-- What an id is, and how it is laid out as a UUID of version 8 and variant 10 (RFC 9562, section
+-- 5.8).
 use Rattle.std.specs.Prelude.{◌≡◌, ℕ, ◌+◌, ◌*◌, ◌^◌, ◌<◌, ◌≤◌, Some}
 use Rattle.std.specs.Int.{w128, to_be_bytes}
 use Rattle.net_addr.specs.Words.{Bytes, Text}
@@ -9,7 +10,8 @@ pub record Ident : Type 0 where
   pub ordinal : ℕ
   pub count : ℕ
 
--- the first 32 bits are the ordinal, then come 16 zeros, the version 8, 12 zeros, the variant 10 and 62 bits of the count
+-- the first 32 bits are the ordinal, then come 16 zeros, the version 8, 12 zeros, the variant 10
+-- and 62 bits of the count
 unfoldable pub uuid_number : Ident → ℕ
 uuid_number i = (i.ordinal * 2 ^ 32 + 8 * 2 ^ 12) * 2 ^ 64 + (2 * 2 ^ 62 + i.count)
 

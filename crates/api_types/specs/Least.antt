@@ -4,4 +4,5 @@ use Rattle.std.specs.Prelude.{Bool, None, Option, Some, false, suc, true, zero, 
 -- the least number from the first on, of so many, that passes the test; no further one is tried
 unfoldable pub least_from : (ℕ → Bool) → ℕ → ℕ → Option ℕ
 least_from test first zero = None
-least_from test first (suc many) = elim (test first) [ true ↦ Some first | false ↦ least_from test (first + 1) many ]
+least_from test first (suc many) =
+    elim (test first) [ true ↦ Some first | false ↦ least_from test (first + 1) many ]

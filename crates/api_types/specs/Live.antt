@@ -1,5 +1,6 @@
--- Which ports are live, and which of them hear each other (Neutron's ML2 guide: a port is wired where it is bound and both it and
--- its network are administratively up; frames of a local network stay on their host).
+-- Which ports are live, and which of them hear each other (Neutron's ML2 guide: a port is wired
+-- where it is bound and both it and its network are administratively up; frames of a local network
+-- stay on their host).
 use Rattle.std.specs.Prelude.{not, ◌&&◌, ◌||◌, Bool, true, false, Option, Some, None, if◌then◌else◌}
 use Rattle.std.specs.Str.{bytes_eq}
 use Rattle.net_addr.specs.Words.{Text}

@@ -1,4 +1,5 @@
--- The members of security groups (Networking API v2.0, security groups): the fixed addresses and pair prefixes of all ports that name one.
+-- The members of security groups (Networking API v2.0, security groups): the fixed addresses and
+-- pair prefixes of all ports that name one.
 use Rattle.std.specs.Prelude.{◌&&◌, ◌||◌, Bool, List, [], ◌∷◌, ◌++◌, map, flat_map, if◌then◌else◌}
 use Rattle.std.specs.List.{list_any}
 use Rattle.net_addr.specs.declared.address.Addr.{Addr}
@@ -29,7 +30,11 @@ is_member rows g x = list_any (gives_member g x) rows.ports
 
 -- what a port gives to a group, as prefixes
 abbrev pub prefixes_of : Ident → PortRow → List Prefix
-prefixes_of g p = if names_group g p.groups then map (λ (f : Fixed). whole_prefix f.address) p.fixed ++ map (λ (x : Pair). x.prefix) p.pairs else []
+prefixes_of g p =
+    if names_group g p.groups
+    then map (λ (f : Fixed). whole_prefix f.address) p.fixed
+    ++ map (λ (x : Pair). x.prefix) p.pairs
+    else []
 
 -- each once
 unfoldable pub once : List Prefix → List Prefix

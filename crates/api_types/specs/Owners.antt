@@ -1,4 +1,5 @@
--- What a port is for, by its `device_owner` (Networking API v2.0, ports; Neutron's constants of device owners).
+-- What a port is for, by its `device_owner` (Networking API v2.0, ports; Neutron's constants of
+-- device owners).
 use Rattle.std.specs.Prelude.{◌&&◌, ◌||◌, Bool, codes, take}
 use Rattle.std.specs.List.{list_any}
 use Rattle.std.specs.Str.{bytes_eq}

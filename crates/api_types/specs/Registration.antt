@@ -1,4 +1,5 @@
--- How ids are drawn for a project, and what registers one (Neutron gives each project a security group `default`).
+-- How ids are drawn for a project, and what registers one (Neutron gives each project a security
+-- group `default`).
 use Rattle.std.specs.Prelude.{ℕ, ◌+◌, ◌-◌, ◌^◌, List, [], ◌∷◌, ◌++◌, Option, Some, None, if◌then◌else◌, Bool, true, nat_lt, length, slice_get, slice_set, position, codes}
 use Rattle.std.specs.Str.{bytes_eq}
 use Rattle.net_addr.specs.Words.{Text}
@@ -20,7 +21,13 @@ is_named name project = bytes_eq project.name name
 
 -- the group `default` takes the project's count 1
 abbrev pub default_group : Text → ℕ → GroupRow
-default_group name ordinal = record { id = ident ordinal 1; project = name; name = codes "default"; description = []; is_default = true }
+default_group name ordinal = record {
+  id = ident ordinal 1;
+  project = name;
+  name = codes "default";
+  description = [];
+  is_default = true;
+}
 
 -- what comes in is let in from the same group alone
 abbrev pub default_remote : Direction → ℕ → Option Ident
@@ -58,7 +65,8 @@ with_project rows name ordinal count = record rows {
 
 -- the rows with another count of the project at a place
 abbrev pub with_count : RowLists → ℕ → ProjectRow → ℕ → RowLists
-with_count rows place project count = record rows { projects = slice_set rows.projects place (record project { count = count }) }
+with_count rows place project count =
+    record rows { projects = slice_set rows.projects place (record project { count = count }) }
 
 -- ids drawn one after the other: the rows from then on, the project's ordinal, and the first count
 pub record Drawing : Type 0 where
@@ -74,16 +82,25 @@ abbrev pub draw_for : RowLists → ℕ → ℕ → Option ProjectRow → Option 
 draw_for rows place many None = None
 draw_for rows place many (Some project) =
     if nat_lt (project.count + many) (2 ^ 62)
-    then Some (record { rows = with_count rows place project (project.count + many); ordinal = project.ordinal; first = project.count + 1 })
+    then Some (record {
+      rows = with_count rows place project (project.count + many);
+      ordinal = project.ordinal;
+      first = project.count + 1;
+    })
     else None
 
 abbrev pub draw_at : RowLists → Text → ℕ → Option ℕ → Option Drawing
 draw_at rows name many None =
     if nat_lt (length rows.projects) (2 ^ 32 - 1)
-    then Some (record { rows = with_project rows name (length rows.projects + 1) (5 + many); ordinal = length rows.projects + 1; first = 6 })
+    then Some (record {
+      rows = with_project rows name (length rows.projects + 1) (5 + many);
+      ordinal = length rows.projects + 1;
+      first = 6;
+    })
     else None
 draw_at rows name many (Some place) = draw_for rows place many (slice_get rows.projects place)
 
--- so many ids drawn for the project with this name, which is registered first where it is new; none where a counter would pass its last value
+-- so many ids drawn for the project with this name, which is registered first where it is new;
+-- none where a counter would pass its last value
 abbrev pub draw_of : RowLists → Text → ℕ → Option Drawing
 draw_of rows name many = draw_at rows name many (position (is_named name) rows.projects)

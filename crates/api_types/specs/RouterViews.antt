@@ -12,7 +12,8 @@ pub record Leg : Type 0 where
   pub addresses : List Addr
   pub inside : Bool
 
--- a route: packets for its prefix go to the next hop, or where there is none to their destination, by the port
+-- a route: packets for its prefix go to the next hop, or where there is none to their destination,
+-- by the port
 pub record Way : Type 0 where
   pub prefix : Prefix
   pub rank : RouteRank

@@ -25,11 +25,13 @@ reaches subnets x p = list_any (λ (s : SubnetRow). holds_in s.id p && contains 
 
 -- and in one that overlaps the prefix
 abbrev pub touches : List SubnetRow → Prefix → PortRow → Bool
-touches subnets prefix p = list_any (λ (s : SubnetRow). holds_in s.id p && overlaps prefix s.prefix) subnets
+touches subnets prefix p =
+    list_any (λ (s : SubnetRow). holds_in s.id p && overlaps prefix s.prefix) subnets
 
 -- a next hop has to lie in a subnet of a port of the router, and be none of its addresses
 abbrev pub is_bad_hop : List SubnetRow → List PortRow → Hop → Bool
-is_bad_hop subnets legs hop = list_any (is_own_address hop.next) legs || not (list_any (reaches subnets hop.next) legs)
+is_bad_hop subnets legs hop =
+    list_any (is_own_address hop.next) legs || not (list_any (reaches subnets hop.next) legs)
 
 -- the ports but one
 abbrev pub other_ports : Ident → List PortRow → List PortRow
@@ -37,4 +39,5 @@ other_ports i ports = filter (λ (p : PortRow). not (ident_eq i p.id)) ports
 
 -- a next hop lies in a subnet of the port that goes, and in none of another port
 abbrev pub is_lost_hop : List SubnetRow → List PortRow → PortRow → Hop → Bool
-is_lost_hop subnets others p hop = reaches subnets hop.next p && not (list_any (reaches subnets hop.next) others)
+is_lost_hop subnets others p hop =
+    reaches subnets hop.next p && not (list_any (reaches subnets hop.next) others)

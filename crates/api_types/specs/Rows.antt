@@ -15,18 +15,31 @@ abbrev pub project_id : ProjectRow → Ident
 project_id r = record { ordinal = r.ordinal; count = 0 }
 
 abbrev pub no_rows : RowLists
-no_rows = record { projects = []; networks = []; subnets = []; ports = []; groups = []; rules = []; routers = []; floatings = []; policies = [] }
+no_rows = record {
+  projects = [];
+  networks = [];
+  subnets = [];
+  ports = [];
+  groups = [];
+  rules = [];
+  routers = [];
+  floatings = [];
+  policies = [];
+}
 
 -- the rows after an item of a kind
 abbrev pub after_of_kind : Kind → RowLists → Item → RowLists
-after_of_kind Project rows item = record rows { projects = list_after project_of rows.projects item }
-after_of_kind Network rows item = record rows { networks = list_after network_of rows.networks item }
+after_of_kind Project rows item =
+    record rows { projects = list_after project_of rows.projects item }
+after_of_kind Network rows item =
+    record rows { networks = list_after network_of rows.networks item }
 after_of_kind Subnet rows item = record rows { subnets = list_after subnet_of rows.subnets item }
 after_of_kind Port rows item = record rows { ports = list_after port_of rows.ports item }
 after_of_kind Group rows item = record rows { groups = list_after group_of rows.groups item }
 after_of_kind Rule rows item = record rows { rules = list_after rule_of rows.rules item }
 after_of_kind Router rows item = record rows { routers = list_after router_of rows.routers item }
-after_of_kind Floating rows item = record rows { floatings = list_after floating_of rows.floatings item }
+after_of_kind Floating rows item =
+    record rows { floatings = list_after floating_of rows.floatings item }
 after_of_kind Policy rows item = record rows { policies = list_after policy_of rows.policies item }
 
 abbrev pub after_item : RowLists → Item → RowLists
@@ -34,15 +47,19 @@ after_item rows item = after_of_kind item.kind rows item
 
 -- the rows before it
 abbrev pub before_of_kind : Kind → RowLists → Item → RowLists
-before_of_kind Project rows item = record rows { projects = list_before project_of rows.projects item }
-before_of_kind Network rows item = record rows { networks = list_before network_of rows.networks item }
+before_of_kind Project rows item =
+    record rows { projects = list_before project_of rows.projects item }
+before_of_kind Network rows item =
+    record rows { networks = list_before network_of rows.networks item }
 before_of_kind Subnet rows item = record rows { subnets = list_before subnet_of rows.subnets item }
 before_of_kind Port rows item = record rows { ports = list_before port_of rows.ports item }
 before_of_kind Group rows item = record rows { groups = list_before group_of rows.groups item }
 before_of_kind Rule rows item = record rows { rules = list_before rule_of rows.rules item }
 before_of_kind Router rows item = record rows { routers = list_before router_of rows.routers item }
-before_of_kind Floating rows item = record rows { floatings = list_before floating_of rows.floatings item }
-before_of_kind Policy rows item = record rows { policies = list_before policy_of rows.policies item }
+before_of_kind Floating rows item =
+    record rows { floatings = list_before floating_of rows.floatings item }
+before_of_kind Policy rows item =
+    record rows { policies = list_before policy_of rows.policies item }
 
 abbrev pub before_item : RowLists → Item → RowLists
 before_item rows item = before_of_kind item.kind rows item

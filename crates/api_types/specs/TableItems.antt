@@ -27,8 +27,8 @@ same_kind _ _ = false
 abbrev pub place_before : Kind → Item → ℕ → Option ℕ
 place_before kind item at =
     if same_kind item.kind kind then
-      (if is_some item.after then (if item.place == at then None else Some at)
-      else (if nat_le item.place at then Some (at + 1) else Some at))
+    (if is_some item.after then (if item.place == at then None else Some at)
+    else (if nat_le item.place at then Some (at + 1) else Some at))
     else Some at
 
 module _ {R : Type 0} where
@@ -39,7 +39,8 @@ module _ {R : Type 0} where
   -- the rows after those of the items that are of this kind, put in one after the other
   abbrev pub after_all : Kind → (Row → Option R) → List R → List Item → List R
   after_all kind part rows [] = rows
-  after_all kind part rows (item ∷ items) = after_all kind part (after_one kind part rows item) items
+  after_all kind part rows (item ∷ items) =
+      after_all kind part (after_one kind part rows item) items
 
   -- an item fits the rows, if it is of their kind
   abbrev pub FitsIf : Bool → (Row → Option R) → (R → Ident) → List R → Item → Type 0
@@ -67,5 +68,5 @@ module _ {R : Type 0} where
   abbrev pub said_by : Kind → (Row → Option R) → (R → Ident) → Ident → Item → Option Bool
   said_by kind part id_of i item =
       if same_kind item.kind kind then
-        said_of id_of i (option_and_then part item.before) (option_and_then part item.after)
+      said_of id_of i (option_and_then part item.before) (option_and_then part item.after)
       else None

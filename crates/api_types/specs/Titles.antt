@@ -1,4 +1,5 @@
--- The words by which messages and bodies name kinds of rows (Networking API v2.0: the resource and collection names).
+-- The words by which messages and bodies name kinds of rows (Networking API v2.0: the resource and
+-- collection names).
 use Rattle.std.specs.Prelude.{codes}
 use Rattle.net_addr.specs.Words.{Text}
 use Rattle.api_types.specs.declared.kind.Kind.{Kind}

@@ -1,4 +1,5 @@
--- The wires of physical networks: which one carries a network, and which network is on one (Neutron guide, provider networks).
+-- The wires of physical networks: which one carries a network, and which network is on one
+-- (Neutron guide, provider networks).
 use Rattle.std.specs.Prelude.{ℕ, ◌&&◌, ◌==◌, Bool, true, false, Option, Some, None, find}
 use Rattle.std.specs.Str.{bytes_eq}
 use Rattle.api_types.specs.declared.network.Segment.{Segment}

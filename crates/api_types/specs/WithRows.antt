@@ -47,5 +47,6 @@ without_row rows PortKind i = record rows { ports = gone_from (λ q. q.id) i row
 without_row rows GroupKind i = record rows { groups = gone_from (λ q. q.id) i rows.groups }
 without_row rows RuleKind i = record rows { rules = gone_from (λ q. q.id) i rows.rules }
 without_row rows RouterKind i = record rows { routers = gone_from (λ q. q.id) i rows.routers }
-without_row rows FloatingKind i = record rows { floatings = gone_from (λ q. q.id) i rows.floatings }
+without_row rows FloatingKind i =
+    record rows { floatings = gone_from (λ q. q.id) i rows.floatings }
 without_row rows PolicyKind i = record rows { policies = gone_from (λ q. q.id) i rows.policies }

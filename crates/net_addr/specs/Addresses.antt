@@ -1,4 +1,5 @@
--- Addresses of both versions (RFC 791; RFC 4291). An address is `V4` of a number below 2^32 or `V6` of one below 2^128.
+-- Addresses of both versions (RFC 791; RFC 4291). An address is `V4` of a number below 2^32 or
+-- `V6` of one below 2^128.
 use Rattle.std.specs.Prelude.{ℕ, ◌^◌, ◌<◌, ◌==◌, Bool, true, false}
 use Rattle.net_addr.specs.declared.address.Addr.{Addr}
 use Rattle.net_addr.specs.declared.address.Addr.TheVariants.{V4, V6}

@@ -12,7 +12,8 @@ four (V6 n) = None
 
 -- version 4 goes before version 6, and then the lesser number before the greater
 abbrev pub addr_before : Addr → Addr → Bool
-addr_before x y = nat_lt (width x) (width y) || ((width x == width y) && nat_lt (number x) (number y))
+addr_before x y =
+    nat_lt (width x) (width y) || ((width x == width y) && nat_lt (number x) (number y))
 
 -- `addr_eq` by the same numbers, for orders
 abbrev pub same_place : Addr → Addr → Bool

@@ -43,16 +43,18 @@ value_count (Gap k ∷ parts) = 2 ^ (16 * k) * value_count parts
 abbrev pub is_readable : List Part → Bool
 is_readable parts = is_clear parts && nat_le (value_count parts) (2 ^ 128)
 
--- a number whose first digits are those of m is under way, and `parts` come behind it
+-- a number whose first digits are those of m is under way, and `parts` come after it
 abbrev pub NumberGoesOn : List Part → ℕ → ℕ → ℕ → Text → ℕ → Type 0
 NumberGoesOn parts value top m text n =
-    (whole : ℕ) × (more : Text) × (rest : Text) × (whole ≤ top) × (decimal whole ≡ decimal m ++ more) × (text ≡ more ++ rest)
+    (whole : ℕ) × (more : Text) × (rest : Text) × (whole ≤ top)
+    × (decimal whole ≡ decimal m ++ more) × (text ≡ more ++ rest)
     × Spells parts (value * 256 + whole) rest n
 
--- a group whose first digits, so many, write m is under way, and `parts` come behind it
+-- a group whose first digits, so many, write m is under way, and `parts` come after it
 abbrev pub GroupGoesOn : List Part → ℕ → ℕ → ℕ → Text → ℕ → Type 0
 GroupGoesOn parts value count m text n =
-    (more : Text) × (rest : Text) × (count + length more ≤ 4) × AllDigits 16 more × (text ≡ more ++ rest)
+    (more : Text) × (rest : Text) × (count + length more ≤ 4) × AllDigits 16 more
+    × (text ≡ more ++ rest)
     × Spells parts (value * 2 ^ 16 + digits_value_after 16 m more) rest n
 
 -- what may still come is this text, with n as the number of the whole
@@ -69,50 +71,65 @@ HasRoom parts value = (value + 1) * value_count parts ≤ 2 ^ 128
 abbrev pub IsReading : List Part → ℕ → State → Type 0
 IsReading parts value Between = (is_clear parts ≡ true) × HasRoom parts value
 IsReading parts value (InNumber d) =
-    (is_clear parts ≡ true) × (no_digit_next 10 parts ≡ true) × (d.number ≤ d.top) × (d.top < 256) × ((value + 1) * (256 * value_count parts) ≤ 2 ^ 128)
+    (is_clear parts ≡ true) × (no_digit_next 10 parts ≡ true) × (d.number ≤ d.top) × (d.top < 256)
+    × ((value + 1) * (256 * value_count parts) ≤ 2 ^ 128)
 IsReading parts value (InGroup g) =
-    (is_clear parts ≡ true) × (no_digit_next 16 parts ≡ true) × (g.count ≤ 4) × (g.number < 2 ^ (4 * g.count)) × ((value + 1) * (2 ^ 16 * value_count parts) ≤ 2 ^ 128)
+    (is_clear parts ≡ true) × (no_digit_next 16 parts ≡ true) × (g.count ≤ 4)
+    × (g.number < 2 ^ (4 * g.count)) × ((value + 1) * (2 ^ 16 * value_count parts) ≤ 2 ^ 128)
 
 -- the two say the same of each text and number
 abbrev pub Agree : (Text → ℕ → Type 0) → (Text → ℕ → Type 0) → Type 0
 Agree P Q = (text : Text) (n : ℕ) → (P text n → Q text n) × (Q text n → P text n)
 
--- the byte c leads to this reading: what it leaves is what came behind c; or nothing that may come begins with c
+-- the byte c leads to this reading: what it leaves is what came after c; or nothing that may come
+-- begins with c
 abbrev pub Takes : (Text → ℕ → Type 0) → ℕ → Option Reading → Type 0
 Takes P c None = (text : Text) (n : ℕ) → ¬ P (c ∷ text) n
-Takes P c (Some r) = IsReading r.parts.now r.value r.state × Agree (λ text n. P (c ∷ text) n) (Remains r.parts.now r.value r.state)
+Takes P c (Some r) =
+    IsReading r.parts.now r.value r.state
+    × Agree (λ text n. P (c ∷ text) n) (Remains r.parts.now r.value r.state)
 
 -- the empty text may come with this number alone, or it may not come
 abbrev pub Ends : (Text → ℕ → Type 0) → Option ℕ → Type 0
 Ends P None = (n : ℕ) → ¬ P [] n
 Ends P (Some v) = (n : ℕ) → (P [] n → n ≡ v) × (n ≡ v → P [] n)
 
--- what remains of a reading is what comes behind the bytes that were seen
-pub record Follows (all : List Part) (seen : Text) (parts : List Part) (value : ℕ) (state : State) : Type 0 where
+-- what remains of a reading is what comes after the bytes that were seen
+pub record Follows (all : List Part) (seen : Text) (parts : List Part) (value : ℕ) (state : State)
+    : Type 0 where
   pub reading : IsReading parts value state
-  pub same : (text : Text) (n : ℕ) → (Spells all 0 (seen ++ text) n → Remains parts value state text n) × (Remains parts value state text n → Spells all 0 (seen ++ text) n)
+  pub same : (text : Text) (n : ℕ)
+      → (Spells all 0 (seen ++ text) n → Remains parts value state text n)
+      × (Remains parts value state text n → Spells all 0 (seen ++ text) n)
 
 -- a text of the grammar spells the number; or it is none, and its longest start is `at` long
 abbrev pub IsRead : (Text → ℕ → Type 0) → Text → Result ℕ BadAddress → Type 0
 IsRead P text (Ok v) = P text v
 IsRead P text (Err e) = ((n : ℕ) → ¬ P text n) × IsLongestStart (λ t. (n : ℕ) × P t n) text e.at
 
--- the texts of version 6 with all groups, and those with `::` behind so many groups, or behind any number of them
+-- the texts of version 6 with all groups, and those with `::` after so many groups, or after any
+-- number of them
 unfoldable pub SpellsWhole : Bool → Text → ℕ → Type 0
 SpellsWhole has_tail text n = Spells (end_parts has_tail (group_count has_tail)) 0 text n
 
 unfoldable pub SpellsBehind : Bool → ℕ → Text → ℕ → Type 0
-SpellsBehind has_tail left text n = (right : ℕ) × (left + right < group_count has_tail) × Spells (shortened_parts has_tail left right) 0 text n
+SpellsBehind has_tail left text n =
+    (right : ℕ) × (left + right < group_count has_tail)
+    × Spells (shortened_parts has_tail left right) 0 text n
 
 unfoldable pub SpellsShortened : Bool → Text → ℕ → Type 0
-SpellsShortened has_tail text n = (left : ℕ) × (left < group_count has_tail) × SpellsBehind has_tail left text n
+SpellsShortened has_tail text n =
+    (left : ℕ) × (left < group_count has_tail) × SpellsBehind has_tail left text n
 
--- none of the first `count` grammars has the text, and none of their texts has a longer start of it than G's `at`
-pub record NoneSoFar (P : ℕ → Text → ℕ → Type 0) (G : Text → Type 0) (count : ℕ) (text : Text) (at : ℕ) : Type 0 where
+-- none of the first `count` grammars has the text, and none of their texts has a longer start of
+-- it than G's `at`
+pub record NoneSoFar (P : ℕ → Text → ℕ → Type 0) (G : Text → Type 0) (count : ℕ) (text : Text)
+    (at : ℕ) : Type 0 where
   pub within : at ≤ length text
   pub begins : Begins G (take at text)
   pub none : (i : ℕ) → i < count → (n : ℕ) → ¬ P i text n
-  pub longest : (i : ℕ) → i < count → (k : ℕ) → at < k → k ≤ length text → ¬ Begins (λ t. (n : ℕ) × P i t n) (take k text)
+  pub longest : (i : ℕ) → i < count → (k : ℕ) → at < k → k ≤ length text
+      → ¬ Begins (λ t. (n : ℕ) × P i t n) (take k text)
 
 -- the better of two readings: a number, or else the longer start
 abbrev pub better_of : Result ℕ BadAddress → Result ℕ BadAddress → Result ℕ BadAddress

@@ -1,5 +1,6 @@
--- The texts of addresses, MACs and prefixes: RFC 3986, 3.2.2 (IPv4address), RFC 4291, 2.2 (IPv6 addresses, without a zone), RFC 4632, 3.1 (an address, `/`,
--- a length), and IEEE 802 (six pairs of hexadecimal digits with colons).
+-- The texts of addresses, MACs and prefixes: RFC 3986, 3.2.2 (IPv4address), RFC 4291, 2.2 (IPv6
+-- addresses, without a zone), RFC 4632, 3.1 (an address, `/`, a length), and IEEE 802 (six pairs
+-- of hexadecimal digits with colons).
 use Rattle.std.specs.Prelude.{◌≡◌, ℕ, zero, suc, ◌+◌, ◌-◌, ◌*◌, ◌/◌, ◌%◌, ◌^◌, ◌<◌, ◌≤◌, ◌⊎◌, List, [], ◌∷◌, ◌++◌, length, take, Bool, true, false, codes}
 use Rattle.std.specs.Char.{digit_value}
 use Rattle.std.specs.Fmt.{decimal, digit_glyph}
@@ -13,18 +14,25 @@ use Rattle.net_addr.specs.declared.address.Addr.TheVariants.{V4, V6}
 use Rattle.net_addr.specs.declared.spelling.Part.{Part}
 use Rattle.net_addr.specs.declared.spelling.Part.TheVariants.{Number, Digit, Mark, Group, Gap}
 
--- the text has these parts in order, and n is `start` with their numbers behind it: decimal ones in base 2^8, hexadecimal digits in base 2^4,
--- groups of one to four of them in base 2^16, and for a gap so many groups of zeros
--- (`decimal m` is m without leading zeros; `digit_value` reads digits in either case)
+-- the text has these parts in order, and n is `start` with their numbers after it: decimal ones
+-- in base 2^8, hexadecimal digits in base 2^4, groups of one to four of them in base 2^16, and for
+-- a gap so many groups of zeros (`decimal m` is m without leading zeros; `digit_value` reads
+-- digits in either case)
 unfoldable pub Spells : List Part → ℕ → Text → ℕ → Type 0
 Spells [] start text n = (text ≡ []) × (n ≡ start)
-Spells (Number top ∷ parts) start text n = (m : ℕ) × (rest : Text) × (m ≤ top) × (text ≡ decimal m ++ rest) × Spells parts (start * 256 + m) rest n
-Spells (Digit ∷ parts) start text n = (c : ℕ) × (rest : Text) × (digit_value c < 16) × (text ≡ c ∷ rest) × Spells parts (start * 16 + digit_value c) rest n
+Spells (Number top ∷ parts) start text n =
+    (m : ℕ) × (rest : Text) × (m ≤ top) × (text ≡ decimal m ++ rest)
+    × Spells parts (start * 256 + m) rest n
+Spells (Digit ∷ parts) start text n =
+    (c : ℕ) × (rest : Text) × (digit_value c < 16) × (text ≡ c ∷ rest)
+    × Spells parts (start * 16 + digit_value c) rest n
 Spells (Mark c ∷ parts) start text n = (rest : Text) × (text ≡ c ∷ rest) × Spells parts start rest n
 Spells (Group ∷ parts) start text n =
-    (ds : Text) × (rest : Text) × (0 < length ds) × (length ds ≤ 4) × AllDigits 16 ds × (text ≡ ds ++ rest)
+    (ds : Text) × (rest : Text) × (0 < length ds) × (length ds ≤ 4) × AllDigits 16 ds
+    × (text ≡ ds ++ rest)
     × Spells parts (start * 2 ^ 16 + digits_value 16 ds) rest n
-Spells (Gap k ∷ parts) start text n = (rest : Text) × (text ≡ 58 ∷ rest) × Spells parts (start * 2 ^ (16 * k)) rest n
+Spells (Gap k ∷ parts) start text n =
+    (rest : Text) × (text ≡ 58 ∷ rest) × Spells parts (start * 2 ^ (16 * k)) rest n
 
 -- the text has these parts
 abbrev pub IsTextOf : List Part → Text → Type 0
@@ -40,7 +48,7 @@ mac_parts =
     Digit ∷ Digit ∷ Mark 58 ∷ Digit ∷ Digit ∷ Mark 58 ∷ Digit ∷ Digit ∷ Mark 58
     ∷ Digit ∷ Digit ∷ Mark 58 ∷ Digit ∷ Digit ∷ Mark 58 ∷ Digit ∷ Digit ∷ []
 
--- so many groups, each with a colon behind it
+-- so many groups, each with a colon after it
 abbrev pub groups_before : ℕ → List Part
 groups_before zero = []
 groups_before (suc k) = Group ∷ Mark 58 ∷ groups_before k
@@ -50,7 +58,7 @@ abbrev pub row_parts : ℕ → List Part
 row_parts zero = []
 row_parts (suc k) = groups_before k ++ (Group ∷ [])
 
--- so many groups, and an IPv4 text behind them if there is a tail
+-- so many groups, and an IPv4 text after them if there is a tail
 abbrev pub end_parts : Bool → ℕ → List Part
 end_parts false k = row_parts k
 end_parts true k = groups_before k ++ address_parts
@@ -62,14 +70,17 @@ group_count true = 6
 
 -- `::` between so many groups and so many, for all the others
 abbrev pub shortened_parts : Bool → ℕ → ℕ → List Part
-shortened_parts has_tail left right = row_parts left ++ (Mark 58 ∷ Gap (group_count has_tail - (left + right)) ∷ end_parts has_tail right)
+shortened_parts has_tail left right =
+    row_parts left
+    ++ (Mark 58 ∷ Gap (group_count has_tail - (left + right)) ∷ end_parts has_tail right)
 
 -- the forms of version 6: all groups are written, or `::` stands for one or more groups of zeros
 abbrev pub IsForm : List Part → Type 0
 IsForm parts =
     (has_tail : Bool)
     × ((parts ≡ end_parts has_tail (group_count has_tail))
-    ⊎ ((left : ℕ) × (right : ℕ) × (left + right < group_count has_tail) × (parts ≡ shortened_parts has_tail left right)))
+    ⊎ ((left : ℕ) × (right : ℕ) × (left + right < group_count has_tail)
+    × (parts ≡ shortened_parts has_tail left right)))
 
 -- the text spells the address n
 unfoldable pub SpellsAddress : Text → ℕ → Type 0
@@ -90,7 +101,9 @@ SpellsAddr text (V6 n) = SpellsAddress6 text n
 
 -- the text is an address, `/` and a number to 32 or 128
 unfoldable pub SpellsCidr : Text → Written → Type 0
-SpellsCidr text w = (front : Text) × SpellsAddr front w.addr × (w.len ≤ width w.addr) × (text ≡ front ++ codes "/" ++ decimal w.len)
+SpellsCidr text w =
+    (front : Text) × SpellsAddr front w.addr × (w.len ≤ width w.addr)
+    × (text ≡ front ++ codes "/" ++ decimal w.len)
 
 -- a text that spells one
 abbrev pub IsAddressText : Text → Type 0
@@ -120,7 +133,9 @@ pub record IsLongestStart (IsText : Text → Type 0) (text : Text) (at : ℕ) : 
 
 -- the one canonical text of an address
 unfoldable pub address_text : ℕ → Text
-address_text n = decimal (n / 2 ^ 24) ++ codes "." ++ decimal (n / 2 ^ 16 % 256) ++ codes "." ++ decimal (n / 2 ^ 8 % 256) ++ codes "." ++ decimal (n % 256)
+address_text n =
+    decimal (n / 2 ^ 24) ++ codes "." ++ decimal (n / 2 ^ 16 % 256) ++ codes "."
+    ++ decimal (n / 2 ^ 8 % 256) ++ codes "." ++ decimal (n % 256)
 
 -- a byte as two hexadecimal digits in lower case
 abbrev pub pair_text : ℕ → Text
@@ -129,8 +144,10 @@ pair_text b = digit_glyph false (b / 16) ∷ digit_glyph false (b % 16) ∷ []
 -- the one canonical text of a MAC
 unfoldable pub mac_text : ℕ → Text
 mac_text n =
-    pair_text (n / 2 ^ 40) ++ codes ":" ++ pair_text (n / 2 ^ 32 % 256) ++ codes ":" ++ pair_text (n / 2 ^ 24 % 256) ++ codes ":"
-    ++ pair_text (n / 2 ^ 16 % 256) ++ codes ":" ++ pair_text (n / 2 ^ 8 % 256) ++ codes ":" ++ pair_text (n % 256)
+    pair_text (n / 2 ^ 40) ++ codes ":" ++ pair_text (n / 2 ^ 32 % 256) ++ codes ":"
+    ++ pair_text (n / 2 ^ 24 % 256) ++ codes ":"
+    ++ pair_text (n / 2 ^ 16 % 256) ++ codes ":" ++ pair_text (n / 2 ^ 8 % 256) ++ codes ":"
+    ++ pair_text (n % 256)
 
 -- the one printed text of an address of either version
 abbrev pub addr_text : Addr → Text

@@ -172,7 +172,7 @@ impl Mac {
 }
 
 impl Cidr {
-    /// The prefix, with the address's bits behind the length cleared.
+    /// The prefix, with the address's bits after the length cleared.
     #[tactic(auto, using(crate::proofs::PrefixLemmas::cleared_away, crate::proofs::PrefixLemmas::cleared_at), unfolding(crate::specs::Prefixes::prefix_of))]
     pub fn prefix(self) -> Prefix
         ensures { result ≡ prefix_of self }
@@ -186,7 +186,7 @@ impl Cidr {
         }
     }
 
-    /// Whether the address's bits behind the length are zero.
+    /// Whether the address's bits after the length are zero.
     #[tactic(auto, unfolding(crate::specs::Prefixes::is_exact, crate::specs::Prefixes::prefix_of))]
     pub fn is_exact(self) -> bool
         ensures { result ≡ is_exact self }
@@ -197,7 +197,7 @@ impl Cidr {
 }
 
 impl Prefix {
-    // How many bits behind the length there are.
+    // How many bits there are after the length.
     fn bits_behind(self) -> u8
         ensures word { result ≡ width self.base - self.len }
         ensures bound { result ≤ 128 }

@@ -8,7 +8,7 @@ use crate::read::ADDRESS;
 use crate::spelling::{BadAddress, Part, read_parts};
 use std::marker::Model;
 
-// Eight groups, each with a colon behind it.
+// Eight groups, each with a colon after it.
 const GROUPS: [Part; 16] = [
     Part::Group,
     Part::Mark(b':'),
@@ -81,7 +81,7 @@ impl Form {
         self.push_all(&GROUPS[..len]);
     }
 
-    // Groups with colons between, and an IPv4 text behind them if there is a tail.
+    // Groups with colons between, and an IPv4 text after them if there is a tail.
     fn push_end(&mut self, count: u8, has_tail: bool)
         requires { length self.old + 2 * count ≤ 2 * group_count has_tail }
         ensures { self.new ≡ self.old ++ end_parts has_tail count }
@@ -132,7 +132,7 @@ fn read_whole(has_tail: bool, text: &[u8]) -> Result<u128, BadAddress>
     read_parts(form.as_slice(), text)
 }
 
-// The address of a text with `::` behind so many groups.
+// The address of a text with `::` after so many groups.
 fn read_behind(left: u8, has_tail: bool, text: &[u8]) -> Result<u128, BadAddress>
     requires { left < group_count has_tail }
     ensures { IsRead (SpellsBehind has_tail left) text.now result }

@@ -1,4 +1,5 @@
--- A port that Open vSwitch carries is on a host that can carry it, and a router's on its router's host.
+-- A port that Open vSwitch carries is on a host that can carry it, and a router's on its router's
+-- host.
 use Rattle.std.specs.Prelude.{◌||◌, not, Bool, true, false, List}
 use Rattle.std.specs.List.{list_all}
 use Rattle.std.specs.Str.{bytes_eq}
@@ -22,8 +23,13 @@ is_unbound _ = false
 
 -- the part that speaks of no settings
 pub record AreOnHosts (ports : List PortRow) (routers : List RouterRow) : Type 0 where
-  pub at_router : Pass (λ p. not (is_bound p.vif) || list_all (λ r. not (is_port_of r p) || is_some_so (bytes_eq p.host) r.host) routers) ports
+  pub at_router : Pass (λ p.
+      not (is_bound p.vif)
+      || list_all (λ r. not (is_port_of r p) || is_some_so (bytes_eq p.host) r.host) routers) ports
 
 -- the part that speaks of settings, by which segments a host, named so, can carry
-pub record AreCarried (carries : Text → Segment → Bool) (networks : List NetworkRow) (ports : List PortRow) : Type 0 where
-  pub at_host : Pass (λ p. not (is_bound p.vif) || stands_so (λ n. n.id) p.network (λ n. carries p.host n.segment) networks) ports
+pub record AreCarried (carries : Text → Segment → Bool) (networks : List NetworkRow)
+    (ports : List PortRow) : Type 0 where
+  pub at_host : Pass (λ p.
+      not (is_bound p.vif)
+      || stands_so (λ n. n.id) p.network (λ n. carries p.host n.segment) networks) ports

@@ -12,7 +12,8 @@ has_mac network mac p = ident_eq network p.network && (p.mac == mac)
 
 -- how often a port holds an address of a network
 abbrev pub holds_times : Ident → Addr → PortRow → ℕ
-holds_times network x p = cond (ident_eq network p.network) (count_by (λ (f : Fixed). addr_eq f.address x) p.fixed) 0
+holds_times network x p =
+    cond (ident_eq network p.network) (count_by (λ (f : Fixed). addr_eq f.address x) p.fixed) 0
 
 pub record AreHeldOnce (ports : List PortRow) : Type 0 where
   pub macs : (network : Ident) (mac : ℕ) → count_by (has_mac network mac) ports ≤ 1
