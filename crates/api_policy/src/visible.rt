@@ -33,7 +33,7 @@ pub(crate) fn owns_network(rows: &Rows, project: &Text, network: Id) -> bool
     ensures { result ≡ owns_network_of rows.now project.now network }
 {
     let networks = rows.networks();
-    let _own_ids = networks.rows();
+    let _own_ids = networks.rows(); // for the proof: no two networks have one id
     match networks.get(network) {
         Some(network) => network.project == *project,
         None => false,
@@ -45,7 +45,7 @@ pub(crate) fn uses_network(rows: &Rows, project: &Text, network: Id) -> bool
     ensures { result ≡ uses_network_of rows.now project.now network }
 {
     let networks = rows.networks();
-    let _own_ids = networks.rows();
+    let _own_ids = networks.rows(); // for the proof: no two networks have one id
     match networks.get(network) {
         Some(network) => {
             network.project == *project || rows.is_shared_with(network.id, project)
@@ -124,7 +124,7 @@ impl Visible for PolicyRow {
 fn is_seen_in<R: Visible>(rows: &Rows, caller: &Caller, table: &Table<R>, id: Id) -> bool
     ensures { result ≡ stands_so R.id_of id (R.seen rows.now caller.now) table.now }
 {
-    let _own_ids = table.rows();
+    let _own_ids = table.rows(); // for the proof: no two rows have one id
     match table.get(id) {
         Some(row) => row.is_seen(rows, caller),
         None => false,

@@ -29,7 +29,7 @@ fn is_live(rows: &Rows, port: &PortRow) -> bool
         return false;
     }
     let networks = rows.networks();
-    let _own_ids = networks.rows();
+    let _own_ids = networks.rows(); // for the proof: no two networks have one id
     match networks.get(port.network) {
         Some(network) => network.up,
         None => false,

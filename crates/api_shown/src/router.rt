@@ -25,7 +25,7 @@ fn gateway_addresses(alloc: Global, rows: &Rows, gateway: &Gateway) -> Result<Pr
         (fixed_of (row_of (λ (r : PortRow). r.id) gateway.now.port rows.now.ports))) }
 {
     let ports = rows.ports();
-    let _own_ids = ports.rows();
+    let _own_ids = ports.rows(); // for the proof: no two ports have one id
     match ports.get(gateway.port) {
         Some(port) => port.fixed.printed(alloc),
         None => Ok(Printed::Items(Vec::new(alloc))),

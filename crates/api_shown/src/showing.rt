@@ -99,7 +99,7 @@ fn shown_in<R: Shows>(
         shown_as kind caller.now.admin fields.now (R.members_of rows.now caller.now r))
         (row_of R.id_of id table.now)) }
 {
-    let _own_ids = table.rows();
+    let _own_ids = table.rows(); // for the proof: no two rows have one id
     match table.get(id) {
         Some(row) => Ok(Some(shown_of(alloc, rows, caller, kind, row, fields)?)),
         None => Ok(None),

@@ -51,7 +51,7 @@ impl World {
         ensures kept { Tells (K.kept keeper.new) self.new.history.rows }
         ensures told { is_some (K.kept keeper.new) ≡ is_some (K.kept keeper.old) }
     {
-        let _world = self.rows();
+        let _world = self.rows(); // for the proof: brings in the world's invariant
         let Planned { change, answer } = self.machine.plan(alloc, caller, call)?;
         if let Some(change) = change {
             self.keep(alloc, keeper, change)?;

@@ -162,7 +162,7 @@ impl World {
         ensures kept { Tells (K.kept keeper.new) self.new.history.rows }
         ensures told { is_some (K.kept keeper.new) ≡ is_some (K.kept keeper.old) }
     {
-        let _world = self.rows();
+        let _world = self.rows(); // for the proof: brings in the world's invariant
         match ask {
             Ask::Api(call) => match self.answer(alloc, keeper, caller, call) {
                 Ok(answer) => Reply::Done(answer),

@@ -280,7 +280,7 @@ impl Prefix {
         ensures bound { IsAddr other.base }
     {
         let base = other.base;
-        let _number = base.number();
+        let _number = base.number(); // for the proof: the number fits the version
         self.contains(base)
     }
 
