@@ -130,7 +130,7 @@ impl AgentNode {
             tables,
             old: _,
         } = ready;
-        self.entries.keep_placed(&tables);
+        self.entries.keep_attached(&tables);
         self.held = Some(version);
         self.version = version;
         self.rows = rows;

@@ -30,6 +30,6 @@ pub(crate) fn kept_entries(
         entries.reserve(1)?;
         entries.add(entry_of(port));
     }
-    entries.keep_placed(tables);
+    entries.keep_attached(tables);
     Ok(entries.as_slice().len())
 }

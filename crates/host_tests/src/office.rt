@@ -179,11 +179,11 @@ pub(crate) fn first_host(alloc: Global) -> Result<TableLists, OutOfMemory> {
     add_filters(&mut tables, FIRST)?;
     add_sets(&mut tables)?;
     let dhcp = BridgeTo::Tap(id(DHCP));
-    tables.bridge.put(at_dhcp(HERE, dhcp))?;
+    tables.bridge.insert(at_dhcp(HERE, dhcp))?;
     let first = BridgeTo::Tap(id(FIRST));
-    tables.bridge.put(at_mac(HERE, FIRST, first))?;
+    tables.bridge.insert(at_mac(HERE, FIRST, first))?;
     let second = tunnel(alloc, "c2")?;
-    tables.bridge.put(at_mac(HERE, SECOND, second))?;
+    tables.bridge.insert(at_mac(HERE, SECOND, second))?;
     tables.inward.push(InwardRow {
         carrier: Carrier::Tunnel(1),
         tag: HERE,
@@ -202,18 +202,18 @@ pub(crate) fn second_host(alloc: Global) -> Result<TableLists, OutOfMemory> {
     tables.taps.push(tap(alloc, SECOND, THERE, true)?)?;
     add_filters(&mut tables, SECOND)?;
     add_sets(&mut tables)?;
-    tables.bridge.put(at_dhcp(THERE, tunnel(alloc, "c1")?))?;
+    tables.bridge.insert(at_dhcp(THERE, tunnel(alloc, "c1")?))?;
     let first = tunnel(alloc, "c1")?;
-    tables.bridge.put(at_mac(THERE, FIRST, first))?;
+    tables.bridge.insert(at_mac(THERE, FIRST, first))?;
     let second = BridgeTo::Tap(id(SECOND));
-    tables.bridge.put(at_mac(THERE, SECOND, second))?;
+    tables.bridge.insert(at_mac(THERE, SECOND, second))?;
     tables.inward.push(InwardRow {
         carrier: Carrier::Tunnel(1),
         tag: THERE,
     })?;
     for n in [FIRST, SECOND] {
         let row = neighbour(THERE, &Addr::V4(inner(n)), mac(n));
-        tables.neighbours.put(row)?;
+        tables.neighbours.insert(row)?;
     }
     Ok(tables)
 }

@@ -111,10 +111,10 @@ fn add_neighbours(tables: &mut TableLists) -> Result<(), OutOfMemory> {
     let _address = Addr::V4(inner(1));
     for (n, port) in [(1, INSIDE), (FIRST, FIRST), (SECOND, SECOND)] {
         let row = neighbour(HERE, &Addr::V4(inner(n)), mac(port));
-        tables.neighbours.put(row)?;
+        tables.neighbours.insert(row)?;
     }
     let row = neighbour(BEYOND, &Addr::V4(outer(2)), mac(OUTSIDE));
-    tables.neighbours.put(row)
+    tables.neighbours.insert(row)
 }
 
 pub(crate) fn to_router(port: u8) -> BridgeTo {
@@ -129,10 +129,10 @@ pub(crate) fn routing_host(alloc: Global) -> Result<TableLists, OutOfMemory> {
     let mut tables = first_host(alloc)?;
     let beyond = tag_row(EXTERNAL, BEYOND, Some(wire(alloc)?));
     tables.tags.push(beyond)?;
-    tables.bridge.put(at_mac(HERE, INSIDE, to_router(INSIDE)))?;
+    tables.bridge.insert(at_mac(HERE, INSIDE, to_router(INSIDE)))?;
     tables
         .bridge
-        .put(at_mac(BEYOND, OUTSIDE, to_router(OUTSIDE)))?;
+        .insert(at_mac(BEYOND, OUTSIDE, to_router(OUTSIDE)))?;
     tables.inward.push(InwardRow {
         carrier: Carrier::Wire(wire(alloc)?),
         tag: BEYOND,
@@ -156,6 +156,6 @@ pub(crate) fn add_float(tables: &mut TableLists) -> Result<(), OutOfMemory> {
 pub(crate) fn lab_with(alloc: Global, first: TableLists) -> Result<Lab, Fail> {
     let mut second = second_host(alloc)?;
     let inside = tunnel(alloc, "c1")?;
-    second.bridge.put(at_mac(THERE, INSIDE, inside))?;
+    second.bridge.insert(at_mac(THERE, INSIDE, inside))?;
     lab_of(alloc, first, second)
 }

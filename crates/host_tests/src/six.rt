@@ -67,15 +67,15 @@ fn host_with(
         prefix: prefix_six(INNER + u128::from(FIRST), 128),
     })?;
     let there = tunnel(alloc, host)?;
-    tables.bridge.put(at_mac(tag, other, there))?;
-    tables.bridge.put(at_mac(tag, n, BridgeTo::Tap(id(n))))?;
+    tables.bridge.insert(at_mac(tag, other, there))?;
+    tables.bridge.insert(at_mac(tag, n, BridgeTo::Tap(id(n))))?;
     tables.inward.push(InwardRow {
         carrier: Carrier::Tunnel(1),
         tag,
     })?;
     for k in [SECOND, FIRST] {
         let row = neighbour(tag, &Addr::V6(inner(k)), mac(k));
-        tables.neighbours.put(row)?;
+        tables.neighbours.insert(row)?;
     }
     Ok(tables)
 }

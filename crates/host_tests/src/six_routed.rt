@@ -45,18 +45,18 @@ fn add_neighbours(tables: &mut TableLists) -> Result<(), OutOfMemory> {
         (HERE, inner(1), INSIDE),
     ] {
         let row = neighbour(tag, &Addr::V6(address), mac(n));
-        tables.neighbours.put(row)?;
+        tables.neighbours.insert(row)?;
     }
     Ok(())
 }
 
 fn add_bridge(tables: &mut TableLists) -> Result<(), OutOfMemory> {
     let first = BridgeTo::Tap(id(FIRST));
-    tables.bridge.put(at_mac(HERE, FIRST, first))?;
+    tables.bridge.insert(at_mac(HERE, FIRST, first))?;
     let inside = to_router(INSIDE);
-    tables.bridge.put(at_mac(HERE, INSIDE, inside))?;
+    tables.bridge.insert(at_mac(HERE, INSIDE, inside))?;
     let outside = to_router(OUTSIDE);
-    tables.bridge.put(at_mac(BEYOND, OUTSIDE, outside))
+    tables.bridge.insert(at_mac(BEYOND, OUTSIDE, outside))
 }
 
 // A host with an instance that isn't filtered and a router to an external network.

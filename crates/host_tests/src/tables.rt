@@ -15,7 +15,7 @@ const EIGHT: BridgeKey = BridgeKey::Mac(Mac(0x0200_0000_0008));
 // Two rows, of which the first to be put comes last.
 fn bridge(alloc: Global) -> Result<Ascending<BridgeRow>, OutOfMemory> {
     let mut rows = Ascending::new(alloc);
-    rows.put(BridgeRow {
+    rows.insert(BridgeRow {
         tag: 1,
         key: EIGHT,
         to: BridgeTo::Tunnel {
@@ -23,7 +23,7 @@ fn bridge(alloc: Global) -> Result<Ascending<BridgeRow>, OutOfMemory> {
             number: 1,
         },
     })?;
-    rows.put(BridgeRow {
+    rows.insert(BridgeRow {
         tag: 1,
         key: SEVEN,
         to: BridgeTo::Tap(Id::make(1, 7)),

@@ -17,13 +17,13 @@ fn host_with(alloc: Global, n: u8, tag: u16) -> Result<TableLists, OutOfMemory> 
         .tags
         .push(tag_row(EXTERNAL, tag, Some(wire(alloc)?)))?;
     tables.taps.push(tap(alloc, n, tag, false)?)?;
-    tables.bridge.put(at_mac(tag, n, BridgeTo::Tap(id(n))))?;
+    tables.bridge.insert(at_mac(tag, n, BridgeTo::Tap(id(n))))?;
     tables.inward.push(InwardRow {
         carrier: Carrier::Wire(wire(alloc)?),
         tag,
     })?;
     let row = neighbour(tag, &Addr::V4(inner(n)), mac(n));
-    tables.neighbours.put(row)?;
+    tables.neighbours.insert(row)?;
     Ok(tables)
 }
 

@@ -3,7 +3,6 @@
 ghost use Rattle.std.specs.Prelude.{◌≡◌, ◌++◌, [], ◌∷◌, IfOk, if◌then◌else◌, map, suc};
 ghost use Rattle.api_types.specs.declared.group.Direction.TheVariants.{Egress as Outward};
 ghost use Rattle.api_types.specs.RowsWith.{port_with};
-ghost use Rattle.api_types.specs.declared.port.PortRow.{PortRow as ThePort};
 ghost use Rattle.plane_types.specs.Meaning.{drop_fate as dropped_by, from_live as from_live_by, from_network as from_network_by, from_port as from_port_by, from_sender as from_sender_by, from_wire as from_wire_by, port_fate as got_by, life_of, none_so_far as nothing_so_far, on_path, rows_fate, rows_passage, sent_on as sent_on_by, sent_out as sent_out_by, wire_packet as wire_packet_by};
 ghost use Rattle.api_types.specs.Wires.{network_on as network_on_wire};
 ghost use Rattle.api_types.specs.Holders.{port_at as port_by_mac};

@@ -2,7 +2,7 @@
 
 ghost use Rattle.std.specs.Prelude.{◌≡◌, ◌≤◌, []};
 ghost use Rattle.std.specs.List.{filter};
-ghost use Rattle.plane_types.specs.Attached.{is_attached as is_placed_at};
+ghost use Rattle.plane_types.specs.Attached.{is_attached as is_attached_at};
 
 use crate::entry::Entry;
 use crate::spare_vec::SpareVec;
@@ -25,17 +25,17 @@ impl SpareVec<Entry> {
 
     /// Drops the entries of ports without a tap by these tables, and of routers that they haven't.
     /// It takes no memory. Its cost grows with the entries.
-    pub fn keep_placed(&mut self, tables: &HostTables)
-        ensures items { self.new.items ≡ filter (is_placed_at tables.now.lists) self.old.items }
+    pub fn keep_attached(&mut self, tables: &HostTables)
+        ensures items { self.new.items ≡ filter (is_attached_at tables.now.lists) self.old.items }
         ensures spare { self.old.spare ≤ self.new.spare }
     {
-        self.items.retain(|entry| is_placed(tables, entry));
+        self.items.retain(|entry| is_attached(tables, entry));
     }
 }
 
 // Whether an entry is of a tap or of a router of these tables.
-fn is_placed(tables: &HostTables, entry: &Entry) -> bool
-    ensures { result ≡ is_placed_at tables.now.lists entry.now }
+fn is_attached(tables: &HostTables, entry: &Entry) -> bool
+    ensures { result ≡ is_attached_at tables.now.lists entry.now }
 {
     match *entry {
         Entry::Flow { port, .. } => tables.has_tap(port),

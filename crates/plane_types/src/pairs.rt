@@ -1,4 +1,4 @@
-//! Allowed pairs of a tap.
+//! Allowed pairs of a tap or a port: a MAC with a prefix.
 
 ghost use Rattle.std.specs.Prelude.{◌≡◌, ◌&&◌, ◌==◌};
 ghost use Rattle.std.specs.List.{list_any};

@@ -329,7 +329,7 @@ fn hosts(rt: HostRuntime) -> Result<(), Fail> {
 // Tables without rows but for one of the bridge and one of the filters.
 fn tables(alloc: Global) -> Result<TableLists, OutOfMemory> {
     let mut bridge = Ascending::new(alloc);
-    bridge.put(BridgeRow {
+    bridge.insert(BridgeRow {
         tag: 1,
         key: BridgeKey::Mac(Mac(0x0200_0000_0005)),
         to: BridgeTo::Tunnel {

@@ -14,5 +14,5 @@ invariant_of-self c =
     record {
       consistent = c.ready.invariant.consistent;
       realised = subst (λ name. Realises ready.rows name ready.tables.lists) same c.ready.invariant.realised;
-      placed = subst (λ (es : List Entry). IsAttached (record { name = node.name; tables = ready.tables.lists; entries = es })) (sym c.keep_placed.ensures.items) (stay_placed node.name node.tables.lists ready.tables.lists node.entries.items c.self.invariant.placed);
+      placed = subst (λ (es : List Entry). IsAttached (record { name = node.name; tables = ready.tables.lists; entries = es })) (sym c.keep_attached.ensures.items) (stay_placed node.name node.tables.lists ready.tables.lists node.entries.items c.self.invariant.placed);
     }
