@@ -14,7 +14,7 @@ returns-in-Some g c =
     let a = last_apart c.args.kind part id_of c.args.table.now items c.loop-i.i item c.loop-i-test.true c.index-items-items.is c.loop-i.invariant.fit in
     let fewer = take (length items - (c.loop-i.i + 1)) items in
     let rows = after_all c.args.kind part c.args.table.now fewer in
-    let own = own_all c.args.kind part id_of c.args.table.now fewer c.rows-_own_ids.ensures.own_ids a.rest in
+    let own = own_all c.args.kind part id_of c.args.table.now fewer c.rows-own_ids.ensures.own_ids a.rest in
     sym (said_there c.args.kind part id_of c.args.id rows item c.in-Some.there own a.fits c.in-Some.ensures)
     ∙ ap (λ rs. is_some (row_of id_of c.args.id rs)) a.leads ∙ c.loop-i.invariant.there
 
@@ -27,7 +27,7 @@ loop-i-preserved g c =
     let a = last_apart c.args.kind part id_of c.args.table.now items c.loop-i.i item c.loop-i-test.true c.index-items-items.is c.loop-i.invariant.fit in
     let fewer = take (length items - (c.loop-i.i + 1)) items in
     let rows = after_all c.args.kind part c.args.table.now fewer in
-    let own = own_all c.args.kind part id_of c.args.table.now fewer c.rows-_own_ids.ensures.own_ids a.rest in
+    let own = own_all c.args.kind part id_of c.args.table.now fewer c.rows-own_ids.ensures.own_ids a.rest in
     record {
       fit = a.rest;
       there = sym (said_nothing c.args.kind part id_of c.args.id rows item own a.fits c.in_default.ensures)
