@@ -161,16 +161,16 @@ module _ {R : Type 0} (kind : Kind) (part : Row → Option R) (id_of : R → Ide
 
   back_item : (rows : List R) (place at : ℕ) (before : Option R) (after : Option Row) → IsOfKind part after → FitsAt id_of rows place before (option_and_then part after)
       → IsBack (edited_at rows place before (option_and_then part after)) rows at (option_and_then part after)
-          (if is_some after then (if place == at then None else Some at) else (if nat_le place at then Some (at + 1) else Some at))
+      (if is_some after then (if place == at then None else Some at) else (if nat_le place at then Some (at + 1) else Some at))
   back_item rows place at before None is fits = back_removed rows place at None (nat_le place at) refl
   back_item rows place at before (Some row) is fits = back_some rows place at before (part row) is fits
 
   back_one : (rows : List R) (item : Item) (at : ℕ) (b : Bool) → FitsIf b part id_of rows item
       → IsBack (cond b (edited part rows item) rows) rows at (option_and_then part item.after)
-          (if b then
-            (if is_some item.after then (if item.place == at then None else Some at)
-            else (if nat_le item.place at then Some (at + 1) else Some at))
-          else Some at)
+      (if b then
+      (if is_some item.after then (if item.place == at then None else Some at)
+      else (if nat_le item.place at then Some (at + 1) else Some at))
+      else Some at)
   back_one rows item at true fits = back_item rows item.place at (option_and_then part item.before) item.after fits.1 fits.2
   back_one rows item at false fits = refl
 

@@ -27,8 +27,8 @@ same_kind _ _ = false
 abbrev pub place_before : Kind → Item → ℕ → Option ℕ
 place_before kind item at =
     if same_kind item.kind kind then
-      (if is_some item.after then (if item.place == at then None else Some at)
-      else (if nat_le item.place at then Some (at + 1) else Some at))
+    (if is_some item.after then (if item.place == at then None else Some at)
+    else (if nat_le item.place at then Some (at + 1) else Some at))
     else Some at
 
 module _ {R : Type 0} where
@@ -67,5 +67,5 @@ module _ {R : Type 0} where
   abbrev pub said_by : Kind → (Row → Option R) → (R → Ident) → Ident → Item → Option Bool
   said_by kind part id_of i item =
       if same_kind item.kind kind then
-        said_of id_of i (option_and_then part item.before) (option_and_then part item.after)
+      said_of id_of i (option_and_then part item.before) (option_and_then part item.after)
       else None

@@ -210,7 +210,14 @@ fn fits_table<R: OfKind + Same>(table: &Table<R>, kind: Kind, items: &[Item], it
 {
     is_of_kind::<R>(&item.before)
         && is_of_kind::<R>(&item.after)
-        && fits_at(table, kind, items, item.place, part(&item.before), part(&item.after))
+        && fits_at(
+            table,
+            kind,
+            items,
+            item.place,
+            part(&item.before),
+            part(&item.after),
+        )
 }
 
 fn fits_item(rows: &Rows, earlier: &[Item], item: &Item) -> bool

@@ -6,10 +6,13 @@ use Rattle.api_types.proofs.KindLemmas.{Fits-at}
 use Rattle.api_types.proofs.fits.fit_rows.Goals as goal
 
 pub returns-then-not-fits_item : goal.returns-then-not-fits_item
-returns-then-not-fits_item c = ((λ t. absurd (true≢false (sym t))), (λ fits.
-    let yes = c.fits_item.ensures.1 (Fits-at c.args.rows.now c.args.items.now c.index-items-place.result c.loop-place.place c.loop-place-test.true c.index-items-place.is fits) in
-    let no = c.if-not-fits_item.true in
-    absurd cc))
+returns-then-not-fits_item c = (
+  (λ t. absurd (true≢false (sym t))),
+  (λ fits.
+      let yes = c.fits_item.ensures.1 (Fits-at c.args.rows.now c.args.items.now c.index-items-place.result c.loop-place.place c.loop-place-test.true c.index-items-place.is fits) in
+      let no = c.if-not-fits_item.true in
+      absurd cc),
+)
 
 pub loop-place-preserved : goal.loop-place-preserved
 loop-place-preserved c =

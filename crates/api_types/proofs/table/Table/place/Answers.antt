@@ -2,7 +2,7 @@ use Rattle.std.proofs.Common.{◌≡◌, ◌∙◌, ap, sym, subst, slice_get, L
 use Rattle.std.specs.Prelude.{is_some, IfSome}
 use Rattle.std.specs.List.{position}
 use Rattle.std.specs.Map.{keys_of, lookup}
-use Rattle.indexmap.specs.IndexMap.{get_by}
+use Rattle.indexmap.specs.IndexMap.{get_by, values}
 use Rattle.api_types.specs.Table.{entries_of, row_of, ident_eq}
 use Rattle.api_types.proofs.TableLemmas.{keys-entries_of, lookup-entries_of, row_found, place_within}
 use Rattle.api_types.proofs.table.Table.place.Goals as goal
@@ -18,7 +18,7 @@ found g c = c.get_index_of.ensures.found ∙ ap is_some (row_is g c)
 stands : (g : _) (c : goal.After-get_index_of g) → IfSome c.get_index_of.result (λ k. slice_get c.args.self.now k ≡ row_of g.R.Keyed.id_of c.args.id c.args.self.now)
 stands g c =
     subst (λ rows. IfSome c.get_index_of.result (λ k. slice_get rows k ≡ row_of g.R.Keyed.id_of c.args.id c.args.self.now)) c.self.view_is
-    (subst (λ row. IfSome c.get_index_of.result (λ k. slice_get _ k ≡ row)) (row_is g c) c.get_index_of.ensures.value)
+    (subst (λ row. IfSome c.get_index_of.result (λ k. slice_get (values c.self.inside.by_id) k ≡ row)) (row_is g c) c.get_index_of.ensures.value)
 
 pub returns-clause-place : goal.returns-clause-place
 returns-clause-place g c =
