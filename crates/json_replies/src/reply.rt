@@ -113,6 +113,7 @@ fn answered(alloc: Global, answer: &Answer) -> Result<Bytes, OutOfMemory>
 }
 
 // The numbers of the kept changes.
+#[derive(Drop)]
 struct KeptNumbers {
     first: u64,
     last: u64,
@@ -130,6 +131,7 @@ impl Prints for KeptNumbers {
 }
 
 // The number of a change.
+#[derive(Drop)]
 struct ChangeNumber {
     number: u64,
 }
@@ -145,6 +147,7 @@ impl Prints for ChangeNumber {
 }
 
 // The numbers of a page.
+#[derive(Drop)]
 struct PageNumbers {
     version: u64,
     number: u64,
