@@ -1,5 +1,5 @@
 -- The table of one kind after the items of a change: its rows, its length and its ids.
-use Rattle.std.proofs.Common.{◌≡◌, ℕ, zero, suc, ◌+◌, ◌-◌, ◌<◌, ◌≤◌, List, [], ◌∷◌, ◌++◌, Bool, true, false, cond, Option, None, Some, length, take, slice_get, slice_set, remove, refl, ap, sym, ◌∙◌, subst, arith, ◌≢◌, true≢false}
+use Rattle.std.proofs.Common.{◌≡◌, ℕ, zero, suc, ◌+◌, ◌-◌, ◌<◌, ◌≤◌, List, [], ◌∷◌, ◌++◌, Bool, true, false, cond, Option, None, Some, length, take, get_or, slice_get, slice_set, remove, refl, ap, sym, ◌∙◌, subst, arith, ◌≢◌, true≢false}
 use Rattle.std.specs.Prelude.{option_and_then, is_some, nat_le, ◌==◌, IsSome, if◌then◌else◌, ⊤}
 use Rattle.std.proofs.lemmas.Option.{slice_get_within, slice_get_past}
 use Rattle.std.proofs.lemmas.Bool.Decides.{nat_tests}
@@ -12,6 +12,7 @@ use Rattle.api_types.specs.declared.kind.Kind.{Kind}
 use Rattle.api_types.specs.declared.kind.Row.{Row}
 use Rattle.api_types.proofs.NameLemmas.{ident_same}
 use Rattle.api_types.proofs.EditLemmas.{own_still, absent_removed}
+use Rattle.api_types.proofs.ChangeLemmas.{last_of}
 
 module _ {R : Type 0} where
   -- a place behind the one that closed up, and one in front of it
@@ -79,6 +80,24 @@ module _ {R : Type 0} (kind : Kind) (part : Row → Option R) (id_of : R → Ide
       → FitAll kind part id_of rows items × FitsIf (same_kind item.kind kind) part id_of (after_all kind part rows items) item
   all-parts rows [] item fits = (tt, fits.0)
   all-parts rows (x ∷ items) item fits = let rest = all-parts (after_one kind part rows x) items item fits.1 in ((fits.0, rest.0), rest.1)
+
+  -- the last of the items that are left, apart
+  pub record Apart (rows : List R) (left fewer : List Item) (item : Item) : Type 0 where
+    pub rest : FitAll kind part id_of rows fewer
+    pub fits : FitsIf (same_kind item.kind kind) part id_of (after_all kind part rows fewer) item
+    pub leads : after_one kind part (after_all kind part rows fewer) item ≡ after_all kind part rows left
+
+  pub last_apart : (rows : List R) (items : List Item) (i : ℕ) (item : Item) → i < length items → item ≡ get_or items (length items - 1 - i) item
+      → FitAll kind part id_of rows (take (length items - i) items) → Apart rows (take (length items - i) items) (take (length items - (i + 1)) items) item
+  last_apart rows items i item within is fits =
+      let fewer = take (length items - (i + 1)) items in
+      let last = last_of items i item within is in
+      let parts = all-parts rows fewer item (subst (FitAll kind part id_of rows) last fits) in
+      record {
+        rest = parts.0;
+        fits = parts.1;
+        leads = sym (all-push kind part rows fewer item) ∙ ap (after_all kind part rows) (sym last);
+      }
 
   own_one : (rows : List R) (item : Item) → HaveOwnIds id_of rows → FitsIf (same_kind item.kind kind) part id_of rows item → HaveOwnIds id_of (after_one kind part rows item)
   own_one rows item own fits = by (same_kind item.kind kind) fits

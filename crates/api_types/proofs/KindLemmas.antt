@@ -157,17 +157,9 @@ pub policy_item : (rows : RowLists) (items : List Item) (item : Item) (table : L
     → IsTrue b ↔ FitsTable policy_of (λ r. r.id) (after_all Policy policy_of table items) item → IsTrue b ↔ FitsItem (after rows items) item
 policy_item = item_fits Policy policy_of (λ r. r.id) (λ rows. rows.policies) (λ rows item. (of_one item.kind rows item).policies) (λ rows item fits. (fits_one item.kind rows item fits).policies) (λ rows item. ((λ f. f), (λ f. f)))
 
--- items that fit, up to a place
-pub Fits-front : (rows : RowLists) (items more : List Item) → Fits rows (items ++ more) → Fits rows items
-Fits-front rows [] more fits = tt
-Fits-front rows (x ∷ items) more fits = (fits.0, Fits-front (after_item rows x) items more fits.1)
-
--- and the one at that place
+-- of items that fit, the one at a place
 pub Fits-at : (rows : RowLists) (items : List Item) (item : Item) (place : ℕ) → place < length items → item ≡ get_or items place item → Fits rows items
     → FitsItem (after rows (take place items)) item
 Fits-at rows [] item place within is fits = absurd (omega arith)
-Fits-at rows (x ∷ items) item place within is fits = by place within is
-  where
-    by : (place : ℕ) → place < suc (length items) → item ≡ get_or (x ∷ items) place item → FitsItem (after rows (take place (x ∷ items))) item
-    by zero within is = subst (FitsItem rows) (sym is) fits.0
-    by (suc place) within is = Fits-at (after_item rows x) items item place (omega arith) is fits.1
+Fits-at rows (x ∷ items) item zero within is fits = subst (FitsItem rows) (sym is) fits.0
+Fits-at rows (x ∷ items) item (suc place) within is fits = Fits-at (after_item rows x) items item place (omega arith) is fits.1

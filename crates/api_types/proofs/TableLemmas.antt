@@ -1,6 +1,7 @@
 -- A map that has each row at its id, seen as the list of its rows.
 use Rattle.std.proofs.Common.{◌≡◌, ℕ, ◌<◌, zero, suc, List, [], ◌∷◌, ◌++◌, Bool, false, cond, None, Some, length, map, take, drop, slice_get, slice_set, insert, remove, refl, ap, sym, ◌∙◌, arith}
-use Rattle.std.specs.Prelude.{find, ◌==◌, ◌&&◌}
+use Rattle.std.specs.Prelude.{find, ◌==◌, ◌&&◌, is_some, Option, option_and_then, IfSome}
+use Rattle.std.proofs.lemmas.Option.{slice_get_within}
 use Rattle.std.proofs.lemmas.Bool.Decides.{nat_tests}
 use Rattle.std.proofs.lemmas.List.{map-append, take-map, drop-map}
 use Rattle.std.specs.Map.{keys_of, values_of, lookup}
@@ -69,3 +70,14 @@ module _ {R : Type 0} (id_of : R → Ident) where
   new_here (suc i) r (x ∷ rows) own at =
       let apart : ident_eq (id_of r) (id_of x) ≡ false = ident_eq-sym (id_of r) (id_of x) ∙ differs i r (id_of x) rows own.0 at in
       ap (λ b. cond b (Some x) (row_of id_of (id_of r) (take i rows))) apart ∙ new_here i r rows own.1 at
+
+-- the row at a place that is found
+pub row_found : {R : Type 0} (rows : List R) (place : Option ℕ) (row : Option R) → is_some place ≡ is_some row → IfSome place (λ k. slice_get rows k ≡ row) → option_and_then (slice_get rows) place ≡ row
+row_found rows None None found at = refl
+row_found rows None (Some r) found at = cc
+row_found rows (Some k) row found at = at
+
+pub place_within : {R : Type 0} (rows : List R) (place : Option ℕ) (row : Option R) → is_some place ≡ is_some row → IfSome place (λ k. slice_get rows k ≡ row) → IfSome place (λ k. k < length rows)
+place_within rows None row found at = tt
+place_within rows (Some k) None found at = cc
+place_within rows (Some k) (Some r) found at = slice_get_within rows k r at
