@@ -15,7 +15,8 @@ use Rattle.api_types.specs.declared.port.Fixed.{Fixed}
 use Rattle.api_types.specs.declared.port.PortRow.{PortRow}
 use Rattle.api_types.specs.declared.subnet.SubnetRow.{SubnetRow}
 use Rattle.net_addr.specs.declared.address.Addr.{Addr}
-use Rattle.std.specs.Prelude.{Bool, Err, List, None, Ok, Option, Result, Some, [], false, find, not, option_map, true, ℕ, ◌∷◌, ◌⊎◌, ◌≡◌}
+use Rattle.std.specs.Prelude.{Bool, Err, List, None, Ok, Option, Result, Some, [], false, find, not, option_map, true, ◌∷◌, ◌⊎◌, ◌≡◌}
+use Rattle.net_addr.specs.Words.{MacAddress}
 
 -- the port that is changed holds its first old address; a new one has none
 abbrev pub holder : List PortRow → Ident → List Fixed → Option PortRow
@@ -27,33 +28,33 @@ held_by ports network None x = is_address_held ports network x
 held_by ports network (Some p) x = is_held_by_other ports p x
 
 -- its old addresses, by the MAC address that it will have
-abbrev pub old_of : List SubnetRow → ℕ → Option PortRow → List Fixed
+abbrev pub old_of : List SubnetRow → MacAddress → Option PortRow → List Fixed
 old_of subnets mac None = []
 old_of subnets mac (Some p) = old_renewed subnets p mac
 
 -- whether what is wanted meets the rule of `fixed_ips`
-abbrev pub is_placed_so : List SubnetRow → ℕ → Option PortRow → Wanted → Bool
+abbrev pub is_placed_so : List SubnetRow → MacAddress → Option PortRow → Wanted → Bool
 is_placed_so subnets mac port Free = true
 is_placed_so subnets mac port Gateway = true
 is_placed_so subnets mac port Floating = true
 is_placed_so subnets mac port (These items) = are_placed subnets mac (old_of subnets mac port) items
 
-abbrev pub known_given : List SubnetRow → ℕ → Option PortRow → Given (List FixedAsked) → List Addr
+abbrev pub known_given : List SubnetRow → MacAddress → Option PortRow → Given (List FixedAsked) → List Addr
 known_given subnets mac None asked = first_known subnets mac asked
 known_given subnets mac (Some p) asked = next_known subnets p mac asked
 
-abbrev pub given_fixed : (Addr → Bool) → List SubnetRow → ℕ → Option PortRow → Given (List FixedAsked) → Option (List Fixed)
+abbrev pub given_fixed : (Addr → Bool) → List SubnetRow → MacAddress → Option PortRow → Given (List FixedAsked) → Option (List Fixed)
 given_fixed free subnets mac None asked = first_addresses free subnets mac asked
 given_fixed free subnets mac (Some p) asked = next_addresses free subnets p mac asked
 
 -- what is known of its addresses before pool addresses are chosen
-abbrev pub known_so : List SubnetRow → ℕ → Option PortRow → Wanted → List Addr
+abbrev pub known_so : List SubnetRow → MacAddress → Option PortRow → Wanted → List Addr
 known_so subnets mac port Free = known_given subnets mac port Absent
 known_so subnets mac port Gateway = addresses_of (gateway_euis mac subnets)
 known_so subnets mac port Floating = []
 known_so subnets mac port (These items) = known_given subnets mac port (Is items)
 
-abbrev pub fixed_so : (Addr → Bool) → List SubnetRow → ℕ → Option PortRow → Wanted → Option (List Fixed)
+abbrev pub fixed_so : (Addr → Bool) → List SubnetRow → MacAddress → Option PortRow → Wanted → Option (List Fixed)
 fixed_so free subnets mac port Free = given_fixed free subnets mac port Absent
 fixed_so free subnets mac port Gateway = gateway_addresses free subnets mac
 fixed_so free subnets mac port Floating = option_map (λ f. f ∷ []) (floating_address free subnets)
@@ -68,12 +69,12 @@ choice_of network placed taken fixed = elim placed [
   | false ↦ Err BadFixed
 ]
 
-abbrev pub chosen_for : List PortRow → List SubnetRow → Ident → ℕ → Option PortRow → Wanted → Result (List Fixed) IpamRefusal
+abbrev pub chosen_for : List PortRow → List SubnetRow → Ident → MacAddress → Option PortRow → Wanted → Result (List Fixed) IpamRefusal
 chosen_for ports subnets network mac port wanted =
     choice_of network (is_placed_so subnets mac port wanted) (find (held_by ports network port) (known_so subnets mac port wanted))
     (fixed_so (λ x. not (held_by ports network port x)) subnets mac port wanted)
 
-abbrev pub chosen : RowLists → Ident → ℕ → Wanted → List Fixed → Result (List Fixed) IpamRefusal
+abbrev pub chosen : RowLists → Ident → MacAddress → Wanted → List Fixed → Result (List Fixed) IpamRefusal
 chosen rows network mac wanted old = chosen_for rows.ports (subnets_on rows.subnets network) network mac (holder rows.ports network old) wanted
 
 -- the refusal is the choice's, or memory could not be had

@@ -7,10 +7,11 @@ use Rattle.api_types.specs.declared.port.Fixed.{Fixed}
 use Rattle.api_types.specs.declared.subnet.SubnetRow.{SubnetRow}
 use Rattle.net_addr.specs.Addresses.{addr_eq}
 use Rattle.net_addr.specs.declared.address.Addr.{Addr}
-use Rattle.std.specs.Prelude.{Bool, List, None, Option, Some, [], not, option_map, ℕ, ◌||◌, ◌∷◌}
+use Rattle.std.specs.Prelude.{Bool, List, None, Option, Some, [], not, option_map, ◌||◌, ◌∷◌}
+use Rattle.net_addr.specs.Words.{MacAddress}
 
 -- an item with a subnet has its place in it
-abbrev pub place_for : ℕ → List Fixed → List Addr → FixedAsked → Option SubnetRow → List Place
+abbrev pub place_for : MacAddress → List Fixed → List Addr → FixedAsked → Option SubnetRow → List Place
 place_for mac old taken item None = []
 place_for mac old taken item (Some s) = record { subnet = s; known = known_at mac old taken item.address s } ∷ []
 

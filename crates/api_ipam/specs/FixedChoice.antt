@@ -19,6 +19,7 @@ use Rattle.net_addr.specs.declared.address.Addr.{Addr}
 use Rattle.std.specs.List.{list_all, list_any}
 use Rattle.std.specs.Option.{option_or}
 use Rattle.std.specs.Prelude.{Bool, List, None, Option, Some, [], filter, filter_map, find, if◌then◌else◌, map, not, option_and_then, option_map, take, true, ℕ, ◌&&◌, ◌++◌, ◌+◌, ◌-◌, ◌||◌, ◌∷◌}
+use Rattle.net_addr.specs.Words.{MacAddress}
 
 -- a place in the list
 pub record Place : Type 0 where
@@ -39,18 +40,18 @@ abbrev pub addresses_of : List Fixed → List Addr
 addresses_of fixed = map (λ (f : Fixed). f.address) fixed
 
 -- the address that a MAC address gives in a subnet
-abbrev pub eui_fixed : ℕ → SubnetRow → Fixed
+abbrev pub eui_fixed : MacAddress → SubnetRow → Fixed
 eui_fixed mac s = fixed_at s.id (eui s.prefix mac)
 
 -- of a port whose MAC address changes: the new such addresses in place of the old ones
-abbrev pub is_eui_of : ℕ → Addr → SubnetRow → Bool
+abbrev pub is_eui_of : MacAddress → Addr → SubnetRow → Bool
 is_eui_of mac x s = is_eui s && addr_eq x (eui s.prefix mac)
 
-abbrev pub renewed : ℕ → ℕ → Fixed → Option SubnetRow → Fixed
+abbrev pub renewed : MacAddress → MacAddress → Fixed → Option SubnetRow → Fixed
 renewed old new f None = f
 renewed old new f (Some s) = if is_eui_of old f.address s then eui_fixed new s else f
 
-abbrev pub all_renewed : List SubnetRow → ℕ → ℕ → List Fixed → List Fixed
+abbrev pub all_renewed : List SubnetRow → MacAddress → MacAddress → List Fixed → List Fixed
 all_renewed subnets old new fixed = map (λ (f : Fixed). renewed old new f (row_of (λ s. s.id) f.subnet subnets)) fixed
 
 -- where no addresses are asked for
@@ -76,18 +77,18 @@ abbrev pub any_of_each : (Addr → Bool) → List SubnetRow → Option (List Fix
 any_of_each free subnets =
     option_and_then (λ fours. option_map (λ sixes. fours ++ sixes) (any_address free (filter is_pool_six subnets))) (any_address free (filter is_pool_four subnets))
 
-abbrev pub all_euis : ℕ → List SubnetRow → List Fixed
+abbrev pub all_euis : MacAddress → List SubnetRow → List Fixed
 all_euis mac subnets = map (eui_fixed mac) (filter is_eui subnets)
 
 -- a list has at most five
 abbrev pub one_if_any : (SubnetRow → Bool) → List SubnetRow → ℕ
 one_if_any test subnets = if list_any test subnets then 1 else 0
 
-abbrev pub first_euis : ℕ → List SubnetRow → List Fixed
+abbrev pub first_euis : MacAddress → List SubnetRow → List Fixed
 first_euis mac subnets = take (5 - (one_if_any is_pool_four subnets + one_if_any is_pool_six subnets)) (all_euis mac subnets)
 
 -- a gateway's port has one address of version 6
-abbrev pub gateway_euis : ℕ → List SubnetRow → List Fixed
+abbrev pub gateway_euis : MacAddress → List SubnetRow → List Fixed
 gateway_euis mac subnets = if list_any is_pool_six subnets then [] else take 1 (all_euis mac subnets)
 
 abbrev pub with_euis : (Addr → Bool) → List SubnetRow → List Fixed → Option (List Fixed)
@@ -105,10 +106,10 @@ abbrev pub item_subnet : List SubnetRow → FixedAsked → Option SubnetRow
 item_subnet subnets item = subnet_for subnets item.subnet item.address
 
 -- a named address is a host address, and where the MAC address gives one it is that
-abbrev pub may_be_named : ℕ → SubnetRow → Addr → Bool
+abbrev pub may_be_named : MacAddress → SubnetRow → Addr → Bool
 may_be_named mac s x = is_host_of s.prefix x && (not (is_eui s) || addr_eq x (eui s.prefix mac))
 
-abbrev pub is_placed : List SubnetRow → ℕ → FixedAsked → Bool
+abbrev pub is_placed : List SubnetRow → MacAddress → FixedAsked → Bool
 is_placed subnets mac item = is_some_so (λ (s : SubnetRow). if_some (may_be_named mac s) item.address) (item_subnet subnets item)
 
 abbrev pub named_addresses : List FixedAsked → List Addr
@@ -122,10 +123,10 @@ named_subnets items = filter_map (λ (item : FixedAsked). item.subnet) items
 abbrev pub old_address : List Fixed → List Addr → SubnetRow → Option Addr
 old_address old taken s = option_map (λ (f : Fixed). f.address) (find (λ (f : Fixed). ident_eq s.id f.subnet && not (is_in taken f.address)) old)
 
-abbrev pub eui_if_any : ℕ → SubnetRow → Option Addr
+abbrev pub eui_if_any : MacAddress → SubnetRow → Option Addr
 eui_if_any mac s = if is_eui s then Some (eui s.prefix mac) else None
 
-abbrev pub known_at : ℕ → List Fixed → List Addr → Option Addr → SubnetRow → Option Addr
+abbrev pub known_at : MacAddress → List Fixed → List Addr → Option Addr → SubnetRow → Option Addr
 known_at mac old taken (Some x) s = Some x
 known_at mac old taken None s = option_or (old_address old taken s) (eui_if_any mac s)
 
@@ -137,18 +138,18 @@ abbrev pub wishes : List SubnetRow → List FixedAsked → List Place
 wishes subnets items = filter_map (λ (item : FixedAsked). option_map (wish_for item) (item_subnet subnets item)) items
 
 -- in turn, with what is named anywhere or was taken before as taken
-abbrev pub places : ℕ → List Fixed → List Addr → List Place → List Place
+abbrev pub places : MacAddress → List Fixed → List Addr → List Place → List Place
 places mac old taken [] = []
 places mac old taken (w ∷ ws) = elim (known_at mac old taken w.known w.subnet) [
   | None ↦ w ∷ places mac old taken ws
   | Some x ↦ record { subnet = w.subnet; known = Some x } ∷ places mac old (x ∷ taken) ws
 ]
 
-abbrev pub asked_places : List SubnetRow → ℕ → List Fixed → List FixedAsked → List Place
+abbrev pub asked_places : List SubnetRow → MacAddress → List Fixed → List FixedAsked → List Place
 asked_places subnets mac old items = places mac old (named_addresses items) (wishes subnets items)
 
 -- the rule of `fixed_ips`: each item has its place, and no address is known twice
-abbrev pub are_placed : List SubnetRow → ℕ → List Fixed → List FixedAsked → Bool
+abbrev pub are_placed : List SubnetRow → MacAddress → List Fixed → List FixedAsked → Bool
 are_placed subnets mac old items = list_all (is_placed subnets mac) items && are_different (known_addresses (asked_places subnets mac old items))
 
 -- then pool addresses are chosen in turn, each the least free one of its subnet that isn't in the list
@@ -168,33 +169,33 @@ all_filled free ls = filled free (known_addresses ls) ls
 
 -- what is known of the addresses of a new port, and all of them, by the network's subnets; none where a pool address is missed
 
-abbrev pub first_known : List SubnetRow → ℕ → Given (List FixedAsked) → List Addr
+abbrev pub first_known : List SubnetRow → MacAddress → Given (List FixedAsked) → List Addr
 first_known subnets mac Absent = addresses_of (first_euis mac subnets)
 first_known subnets mac Null = addresses_of (first_euis mac subnets)
 first_known subnets mac (Is items) = known_addresses (asked_places subnets mac [] items)
 
-abbrev pub first_addresses : (Addr → Bool) → List SubnetRow → ℕ → Given (List FixedAsked) → Option (List Fixed)
+abbrev pub first_addresses : (Addr → Bool) → List SubnetRow → MacAddress → Given (List FixedAsked) → Option (List Fixed)
 first_addresses free subnets mac Absent = with_euis free subnets (first_euis mac subnets)
 first_addresses free subnets mac Null = with_euis free subnets (first_euis mac subnets)
 first_addresses free subnets mac (Is items) = all_filled free (asked_places subnets mac [] items)
 
 -- of a port that is changed, by the MAC address that it will have
 
-abbrev pub old_renewed : List SubnetRow → PortRow → ℕ → List Fixed
+abbrev pub old_renewed : List SubnetRow → PortRow → MacAddress → List Fixed
 old_renewed subnets p mac = all_renewed subnets p.mac mac p.fixed
 
-abbrev pub next_known : List SubnetRow → PortRow → ℕ → Given (List FixedAsked) → List Addr
+abbrev pub next_known : List SubnetRow → PortRow → MacAddress → Given (List FixedAsked) → List Addr
 next_known subnets p mac Absent = addresses_of (old_renewed subnets p mac)
 next_known subnets p mac Null = addresses_of (old_renewed subnets p mac)
 next_known subnets p mac (Is items) = known_addresses (asked_places subnets mac (old_renewed subnets p mac) items)
 
-abbrev pub next_addresses : (Addr → Bool) → List SubnetRow → PortRow → ℕ → Given (List FixedAsked) → Option (List Fixed)
+abbrev pub next_addresses : (Addr → Bool) → List SubnetRow → PortRow → MacAddress → Given (List FixedAsked) → Option (List Fixed)
 next_addresses free subnets p mac Absent = Some (old_renewed subnets p mac)
 next_addresses free subnets p mac Null = Some (old_renewed subnets p mac)
 next_addresses free subnets p mac (Is items) = all_filled free (asked_places subnets mac (old_renewed subnets p mac) items)
 
 -- of a gateway's port; none on a network without a subnet
-abbrev pub gateway_addresses : (Addr → Bool) → List SubnetRow → ℕ → Option (List Fixed)
+abbrev pub gateway_addresses : (Addr → Bool) → List SubnetRow → MacAddress → Option (List Fixed)
 gateway_addresses free [] mac = None
 gateway_addresses free (s ∷ subnets) mac = with_euis free (s ∷ subnets) (gateway_euis mac (s ∷ subnets))
 

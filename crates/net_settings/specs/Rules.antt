@@ -16,8 +16,14 @@ is_in_range (AtMost n) = nat_le n 2147483647
 
 abbrev pub are_in_range : Quotas → Bool
 are_in_range q =
-    ((((((is_in_range q.network && is_in_range q.subnet) && is_in_range q.port) && is_in_range q.router)
-    && is_in_range q.floatingip) && is_in_range q.security_group) && is_in_range q.security_group_rule) && is_in_range q.rbac_policy
+    ((((((is_in_range q.network
+    && is_in_range q.subnet)
+    && is_in_range q.port)
+    && is_in_range q.router)
+    && is_in_range q.floatingip)
+    && is_in_range q.security_group)
+    && is_in_range q.security_group_rule)
+    && is_in_range q.rbac_policy
 
 -- the physical networks are different names of 1 to 64 characters
 abbrev pub has_good_physical : Host → Bool

@@ -1,6 +1,6 @@
 -- The paths of the Networking API and of the lab, and which of them a text is.
 use Rattle.std.specs.Prelude.{List, [], ◌∷◌, ◌++◌, Result, Ok, Err, Option, option_map, codes}
-use Rattle.net_addr.specs.Words.{Bytes, Text}
+use Rattle.net_addr.specs.Words.{Text}
 use Rattle.matchit.specs.Route.{Scan, parse_route}
 use Rattle.matchit.specs.declared.error.InsertError.{InsertError}
 use Rattle.matchit.specs.Rows.{RowsOf}
@@ -74,5 +74,5 @@ abbrev pub routes : RowsOf (RouteOf RoutePath)
 routes = with_routes all_paths []
 
 -- the path that `matchit` finds for a text
-abbrev pub path_at : Bytes → Option RoutePath
+abbrev pub path_at : Text → Option RoutePath
 path_at text = option_map (λ route. route.value) (first routes text)

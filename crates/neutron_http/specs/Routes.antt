@@ -91,7 +91,7 @@ routed method text None = Nowhere
 routed method text (Some path) = routed_by text path (method_in (methods_of path) method)
 
 -- a path that is no text leads nowhere
-unfoldable pub route_of : Bytes → Bytes → Routed
+unfoldable pub route_of : Text → Bytes → Routed
 route_of method path = if is_utf8 path then routed method path (path_at path) else Nowhere
 
 -- the answer is that route, or the refusal that it is; want of memory says nothing

@@ -60,7 +60,7 @@ by_route query body (To path method parameters) =
     by_query (record { path = path; method = method; parameters = parameters }) body (query_read path method query)
 
 -- what a request asks, or its refusal
-unfoldable pub asked_by : Bytes → Bytes → Bytes → Bytes → Result Ask Refusal
+unfoldable pub asked_by : Text → Bytes → Bytes → Bytes → Result Ask Refusal
 asked_by method path query body = by_route query body (route_of method path)
 
 abbrev pub with_caller : Caller → Result Ask Refusal → Result (Caller × Ask) Refusal
