@@ -5,11 +5,15 @@ use Rattle.api_types.specs.declared.kind.Kind.{Kind}
 use Rattle.api_check.specs.declared.broken.Inconsistent.{Inconsistent}
 
 -- the row at a place, where there is one
-unfoldable pub told_at : {R : Type 0} → ℕ → Kind → (R → Ident) → List R → Option ℕ → Option Inconsistent
-told_at rule kind id_of rows place = option_map (λ r. record { rule = rule; kind = kind; id = id_of r }) (option_and_then (slice_get rows) place)
+unfoldable pub told_at : {R : Type 0} → ℕ → Kind → (R → Ident) → List R → Option ℕ
+    → Option Inconsistent
+told_at rule kind id_of rows place =
+    option_map (λ r. record { rule = rule; kind = kind; id = id_of r })
+    (option_and_then (slice_get rows) place)
 
 -- the first row that fails the test breaks the clause
-abbrev pub breaks : {R : Type 0} → ℕ → Kind → (R → Ident) → (R → Bool) → List R → Option Inconsistent
+abbrev pub breaks : {R : Type 0} → ℕ → Kind → (R → Ident) → (R → Bool) → List R
+    → Option Inconsistent
 breaks rule kind id_of test rows = told_at rule kind id_of rows (position (λ r. not (test r)) rows)
 
 -- the first place, counted from k on, at which a row fails a test that looks at its place

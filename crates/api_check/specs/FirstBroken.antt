@@ -24,7 +24,8 @@ use Rattle.api_check.specs.Placing.{port_placed}
 
 unfoldable pub numbers_broken : RowLists → Option Inconsistent
 numbers_broken rows =
-    option_or (told_at 1 Project project_id rows.projects (first_place (project_numbered rows.projects) 0 rows.projects))
+    option_or (told_at 1 Project project_id rows.projects
+    (first_place (project_numbered rows.projects) 0 rows.projects))
     (option_or (breaks 1 Network (λ r. r.id) (λ r. is_numbered rows r.id) rows.networks)
     (option_or (breaks 1 Subnet (λ r. r.id) (λ r. is_numbered rows r.id) rows.subnets)
     (option_or (breaks 1 Port (λ r. r.id) (λ r. is_numbered rows r.id) rows.ports)
@@ -36,10 +37,12 @@ numbers_broken rows =
 
 unfoldable pub names_broken : RowLists → Option Inconsistent
 names_broken rows =
-    option_or (breaks 2 Network (λ r. r.id) (λ r. is_registered rows.projects r.project) rows.networks)
+    option_or
+    (breaks 2 Network (λ r. r.id) (λ r. is_registered rows.projects r.project) rows.networks)
     (option_or (breaks 2 Subnet (λ r. r.id) (subnet_named rows) rows.subnets)
     (option_or (breaks 2 Port (λ r. r.id) (port_named rows) rows.ports)
-    (option_or (breaks 2 Group (λ r. r.id) (λ r. is_registered rows.projects r.project) rows.groups)
+    (option_or
+    (breaks 2 Group (λ r. r.id) (λ r. is_registered rows.projects r.project) rows.groups)
     (option_or (breaks 2 Rule (λ r. r.id) (rule_named rows) rows.rules)
     (option_or (breaks 2 Router (λ r. r.id) (router_named rows) rows.routers)
     (option_or (breaks 2 Floating (λ r. r.id) (floating_named rows) rows.floatings)
@@ -50,20 +53,26 @@ forms_broken rows =
     option_or (breaks 3 Network (λ r. r.id) (λ r. is_segment r.segment) rows.networks)
     (option_or (breaks 3 Subnet (λ r. r.id) (subnet_formed rows.networks) rows.subnets)
     (option_or (breaks 3 Port (λ r. r.id) (port_formed rows.networks) rows.ports)
-    (option_or (breaks 3 Rule (λ r. r.id) (λ r. is_group_of rows.groups r.project r.group) rows.rules)
+    (option_or
+    (breaks 3 Rule (λ r. r.id) (λ r. is_group_of rows.groups r.project r.group) rows.rules)
     (breaks 3 Router (λ r. r.id) (λ r. nat_le (length r.routes) 30) rows.routers))))
 
 unfoldable pub disjoint_broken : RowLists → Option Inconsistent
 disjoint_broken rows =
-    option_or (breaks 6 Subnet (λ r. r.id) (λ r. not (list_any (subnets_clash r) rows.subnets)) rows.subnets)
-    (breaks 6 Port (λ r. r.id) (λ r. not (list_any (ports_clash rows.routers rows.subnets r) rows.ports)) rows.ports)
+    option_or
+    (breaks 6 Subnet (λ r. r.id) (λ r. not (list_any (subnets_clash r) rows.subnets)) rows.subnets)
+    (breaks 6 Port (λ r. r.id)
+    (λ r. not (list_any (ports_clash rows.routers rows.subnets r) rows.ports)) rows.ports)
 
 -- a network too many is the first one behind the greatest number
 unfoldable pub too_many : List NetworkRow → Option ℕ
 too_many networks = if nat_lt most_networks (length networks) then Some most_networks else None
 
 unfoldable pub segments_broken : RowLists → Option Inconsistent
-segments_broken rows = told_at 7 Network (λ r. r.id) rows.networks (earlier (position (λ r. not (segment_alone rows.networks r)) rows.networks) (too_many rows.networks))
+segments_broken rows =
+    told_at 7 Network (λ r. r.id) rows.networks
+    (earlier (position (λ r. not (segment_alone rows.networks r)) rows.networks)
+    (too_many rows.networks))
 
 unfoldable pub services_broken : RowLists → Option Inconsistent
 services_broken rows =
@@ -81,7 +90,8 @@ groups_broken rows =
 unfoldable pub outsides_broken : RowLists → Option Inconsistent
 outsides_broken rows =
     option_or (breaks 13 Router (λ r. r.id) (router_permitted rows.policies) rows.routers)
-    (option_or (breaks 13 Floating (λ r. r.id) (λ r. is_external_to rows.policies r.network r.project) rows.floatings)
+    (option_or (breaks 13 Floating (λ r. r.id)
+    (λ r. is_external_to rows.policies r.network r.project) rows.floatings)
     (breaks 13 Policy (λ r. r.id) (policy_alone rows.policies) rows.policies))
 
 unfoldable pub first_broken_of : List Host → RowLists → Option Inconsistent
@@ -90,7 +100,8 @@ first_broken_of hosts rows =
     (option_or (names_broken rows)
     (option_or (forms_broken rows)
     (option_or (breaks 4 Port (λ r. r.id) (port_alone rows.ports) rows.ports)
-    (option_or (breaks 5 Port (λ r. r.id) (λ r. list_all (is_host_in rows.subnets r) r.fixed) rows.ports)
+    (option_or
+    (breaks 5 Port (λ r. r.id) (λ r. list_all (is_host_in rows.subnets r) r.fixed) rows.ports)
     (option_or (disjoint_broken rows)
     (option_or (segments_broken rows)
     (option_or (breaks 8 Port (λ r. r.id) (port_placed (carries hosts) rows) rows.ports)
@@ -99,4 +110,5 @@ first_broken_of hosts rows =
     (option_or (groups_broken rows)
     (option_or (breaks 12 Port (λ r. r.id) (may_be_there rows.networks rows.policies) rows.ports)
     (option_or (outsides_broken rows)
-    (breaks 14 Router (λ r. r.id) (λ r. list_all (is_reached rows.subnets rows.ports r) r.routes) rows.routers)))))))))))))
+    (breaks 14 Router (λ r. r.id) (λ r. list_all (is_reached rows.subnets rows.ports r) r.routes)
+    rows.routers)))))))))))))

@@ -1,5 +1,5 @@
--- What consistency asks of a bound port: its host can carry its network's segment, and is that of its router
--- (Neutron ML2 guide, port binding).
+-- What consistency asks of a bound port: its host can carry its network's segment, and is that of
+-- its router (Neutron ML2 guide, port binding).
 use Rattle.std.specs.Prelude.{◌&&◌, ◌||◌, not, Bool}
 use Rattle.std.specs.List.{list_all}
 use Rattle.std.specs.Str.{bytes_eq}
@@ -13,4 +13,5 @@ use Rattle.api_types.specs.declared.port.PortRow.{PortRow}
 
 abbrev pub port_placed : (Text → Segment → Bool) → RowLists → PortRow → Bool
 port_placed carries rows p = not (is_bound p.vif)
-    || (stands_so (λ n. n.id) p.network (λ n. carries p.host n.segment) rows.networks && list_all (λ r. not (is_port_of r p) || is_some_so (bytes_eq p.host) r.host) rows.routers)
+    || (stands_so (λ n. n.id) p.network (λ n. carries p.host n.segment) rows.networks
+    && list_all (λ r. not (is_port_of r p) || is_some_so (bytes_eq p.host) r.host) rows.routers)

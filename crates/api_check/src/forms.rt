@@ -60,7 +60,9 @@ fn first_rule(rows: &Rows, rules: &[Shared<RuleRow>]) -> Option<usize>
     ensures { result
         ≡ position (λ r. not (group_of_in rows.now.groups r.project r.group)) rules.now }
 {
-    rules.iter().position(|rule| !rows.is_group_of(&rule.project, rule.group))
+    rules
+        .iter()
+        .position(|rule| !rows.is_group_of(&rule.project, rule.group))
 }
 
 fn broken_rule(rows: &Rows) -> Option<Inconsistent>

@@ -56,10 +56,7 @@ fn is_pool(subnet: &SubnetRow, pool: &Span) -> bool
 fn are_pools(subnet: &SubnetRow) -> bool
     ensures { result ≡ list_all (pool_formed subnet.now) subnet.now.pools }
 {
-    subnet
-        .pools
-        .iter()
-        .all(|pool| is_pool(subnet, pool))
+    subnet.pools.iter().all(|pool| is_pool(subnet, pool))
 }
 
 fn is_apart_from(pool: &Span, pools: &[Span]) -> bool
@@ -116,9 +113,7 @@ pub fn is_formed_subnet(rows: &Rows, subnet: &SubnetRow) -> bool
 fn are_unicast(port: &PortRow) -> bool
     ensures { result ≡ list_all (λ pair. is_unicast pair.mac) port.now.pairs }
 {
-    port.pairs
-        .iter()
-        .all(|pair| pair.mac.is_unicast())
+    port.pairs.iter().all(|pair| pair.mac.is_unicast())
 }
 
 fn is_port_form(port: &PortRow) -> bool
@@ -137,8 +132,7 @@ fn is_port_form(port: &PortRow) -> bool
 pub fn is_formed_port(rows: &Rows, port: &PortRow) -> bool
     ensures { result ≡ port_formed rows.now.networks port.now }
 {
-    (!port.is_dhcp() || rows.is_network_of(&port.project, port.network))
-        && is_port_form(port)
+    (!port.is_dhcp() || rows.is_network_of(&port.project, port.network)) && is_port_form(port)
 }
 
 /// Whether a router has at most 30 extra routes.

@@ -37,9 +37,7 @@ fn names_subnets(subnets: &[Shared<SubnetRow>], port: &PortRow) -> bool
 fn names_groups(rows: &Rows, port: &PortRow) -> bool
     ensures { result ≡ list_all (group_in rows.now.groups) port.now.groups }
 {
-    port.groups
-        .iter()
-        .all(|group| has(rows.groups(), *group))
+    port.groups.iter().all(|group| has(rows.groups(), *group))
 }
 
 fn has_project(rows: &Rows, port: &PortRow) -> bool

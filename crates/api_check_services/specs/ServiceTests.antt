@@ -1,6 +1,7 @@
--- What consistency asks of a single row about services: the ports of DHCP, of routers and of floating addresses, groups, and what
--- policies permit (Networking API reference v2.0, the refusals of each call; Neutron's constants of device owners). Where two
--- rows break a clause together, both fail.
+-- What consistency asks of a single row about services: the ports of DHCP, of routers and of
+-- floating addresses, groups, and what policies permit (Networking API reference v2.0, the
+-- refusals of each call; Neutron's constants of device owners). Where two rows break a clause
+-- together, both fail.
 use Rattle.std.specs.Prelude.{◌==◌, ◌&&◌, ◌||◌, not, nat_le, cond, Bool, List, count_by}
 use Rattle.std.specs.List.{list_any, list_all}
 use Rattle.api_types.specs.Table.{ident_eq}
@@ -29,24 +30,35 @@ use Rattle.api_types.specs.declared.policy.PolicyRow.{PolicyRow}
 -- services
 
 abbrev pub network_served : RowLists → NetworkRow → Bool
-network_served rows n = count_by (is_dhcp_of n.id) rows.ports == cond (wants_dhcp rows.subnets n.id) 1 0
+network_served rows n =
+    count_by (is_dhcp_of n.id) rows.ports == cond (wants_dhcp rows.subnets n.id) 1 0
 
 abbrev pub dhcp_serves : List SubnetRow → PortRow → Bool
-dhcp_serves subnets p = not (is_dhcp p.owner) || (list_all (leases p) subnets && (list_all (is_leased subnets) p.fixed && not p.secured))
+dhcp_serves subnets p =
+    not (is_dhcp p.owner)
+    || (list_all (leases p) subnets && (list_all (is_leased subnets) p.fixed && not p.secured))
 
 abbrev pub router_port_serves : List RouterRow → PortRow → Bool
 router_port_serves routers p =
     (not (is_router_port p.owner) || (list_any (λ r. is_port_of r p) routers && not p.secured))
-    && ((not (is_interface p.owner) || is_one p.fixed) && (not (is_gateway p.owner) || not (is_empty p.fixed)))
+    && ((not (is_interface p.owner) || is_one p.fixed)
+    && (not (is_gateway p.owner) || not (is_empty p.fixed)))
 
 abbrev pub port_serves : RowLists → PortRow → Bool
-port_serves rows p = dhcp_serves rows.subnets p && (router_port_serves rows.routers p && (not (is_own_port rows.floatings p.id) || not p.secured))
+port_serves rows p =
+    dhcp_serves rows.subnets p
+    && (router_port_serves rows.routers p
+    && (not (is_own_port rows.floatings p.id) || not p.secured))
 
 abbrev pub router_served : List PortRow → RouterRow → Bool
-router_served ports r = (count_by (is_gateway_of r.id) ports == wanted_gateways r.gateway) && if_some (λ g. list_any (is_named_gateway r g) ports) r.gateway
+router_served ports r =
+    (count_by (is_gateway_of r.id) ports == wanted_gateways r.gateway)
+    && if_some (λ g. list_any (is_named_gateway r g) ports) r.gateway
 
 abbrev pub floating_served : RowLists → FloatingRow → Bool
-floating_served rows f = nat_le (count_by (λ g. ident_eq f.own_port g.own_port) rows.floatings) 1 && stands_so (λ p. p.id) f.own_port (is_port_for f) rows.ports
+floating_served rows f =
+    nat_le (count_by (λ g. ident_eq f.own_port g.own_port) rows.floatings) 1
+    && stands_so (λ p. p.id) f.own_port (is_port_for f) rows.ports
 
 -- floating addresses
 
@@ -54,7 +66,10 @@ abbrev pub target_alone : List FloatingRow → FloatingRow → Target → Bool
 target_alone floatings f t = nat_le (count_by (stands_for f.network t.port t.fixed) floatings) 1
 
 abbrev pub floating_leads : RowLists → FloatingRow → Bool
-floating_leads rows f = if_some (λ (t : Target). target_alone rows.floatings f t && leads_to rows.ports rows.routers f t) f.target
+floating_leads rows f =
+    if_some
+    (λ (t : Target). target_alone rows.floatings f t && leads_to rows.ports rows.routers f t)
+    f.target
 
 -- groups
 
@@ -62,15 +77,19 @@ abbrev pub project_grouped : List GroupRow → ProjectRow → Bool
 project_grouped groups p = count_by (is_default_of p.name) groups == 1
 
 abbrev pub port_grouped : List GroupRow → PortRow → Bool
-port_grouped groups p = list_all (is_group_of groups p.project) p.groups && (p.secured || (is_empty p.groups && is_empty p.pairs))
+port_grouped groups p =
+    list_all (is_group_of groups p.project) p.groups
+    && (p.secured || (is_empty p.groups && is_empty p.pairs))
 
 abbrev pub rule_grouped : List GroupRow → List RuleRow → RuleRow → Bool
-rule_grouped groups rules r = if_some (is_group_of groups r.project) r.remote_group && not (list_any (rules_clash r) rules)
+rule_grouped groups rules r =
+    if_some (is_group_of groups r.project) r.remote_group && not (list_any (rules_clash r) rules)
 
 -- what policies permit
 
 abbrev pub router_permitted : List PolicyRow → RouterRow → Bool
-router_permitted policies r = if_some (λ (g : Gateway). is_external_to policies g.network r.project) r.gateway
+router_permitted policies r =
+    if_some (λ (g : Gateway). is_external_to policies g.network r.project) r.gateway
 
 abbrev pub policy_alone : List PolicyRow → PolicyRow → Bool
 policy_alone policies p = nat_le (count_by (same_policy p) policies) 1

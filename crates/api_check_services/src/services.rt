@@ -81,16 +81,13 @@ fn is_leased(subnets: &[Shared<SubnetRow>], fixed: &Fixed) -> bool
 fn are_leased(subnets: &[Shared<SubnetRow>], port: &PortRow) -> bool
     ensures { result ≡ list_all (leased_in subnets.now) port.now.fixed }
 {
-    port.fixed
-        .iter()
-        .all(|fixed| is_leased(subnets, fixed))
+    port.fixed.iter().all(|fixed| is_leased(subnets, fixed))
 }
 
 fn serves_dhcp(subnets: &[Shared<SubnetRow>], port: &PortRow) -> bool
     ensures { result ≡ dhcp_serves subnets.now port.now }
 {
-    !port.is_dhcp()
-        || (leases_all(subnets, port) && (are_leased(subnets, port) && !port.secured))
+    !port.is_dhcp() || (leases_all(subnets, port) && (are_leased(subnets, port) && !port.secured))
 }
 
 fn names_router(routers: &[Shared<RouterRow>], port: &PortRow) -> bool

@@ -1,5 +1,5 @@
--- The addresses of a port that is made or changed, or why there are none: a rule of `fixed_ips` is broken, another port holds one of them, or
--- a pool address is missed.
+-- The addresses of a port that is made or changed, or why there are none: a rule of `fixed_ips` is
+-- broken, another port holds one of them, or a pool address is missed.
 use Rattle.api_ipam.specs.FixedChoice.{addresses_of, are_placed, first_addresses, first_known, floating_address, gateway_addresses, gateway_euis, next_addresses, next_known, old_renewed}
 use Rattle.api_ipam.specs.declared.choosing.IpamRefusal.TheVariants.{AddressInUse, BadFixed, OutOfMemory, PoolsSpent}
 use Rattle.api_ipam.specs.declared.choosing.IpamRefusal.{IpamRefusal}
@@ -37,13 +37,16 @@ abbrev pub is_placed_so : List SubnetRow → MacAddress → Option PortRow → W
 is_placed_so subnets mac port Free = true
 is_placed_so subnets mac port Gateway = true
 is_placed_so subnets mac port Floating = true
-is_placed_so subnets mac port (These items) = are_placed subnets mac (old_of subnets mac port) items
+is_placed_so subnets mac port (These items) =
+    are_placed subnets mac (old_of subnets mac port) items
 
-abbrev pub known_given : List SubnetRow → MacAddress → Option PortRow → Given (List FixedAsked) → List Addr
+abbrev pub known_given : List SubnetRow → MacAddress → Option PortRow → Given (List FixedAsked)
+    → List Addr
 known_given subnets mac None asked = first_known subnets mac asked
 known_given subnets mac (Some p) asked = next_known subnets p mac asked
 
-abbrev pub given_fixed : (Addr → Bool) → List SubnetRow → MacAddress → Option PortRow → Given (List FixedAsked) → Option (List Fixed)
+abbrev pub given_fixed : (Addr → Bool) → List SubnetRow → MacAddress → Option PortRow
+    → Given (List FixedAsked) → Option (List Fixed)
 given_fixed free subnets mac None asked = first_addresses free subnets mac asked
 given_fixed free subnets mac (Some p) asked = next_addresses free subnets p mac asked
 
@@ -54,13 +57,15 @@ known_so subnets mac port Gateway = addresses_of (gateway_euis mac subnets)
 known_so subnets mac port Floating = []
 known_so subnets mac port (These items) = known_given subnets mac port (Is items)
 
-abbrev pub fixed_so : (Addr → Bool) → List SubnetRow → MacAddress → Option PortRow → Wanted → Option (List Fixed)
+abbrev pub fixed_so : (Addr → Bool) → List SubnetRow → MacAddress → Option PortRow → Wanted
+    → Option (List Fixed)
 fixed_so free subnets mac port Free = given_fixed free subnets mac port Absent
 fixed_so free subnets mac port Gateway = gateway_addresses free subnets mac
 fixed_so free subnets mac port Floating = option_map (λ f. f ∷ []) (floating_address free subnets)
 fixed_so free subnets mac port (These items) = given_fixed free subnets mac port (Is items)
 
-abbrev pub choice_of : Ident → Bool → Option Addr → Option (List Fixed) → Result (List Fixed) IpamRefusal
+abbrev pub choice_of : Ident → Bool → Option Addr → Option (List Fixed)
+    → Result (List Fixed) IpamRefusal
 choice_of network placed taken fixed = elim placed [
   | true ↦ elim taken [
     | Some x ↦ Err (AddressInUse x)
@@ -69,13 +74,18 @@ choice_of network placed taken fixed = elim placed [
   | false ↦ Err BadFixed
 ]
 
-abbrev pub chosen_for : List PortRow → List SubnetRow → Ident → MacAddress → Option PortRow → Wanted → Result (List Fixed) IpamRefusal
+abbrev pub chosen_for : List PortRow → List SubnetRow → Ident → MacAddress → Option PortRow
+    → Wanted → Result (List Fixed) IpamRefusal
 chosen_for ports subnets network mac port wanted =
-    choice_of network (is_placed_so subnets mac port wanted) (find (held_by ports network port) (known_so subnets mac port wanted))
+    choice_of network (is_placed_so subnets mac port wanted)
+    (find (held_by ports network port) (known_so subnets mac port wanted))
     (fixed_so (λ x. not (held_by ports network port x)) subnets mac port wanted)
 
-abbrev pub chosen : RowLists → Ident → MacAddress → Wanted → List Fixed → Result (List Fixed) IpamRefusal
-chosen rows network mac wanted old = chosen_for rows.ports (subnets_on rows.subnets network) network mac (holder rows.ports network old) wanted
+abbrev pub chosen : RowLists → Ident → MacAddress → Wanted → List Fixed
+    → Result (List Fixed) IpamRefusal
+chosen rows network mac wanted old =
+    chosen_for rows.ports (subnets_on rows.subnets network) network mac
+    (holder rows.ports network old) wanted
 
 -- the refusal is the choice's, or memory could not be had
 abbrev pub IsRefusalOf : Result (List Fixed) IpamRefusal → IpamRefusal → Type 0

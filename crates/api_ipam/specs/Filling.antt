@@ -11,9 +11,11 @@ use Rattle.std.specs.Prelude.{Bool, List, None, Option, Some, [], not, option_ma
 use Rattle.net_addr.specs.Words.{MacAddress}
 
 -- an item with a subnet has its place in it
-abbrev pub place_for : MacAddress → List Fixed → List Addr → FixedAsked → Option SubnetRow → List Place
+abbrev pub place_for : MacAddress → List Fixed → List Addr → FixedAsked → Option SubnetRow
+    → List Place
 place_for mac old taken item None = []
-place_for mac old taken item (Some s) = record { subnet = s; known = known_at mac old taken item.address s } ∷ []
+place_for mac old taken item (Some s) =
+    record { subnet = s; known = known_at mac old taken item.address s } ∷ []
 
 abbrev pub given_at : (Addr → Bool) → Option Addr → SubnetRow → Option Addr
 given_at held (Some x) s = Some x
@@ -24,5 +26,7 @@ abbrev pub given_in_turn : (Addr → Bool) → List Place → Option (List Fixed
 given_in_turn held [] = Some []
 given_in_turn held (l ∷ ls) = elim (given_at held l.known l.subnet) [
   | None ↦ None
-  | Some x ↦ option_map (λ fs. fixed_at l.subnet.id x ∷ fs) (given_in_turn (λ y. held y || addr_eq x y) ls)
+  | Some x ↦
+      option_map (λ fs. fixed_at l.subnet.id x ∷ fs)
+      (given_in_turn (λ y. held y || addr_eq x y) ls)
 ]

@@ -1,6 +1,7 @@
--- Which fixed addresses a port takes (Networking API v2.0, `fixed_ips`). A place in the list of them has a subnet, and an address that is
--- known, since it is named, held already or given by the MAC address, or else a pool address that is to be chosen. What is known may break
--- the rule of `fixed_ips`, or be held by another port, and that is refused before a pool address is missed.
+-- Which fixed addresses a port takes (Networking API v2.0, `fixed_ips`). A place in the list of
+-- them has a subnet, and an address that is known, since it is named, held already or given by the
+-- MAC address, or else a pool address that is to be chosen. What is known may break the rule of
+-- `fixed_ips`, or be held by another port, and that is refused before a pool address is missed.
 use Rattle.api_ipam.specs.Addresses.{least_free_address}
 use Rattle.api_types.specs.HeldAddresses.{fixed_at}
 use Rattle.api_types.specs.Consistent.InForm.{is_eui}
@@ -52,21 +53,25 @@ renewed old new f None = f
 renewed old new f (Some s) = if is_eui_of old f.address s then eui_fixed new s else f
 
 abbrev pub all_renewed : List SubnetRow → MacAddress → MacAddress → List Fixed → List Fixed
-all_renewed subnets old new fixed = map (λ (f : Fixed). renewed old new f (row_of (λ s. s.id) f.subnet subnets)) fixed
+all_renewed subnets old new fixed =
+    map (λ (f : Fixed). renewed old new f (row_of (λ s. s.id) f.subnet subnets)) fixed
 
 -- where no addresses are asked for
 
 -- the first subnet with a free pool address gives its least one; by which addresses are free
 abbrev pub first_free : (Addr → Bool) → List SubnetRow → Option Fixed
 first_free free [] = None
-first_free free (s ∷ subnets) = option_or (option_map (fixed_at s.id) (least_free_address free s.pools)) (first_free free subnets)
+first_free free (s ∷ subnets) =
+    option_or (option_map (fixed_at s.id) (least_free_address free s.pools))
+    (first_free free subnets)
 
 -- one of these subnets, where there are any
 abbrev pub any_address : (Addr → Bool) → List SubnetRow → Option (List Fixed)
 any_address free [] = Some []
 any_address free (s ∷ subnets) = option_map (λ f. f ∷ []) (first_free free (s ∷ subnets))
 
--- the subnets of each version from whose pools addresses are chosen, and those in which the MAC address gives one
+-- the subnets of each version from whose pools addresses are chosen, and those in which the MAC
+-- address gives one
 abbrev pub is_pool_four : SubnetRow → Bool
 is_pool_four s = is_v4 s.prefix.base && not (is_eui s)
 
@@ -75,7 +80,9 @@ is_pool_six s = not (is_v4 s.prefix.base) && not (is_eui s)
 
 abbrev pub any_of_each : (Addr → Bool) → List SubnetRow → Option (List Fixed)
 any_of_each free subnets =
-    option_and_then (λ fours. option_map (λ sixes. fours ++ sixes) (any_address free (filter is_pool_six subnets))) (any_address free (filter is_pool_four subnets))
+    option_and_then
+    (λ fours. option_map (λ sixes. fours ++ sixes) (any_address free (filter is_pool_six subnets)))
+    (any_address free (filter is_pool_four subnets))
 
 abbrev pub all_euis : MacAddress → List SubnetRow → List Fixed
 all_euis mac subnets = map (eui_fixed mac) (filter is_eui subnets)
@@ -85,11 +92,14 @@ abbrev pub one_if_any : (SubnetRow → Bool) → List SubnetRow → ℕ
 one_if_any test subnets = if list_any test subnets then 1 else 0
 
 abbrev pub first_euis : MacAddress → List SubnetRow → List Fixed
-first_euis mac subnets = take (5 - (one_if_any is_pool_four subnets + one_if_any is_pool_six subnets)) (all_euis mac subnets)
+first_euis mac subnets =
+    take (5 - (one_if_any is_pool_four subnets + one_if_any is_pool_six subnets))
+    (all_euis mac subnets)
 
 -- a gateway's port has one address of version 6
 abbrev pub gateway_euis : MacAddress → List SubnetRow → List Fixed
-gateway_euis mac subnets = if list_any is_pool_six subnets then [] else take 1 (all_euis mac subnets)
+gateway_euis mac subnets =
+    if list_any is_pool_six subnets then [] else take 1 (all_euis mac subnets)
 
 abbrev pub with_euis : (Addr → Bool) → List SubnetRow → List Fixed → Option (List Fixed)
 with_euis free subnets euis = option_map (λ chosen. chosen ++ euis) (any_of_each free subnets)
@@ -110,7 +120,9 @@ abbrev pub may_be_named : MacAddress → SubnetRow → Addr → Bool
 may_be_named mac s x = is_host_of s.prefix x && (not (is_eui s) || addr_eq x (eui s.prefix mac))
 
 abbrev pub is_placed : List SubnetRow → MacAddress → FixedAsked → Bool
-is_placed subnets mac item = is_some_so (λ (s : SubnetRow). if_some (may_be_named mac s) item.address) (item_subnet subnets item)
+is_placed subnets mac item =
+    is_some_so (λ (s : SubnetRow). if_some (may_be_named mac s) item.address)
+    (item_subnet subnets item)
 
 abbrev pub named_addresses : List FixedAsked → List Addr
 named_addresses items = filter_map (λ (item : FixedAsked). item.address) items
@@ -118,10 +130,12 @@ named_addresses items = filter_map (λ (item : FixedAsked). item.address) items
 abbrev pub named_subnets : List FixedAsked → List Ident
 named_subnets items = filter_map (λ (item : FixedAsked). item.subnet) items
 
--- an item without an address takes the port's first old one of the subnet that isn't in the list yet, and else the one that the MAC address
--- gives, where it gives one
+-- an item without an address takes the port's first old one of the subnet that isn't in the list
+-- yet, and else the one that the MAC address gives, where it gives one
 abbrev pub old_address : List Fixed → List Addr → SubnetRow → Option Addr
-old_address old taken s = option_map (λ (f : Fixed). f.address) (find (λ (f : Fixed). ident_eq s.id f.subnet && not (is_in taken f.address)) old)
+old_address old taken s =
+    option_map (λ (f : Fixed). f.address)
+    (find (λ (f : Fixed). ident_eq s.id f.subnet && not (is_in taken f.address)) old)
 
 abbrev pub eui_if_any : MacAddress → SubnetRow → Option Addr
 eui_if_any mac s = if is_eui s then Some (eui s.prefix mac) else None
@@ -135,7 +149,8 @@ abbrev pub wish_for : FixedAsked → SubnetRow → Place
 wish_for item s = record { subnet = s; known = item.address }
 
 abbrev pub wishes : List SubnetRow → List FixedAsked → List Place
-wishes subnets items = filter_map (λ (item : FixedAsked). option_map (wish_for item) (item_subnet subnets item)) items
+wishes subnets items =
+    filter_map (λ (item : FixedAsked). option_map (wish_for item) (item_subnet subnets item)) items
 
 -- in turn, with what is named anywhere or was taken before as taken
 abbrev pub places : MacAddress → List Fixed → List Addr → List Place → List Place
@@ -150,9 +165,12 @@ asked_places subnets mac old items = places mac old (named_addresses items) (wis
 
 -- the rule of `fixed_ips`: each item has its place, and no address is known twice
 abbrev pub are_placed : List SubnetRow → MacAddress → List Fixed → List FixedAsked → Bool
-are_placed subnets mac old items = list_all (is_placed subnets mac) items && are_different (known_addresses (asked_places subnets mac old items))
+are_placed subnets mac old items =
+    list_all (is_placed subnets mac) items
+    && are_different (known_addresses (asked_places subnets mac old items))
 
--- then pool addresses are chosen in turn, each the least free one of its subnet that isn't in the list
+-- then pool addresses are chosen in turn, each the least free one of its subnet that isn't in the
+-- list
 abbrev pub filled_at : (Addr → Bool) → List Addr → Option Addr → SubnetRow → Option Addr
 filled_at free taken (Some x) s = Some x
 filled_at free taken None s = least_free_address (λ x. free x && not (is_in taken x)) s.pools
@@ -167,14 +185,16 @@ filled free taken (l ∷ ls) = elim (filled_at free taken l.known l.subnet) [
 abbrev pub all_filled : (Addr → Bool) → List Place → Option (List Fixed)
 all_filled free ls = filled free (known_addresses ls) ls
 
--- what is known of the addresses of a new port, and all of them, by the network's subnets; none where a pool address is missed
+-- what is known of the addresses of a new port, and all of them, by the network's subnets; none
+-- where a pool address is missed
 
 abbrev pub first_known : List SubnetRow → MacAddress → Given (List FixedAsked) → List Addr
 first_known subnets mac Absent = addresses_of (first_euis mac subnets)
 first_known subnets mac Null = addresses_of (first_euis mac subnets)
 first_known subnets mac (Is items) = known_addresses (asked_places subnets mac [] items)
 
-abbrev pub first_addresses : (Addr → Bool) → List SubnetRow → MacAddress → Given (List FixedAsked) → Option (List Fixed)
+abbrev pub first_addresses : (Addr → Bool) → List SubnetRow → MacAddress → Given (List FixedAsked)
+    → Option (List Fixed)
 first_addresses free subnets mac Absent = with_euis free subnets (first_euis mac subnets)
 first_addresses free subnets mac Null = with_euis free subnets (first_euis mac subnets)
 first_addresses free subnets mac (Is items) = all_filled free (asked_places subnets mac [] items)
@@ -187,17 +207,21 @@ old_renewed subnets p mac = all_renewed subnets p.mac mac p.fixed
 abbrev pub next_known : List SubnetRow → PortRow → MacAddress → Given (List FixedAsked) → List Addr
 next_known subnets p mac Absent = addresses_of (old_renewed subnets p mac)
 next_known subnets p mac Null = addresses_of (old_renewed subnets p mac)
-next_known subnets p mac (Is items) = known_addresses (asked_places subnets mac (old_renewed subnets p mac) items)
+next_known subnets p mac (Is items) =
+    known_addresses (asked_places subnets mac (old_renewed subnets p mac) items)
 
-abbrev pub next_addresses : (Addr → Bool) → List SubnetRow → PortRow → MacAddress → Given (List FixedAsked) → Option (List Fixed)
+abbrev pub next_addresses : (Addr → Bool) → List SubnetRow → PortRow → MacAddress
+    → Given (List FixedAsked) → Option (List Fixed)
 next_addresses free subnets p mac Absent = Some (old_renewed subnets p mac)
 next_addresses free subnets p mac Null = Some (old_renewed subnets p mac)
-next_addresses free subnets p mac (Is items) = all_filled free (asked_places subnets mac (old_renewed subnets p mac) items)
+next_addresses free subnets p mac (Is items) =
+    all_filled free (asked_places subnets mac (old_renewed subnets p mac) items)
 
 -- of a gateway's port; none on a network without a subnet
 abbrev pub gateway_addresses : (Addr → Bool) → List SubnetRow → MacAddress → Option (List Fixed)
 gateway_addresses free [] mac = None
-gateway_addresses free (s ∷ subnets) mac = with_euis free (s ∷ subnets) (gateway_euis mac (s ∷ subnets))
+gateway_addresses free (s ∷ subnets) mac =
+    with_euis free (s ∷ subnets) (gateway_euis mac (s ∷ subnets))
 
 -- of a floating address's port
 abbrev pub floating_address : (Addr → Bool) → List SubnetRow → Option Fixed

@@ -1,4 +1,5 @@
--- Two states that a tenant can't tell apart: another one with consistent rows, in which it has the same footing.
+-- Two states that a tenant can't tell apart: another one with consistent rows, in which it has the
+-- same footing.
 use Rattle.std.specs.Prelude.{◌≡◌, false, not, true}
 use Rattle.api_types.specs.Consistent.{IsConsistent}
 use Rattle.api_types.specs.Lists.{is_empty}
@@ -15,10 +16,13 @@ pub record AreAlike (settings : SettingsParts) (caller : Caller) (now other : St
   pub consistent : IsConsistent other.rows
   pub same : footing settings now caller ≡ footing settings other caller
 
--- a tenant, whose project has a name, is told the same of each call at any two consistent states in which it has the same footing
-abbrev pub KeepsApart : {F : Type 0} → (State → Caller → F) → (State → Caller → Call → Outcome) → Type 0
+-- a tenant, whose project has a name, is told the same of each call at any two consistent states
+-- in which it has the same footing
+abbrev pub KeepsApart : {F : Type 0} → (State → Caller → F) → (State → Caller → Call → Outcome)
+    → Type 0
 KeepsApart footing_of step =
     (caller : Caller) (s t : State)
-    → caller.admin ≡ false → not (is_empty caller.project) ≡ true → IsConsistent s.rows → IsConsistent t.rows
+    → caller.admin ≡ false → not (is_empty caller.project) ≡ true → IsConsistent s.rows
+    → IsConsistent t.rows
     → footing_of s caller ≡ footing_of t caller
     → (call : Call) → answer_alone (step s caller call) ≡ answer_alone (step t caller call)

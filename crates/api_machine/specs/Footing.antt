@@ -44,7 +44,8 @@ owned owner_of project rows = filter (λ r. bytes_eq (owner_of r) project) rows
 
 -- the port is of one of the project's routers
 abbrev pub is_of_router : List RouterRow → Text → PortRow → Bool
-is_of_router routers project p = list_any (λ (r : RouterRow). bytes_eq r.project project && is_port_of r p) routers
+is_of_router routers project p =
+    list_any (λ (r : RouterRow). bytes_eq r.project project && is_port_of r p) routers
 
 -- the project has to do with the port: it owns it or its router
 abbrev pub is_close : RowLists → Text → PortRow → Bool
@@ -65,7 +66,9 @@ abbrev pub near_of : RowLists → Text → Ident → Near
 near_of rows project i = record {
   up = option_map (λ (n : NetworkRow). n.up) (row_of (λ n. n.id) i rows.networks);
   subnets = filter (λ s. ident_eq i s.network) rows.subnets;
-  addresses = λ x. list_any (λ p. ident_eq i p.network && list_any (λ (f : Fixed). addr_eq f.address x) p.fixed) rows.ports;
+  addresses = λ x.
+      list_any (λ p. ident_eq i p.network && list_any (λ (f : Fixed). addr_eq f.address x) p.fixed)
+      rows.ports;
   macs = λ m. list_any (has_mac i m) rows.ports;
   shared = is_shared_with rows.policies i project;
   external = is_external_to rows.policies i project;
@@ -73,9 +76,12 @@ near_of rows project i = record {
   external_to_all = is_open rows.policies i External;
 }
 
--- a network is near where the caller sees it, or a port stands on it that the project has to do with
+-- a network is near where the caller sees it, or a port stands on it that the project has to do
+-- with
 abbrev pub is_near : RowLists → Caller → Ident → Bool
-is_near rows caller i = stands (λ (n : NetworkRow). n.id) i (seen_networks rows caller) || list_any (λ p. ident_eq i p.network && is_close rows caller.project p) rows.ports
+is_near rows caller i =
+    stands (λ (n : NetworkRow). n.id) i (seen_networks rows caller)
+    || list_any (λ p. ident_eq i p.network && is_close rows caller.project p) rows.ports
 
 -- what may be told of a network that the project holds: it owns the network, or a policy on it
 pub record Held : Type 0 where
@@ -92,7 +98,9 @@ held_of rows i = record {
 
 abbrev pub is_held_by : RowLists → Text → Ident → Bool
 is_held_by rows project i =
-    stands_so (λ (n : NetworkRow). n.id) i (λ n. bytes_eq n.project project) rows.networks || list_any (λ (l : PolicyRow). ident_eq i l.object && bytes_eq l.project project) rows.policies
+    stands_so (λ (n : NetworkRow). n.id) i (λ n. bytes_eq n.project project) rows.networks
+    || list_any (λ (l : PolicyRow). ident_eq i l.object && bytes_eq l.project project)
+    rows.policies
 
 -- told of some ids alone
 abbrev pub guard : {X : Type 0} → Bool → X → Option X
@@ -143,7 +151,8 @@ footing settings state caller = record {
   near = λ i. guard (is_near state.rows caller i) (near_of state.rows caller.project i);
   held = λ i. guard (is_held_by state.rows caller.project i) (held_of state.rows i);
   drawer = drawer_of state.rows.projects caller.project;
-  has_number = is_some (least_free state.rows.networks settings.vxlan_first (settings.vxlan_last + 1 - settings.vxlan_first));
+  has_number = is_some (least_free state.rows.networks settings.vxlan_first
+      (settings.vxlan_last + 1 - settings.vxlan_first));
   is_full = nat_le most_networks (length state.rows.networks);
   is_last = is_last state;
 }

@@ -17,7 +17,8 @@ use Rattle.std.specs.Prelude.{◌≡◌}
 abbrev pub HostsCarry : SettingsParts → RowLists → Type 0
 HostsCarry settings rows = AreCarried (carries settings.hosts) rows.networks rows.ports
 
--- the rows after a call are consistent and typed, and hosts carry them where they carried those before
+-- the rows after a call are consistent and typed, and hosts carry them where they carried those
+-- before
 pub record AreKept (settings : SettingsParts) (before after : RowLists) : Type 0 where
   pub consistent : IsConsistent after
   pub typed : AreTyped after

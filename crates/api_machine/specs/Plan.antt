@@ -1,4 +1,5 @@
--- What a plan says: it answers as the machine's step does, and its change leads where the step leads.
+-- What a plan says: it answers as the machine's step does, and its change leads where the step
+-- leads.
 use Rattle.std.specs.Prelude.{◌≡◌, ◌-◌, ◌^◌, ◌<◌, List, Option, Some, None}
 use Rattle.api_types.specs.Outcome.{Moved, Outcome, Told}
 use Rattle.api_types.specs.Printed.{Reply, reply_of}
@@ -20,7 +21,8 @@ abbrev pub IsDrafted : DraftParts → Reply → Planned → Type 0
 IsDrafted draft reply planned = IsDraftedAs draft reply planned.change (reply_of planned.answer)
 
 -- the change fits the rows and leads where the step leads, with the step's answer
-pub record MovesBy (state : State) (outcome : Outcome) (change : List Item) (reply : Reply) : Type 0 where
+pub record MovesBy (state : State) (outcome : Outcome) (change : List Item) (reply : Reply)
+    : Type 0 where
   pub fits : Fits state.rows change
   pub moved : outcome ≡ Moved (after state.rows change) reply
 
@@ -33,7 +35,8 @@ abbrev pub Answers : State → Outcome → Planned → Type 0
 Answers state outcome planned = AnswersAs state outcome planned.change (reply_of planned.answer)
 
 -- moreover the rows after the change are as sound as those before, and the version can rise
-pub record Leads (settings : SettingsParts) (state : State) (outcome : Outcome) (change : List Item) (reply : Reply) : Type 0 where
+pub record Leads (settings : SettingsParts) (state : State) (outcome : Outcome)
+    (change : List Item) (reply : Reply) : Type 0 where
   pub fits : Fits state.rows change
   pub moved : outcome ≡ Moved (after state.rows change) reply
   pub kept : AreKept settings state.rows (after state.rows change)
@@ -44,4 +47,5 @@ PlansAs settings state outcome None reply = outcome ≡ Told reply
 PlansAs settings state outcome (Some change) reply = Leads settings state outcome change reply
 
 abbrev pub Plans : SettingsParts → State → Outcome → Planned → Type 0
-Plans settings state outcome planned = PlansAs settings state outcome planned.change (reply_of planned.answer)
+Plans settings state outcome planned =
+    PlansAs settings state outcome planned.change (reply_of planned.answer)

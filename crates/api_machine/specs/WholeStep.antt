@@ -38,14 +38,29 @@ no_rule_call name = Refused (not_found Rule name.text)
 
 abbrev pub row_shown : State → Caller → Kind → IdText → List Text → Outcome
 row_shown state caller Project name fields = Refused (not_found Project name.text)
-row_shown state caller Network name fields = row_told Network (λ r. r.id) (network_members state.rows caller) caller name fields (seen_networks state.rows caller)
-row_shown state caller Subnet name fields = row_told Subnet (λ r. r.id) subnet_members caller name fields (seen_subnets state.rows caller)
-row_shown state caller Port name fields = row_told Port (λ r. r.id) (port_members state.rows) caller name fields (seen_ports state.rows caller)
-row_shown state caller Group name fields = row_told Group (λ r. r.id) (group_members state.rows) caller name fields (own_rows (λ r. r.project) caller state.rows.groups)
-row_shown state caller Rule name fields = row_told Rule (λ r. r.id) rule_members caller name fields (own_rows (λ r. r.project) caller state.rows.rules)
-row_shown state caller Router name fields = row_told Router (λ r. r.id) (router_members state.rows) caller name fields (own_rows (λ r. r.project) caller state.rows.routers)
-row_shown state caller Floating name fields = row_told Floating (λ r. r.id) floating_members caller name fields (own_rows (λ r. r.project) caller state.rows.floatings)
-row_shown state caller Policy name fields = row_told Policy (λ r. r.id) policy_members caller name fields (own_rows (λ r. r.project) caller state.rows.policies)
+row_shown state caller Network name fields =
+    row_told Network (λ r. r.id) (network_members state.rows caller) caller name fields
+    (seen_networks state.rows caller)
+row_shown state caller Subnet name fields =
+    row_told Subnet (λ r. r.id) subnet_members caller name fields (seen_subnets state.rows caller)
+row_shown state caller Port name fields =
+    row_told Port (λ r. r.id) (port_members state.rows) caller name fields
+    (seen_ports state.rows caller)
+row_shown state caller Group name fields =
+    row_told Group (λ r. r.id) (group_members state.rows) caller name fields
+    (own_rows (λ r. r.project) caller state.rows.groups)
+row_shown state caller Rule name fields =
+    row_told Rule (λ r. r.id) rule_members caller name fields
+    (own_rows (λ r. r.project) caller state.rows.rules)
+row_shown state caller Router name fields =
+    row_told Router (λ r. r.id) (router_members state.rows) caller name fields
+    (own_rows (λ r. r.project) caller state.rows.routers)
+row_shown state caller Floating name fields =
+    row_told Floating (λ r. r.id) floating_members caller name fields
+    (own_rows (λ r. r.project) caller state.rows.floatings)
+row_shown state caller Policy name fields =
+    row_told Policy (λ r. r.id) policy_members caller name fields
+    (own_rows (λ r. r.project) caller state.rows.policies)
 
 abbrev pub row_created : SettingsParts → State → Caller → Form → Outcome
 row_created settings state caller (NetworkOf form) = network_created settings state caller form
@@ -59,11 +74,13 @@ row_created settings state caller (PolicyOf form) = policy_created settings stat
 
 abbrev pub row_updated : SettingsParts → State → Caller → IdText → Form → Outcome
 row_updated settings state caller name (NetworkOf form) = network_updated state caller name form
-row_updated settings state caller name (SubnetOf form) = subnet_updated settings state caller name form
+row_updated settings state caller name (SubnetOf form) =
+    subnet_updated settings state caller name form
 row_updated settings state caller name (PortOf form) = port_updated settings state caller name form
 row_updated settings state caller name (GroupOf form) = group_updated state caller name form
 row_updated settings state caller name (RuleOf form) = no_rule_call name
-row_updated settings state caller name (RouterOf form) = router_updated settings state caller name form
+row_updated settings state caller name (RouterOf form) =
+    router_updated settings state caller name form
 row_updated settings state caller name (FloatingOf form) = floating_updated state caller name form
 row_updated settings state caller name (PolicyOf form) = policy_updated state caller name form
 
@@ -84,5 +101,7 @@ api_step settings state caller (Show kind name fields) = row_shown state caller 
 api_step settings state caller (Create form) = row_created settings state caller form
 api_step settings state caller (Update name form) = row_updated settings state caller name form
 api_step settings state caller (Delete kind name) = row_deleted state caller kind name
-api_step settings state caller (AddInterface router by) = interface_added settings state caller router by
-api_step settings state caller (RemoveInterface router by) = interface_removed state caller router by
+api_step settings state caller (AddInterface router by) =
+    interface_added settings state caller router by
+api_step settings state caller (RemoveInterface router by) =
+    interface_removed state caller router by

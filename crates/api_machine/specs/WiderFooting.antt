@@ -1,4 +1,5 @@
--- A footing that has more: the segments of networks, but for vxlan numbers, and the own ports of floating addresses.
+-- A footing that has more: the segments of networks, but for vxlan numbers, and the own ports of
+-- floating addresses.
 use Rattle.std.specs.Prelude.{◌+◌, ◌-◌, ◌&&◌, ◌||◌, Bool, List, Option, filter, is_some, length, map, nat_le, option_map}
 use Rattle.std.specs.List.{list_any}
 use Rattle.std.specs.Str.{bytes_eq}
@@ -37,7 +38,9 @@ without_number n = record n { segment = unnumbered n.segment }
 
 -- the port holds one of the project's floating addresses
 abbrev pub is_of_floating : List FloatingRow → Text → PortRow → Bool
-is_of_floating floatings project p = list_any (λ (f : FloatingRow). bytes_eq f.project project && ident_eq f.own_port p.id) floatings
+is_of_floating floatings project p =
+    list_any (λ (f : FloatingRow). bytes_eq f.project project && ident_eq f.own_port p.id)
+    floatings
 
 -- the project has to do with the port: it owns it, its router or its floating address
 abbrev pub is_closer : RowLists → Text → PortRow → Bool
@@ -50,13 +53,17 @@ pub record NearSegment : Type 0 where
 
 abbrev pub near_segment_of : RowLists → Text → Ident → NearSegment
 near_segment_of rows project i = record {
-  segment = option_map (λ (n : NetworkRow). unnumbered n.segment) (row_of (λ n. n.id) i rows.networks);
+  segment = option_map (λ (n : NetworkRow). unnumbered n.segment)
+      (row_of (λ n. n.id) i rows.networks);
   near = near_of rows project i;
 }
 
--- a network is nearer where the caller sees it, or a port stands on it that the project has to do with
+-- a network is nearer where the caller sees it, or a port stands on it that the project has to do
+-- with
 abbrev pub is_nearer : RowLists → Caller → Ident → Bool
-is_nearer rows caller i = stands (λ (n : NetworkRow). n.id) i (seen_networks rows caller) || list_any (λ p. ident_eq i p.network && is_closer rows caller.project p) rows.ports
+is_nearer rows caller i =
+    stands (λ (n : NetworkRow). n.id) i (seen_networks rows caller)
+    || list_any (λ p. ident_eq i p.network && is_closer rows caller.project p) rows.ports
 
 pub record WiderFooting : Type 0 where
   pub networks : List NetworkRow
@@ -86,11 +93,14 @@ wider_footing settings state caller = record {
   routers = owned (λ r. r.project) caller.project state.rows.routers;
   floatings = owned (λ r. r.project) caller.project state.rows.floatings;
   policies = owned (λ r. r.project) caller.project state.rows.policies;
-  served_ports = filter (λ p. is_of_router state.rows.routers caller.project p || is_of_floating state.rows.floatings caller.project p) state.rows.ports;
+  served_ports = filter (λ p.
+      is_of_router state.rows.routers caller.project p
+      || is_of_floating state.rows.floatings caller.project p) state.rows.ports;
   near = λ i. guard (is_nearer state.rows caller i) (near_segment_of state.rows caller.project i);
   held = λ i. guard (is_held_by state.rows caller.project i) (held_of state.rows i);
   drawer = drawer_of state.rows.projects caller.project;
-  has_number = is_some (least_free state.rows.networks settings.vxlan_first (settings.vxlan_last + 1 - settings.vxlan_first));
+  has_number = is_some (least_free state.rows.networks settings.vxlan_first
+      (settings.vxlan_last + 1 - settings.vxlan_first));
   is_full = nat_le most_networks (length state.rows.networks);
   is_last = is_last state;
 }

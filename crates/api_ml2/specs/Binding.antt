@@ -11,9 +11,12 @@ use Rattle.net_settings.specs.Settings.{SettingsParts}
 use Rattle.net_settings.specs.declared.settings.Driver.TheVariants.{Openvswitch}
 use Rattle.api_ml2.specs.Carrying.{carries}
 
--- the driver `openvswitch` binds where the host can carry the segment; `l2population` binds nothing
+-- the driver `openvswitch` binds where the host can carry the segment; `l2population` binds
+-- nothing
 abbrev pub binds : SettingsParts → Segment → Text → Bool
-binds settings segment host = list_any (is_driver Openvswitch) settings.drivers && carries settings.hosts host segment
+binds settings segment host =
+    list_any (is_driver Openvswitch) settings.drivers && carries settings.hosts host segment
 
 abbrev pub bound : SettingsParts → Segment → Text → Vif
-bound settings segment host = if is_empty host then Unbound else if binds settings segment host then Ovs else Failed
+bound settings segment host =
+    if is_empty host then Unbound else if binds settings segment host then Ovs else Failed

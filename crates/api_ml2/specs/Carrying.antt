@@ -1,5 +1,5 @@
--- Which segments a host can carry: a local one always, a flat or vlan one where it is wired to the physical network, a vxlan
--- one where it has tunnels (Neutron ML2 guide, provider networks).
+-- Which segments a host can carry: a local one always, a flat or vlan one where it is wired to the
+-- physical network, a vxlan one where it has tunnels (Neutron ML2 guide, provider networks).
 use Rattle.std.specs.Prelude.{◌&&◌, Bool, true, List}
 use Rattle.std.specs.List.{list_any}
 use Rattle.std.specs.Str.{bytes_eq}

@@ -1,5 +1,5 @@
--- What the choice of a network's segment comes to: it is refused where another network has the segment that is asked for, and else
--- where there is none to choose.
+-- What the choice of a network's segment comes to: it is refused where another network has the
+-- segment that is asked for, and else where there is none to choose.
 use Rattle.std.specs.Prelude.{◌≡◌, ◌⊎◌, Err, List, None, Ok, Option, Result, Some, option_and_then}
 use Rattle.api_types.specs.declared.network.NetworkRow.{NetworkRow}
 use Rattle.api_types.specs.declared.network.Segment.{Segment}
@@ -13,8 +13,11 @@ picked_by (Some n) chosen = Err (SegmentInUse n.id)
 picked_by None None = Err SegmentsSpent
 picked_by None (Some segment) = Ok segment
 
-abbrev pub picked : SettingsParts → List NetworkRow → Option Segment → Result Segment SegmentRefusal
-picked settings networks asked = picked_by (option_and_then (network_with networks) asked) (chosen_segment settings networks asked)
+abbrev pub picked : SettingsParts → List NetworkRow → Option Segment
+    → Result Segment SegmentRefusal
+picked settings networks asked =
+    picked_by (option_and_then (network_with networks) asked)
+    (chosen_segment settings networks asked)
 
 -- the refusal is the choice's, or memory could not be had
 abbrev pub IsRefusalOf : Result Segment SegmentRefusal → SegmentRefusal → Type 0

@@ -12,7 +12,9 @@ router_host settings = option_map (λ (h : Host). h.name) (find (λ (h : Host). 
 
 -- the first host with `dhcp` that can carry the segment
 abbrev pub dhcp_host : SettingsParts → Segment → Option Text
-dhcp_host settings segment = option_map (λ (h : Host). h.name) (find (λ (h : Host). h.dhcp && can_carry h segment) settings.hosts)
+dhcp_host settings segment =
+    option_map (λ (h : Host). h.name)
+    (find (λ (h : Host). h.dhcp && can_carry h segment) settings.hosts)
 
 -- a port's host is the empty text where it has none
 abbrev pub host_or_none : Option Text → Text

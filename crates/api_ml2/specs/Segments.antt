@@ -1,4 +1,5 @@
--- Which segment a new network takes (Neutron's ML2 plug-in: provider attributes, and `vni_ranges` of tenant networks).
+-- Which segment a new network takes (Neutron's ML2 plug-in: provider attributes, and `vni_ranges`
+-- of tenant networks).
 use Rattle.api_types.specs.Least.{least_from}
 use Rattle.api_types.specs.Given.{value_of, value_or}
 use Rattle.api_ml2.specs.Numbers.{is_taken}
@@ -27,7 +28,10 @@ is_wired (Some VxlanType) = false
 is_wired None = false
 
 abbrev pub is_bad_physical : NetworkForm → Bool
-is_bad_physical form = cond (is_wired (value_of form.provider_network_type)) (is_none (value_of form.provider_physical_network)) (is_some (value_of form.provider_physical_network))
+is_bad_physical form =
+    cond (is_wired (value_of form.provider_network_type))
+    (is_none (value_of form.provider_physical_network))
+    (is_some (value_of form.provider_physical_network))
 
 -- a vlan tag is from 1 to 4094 and has to be given, a vxlan number from 1 to 16777215 and may be
 abbrev pub fits_type : Option NetworkType → Option ℕ → Bool
@@ -38,7 +42,8 @@ fits_type (Some FlatType) n = is_none n
 fits_type None n = is_none n
 
 abbrev pub is_bad_number : NetworkForm → Bool
-is_bad_number form = not (fits_type (value_of form.provider_network_type) (value_of form.provider_segmentation_id))
+is_bad_number form =
+    not (fits_type (value_of form.provider_network_type) (value_of form.provider_segmentation_id))
 
 -- the segment that is asked for; none where any free vxlan number will do
 abbrev pub segment_of_type : Option NetworkType → Text → Option ℕ → Option Segment
@@ -49,7 +54,9 @@ segment_of_type (Some VxlanType) physical n = option_map Vxlan n
 segment_of_type None physical n = None
 
 abbrev pub asked_segment : NetworkForm → Option Segment
-asked_segment form = segment_of_type (value_of form.provider_network_type) (value_or [] form.provider_physical_network) (value_of form.provider_segmentation_id)
+asked_segment form =
+    segment_of_type (value_of form.provider_network_type)
+    (value_or [] form.provider_physical_network) (value_of form.provider_segmentation_id)
 
 -- another network has the segment that is asked for
 abbrev pub network_with : List NetworkRow → Segment → Option NetworkRow
@@ -57,11 +64,14 @@ network_with networks segment = find (λ (n : NetworkRow). same_segment segment 
 
 abbrev pub segment_in_use : List NetworkRow → Option Segment → Option Refusal
 segment_in_use networks None = None
-segment_in_use networks (Some segment) = option_map (λ (n : NetworkRow). SegmentInUse segment n.id) (network_with networks segment)
+segment_in_use networks (Some segment) =
+    option_map (λ (n : NetworkRow). SegmentInUse segment n.id) (network_with networks segment)
 
 -- the least number of the settings' range that no network has
 abbrev pub least_number : SettingsParts → List NetworkRow → Option ℕ
-least_number settings networks = least_from (λ n. not (is_taken networks n)) settings.vxlan_first (settings.vxlan_last + 1 - settings.vxlan_first)
+least_number settings networks =
+    least_from (λ n. not (is_taken networks n)) settings.vxlan_first
+    (settings.vxlan_last + 1 - settings.vxlan_first)
 
 abbrev pub segment_or : SettingsParts → List NetworkRow → Option Segment → Option Segment
 segment_or settings networks (Some segment) = Some segment
@@ -69,4 +79,5 @@ segment_or settings networks None = option_map Vxlan (least_number settings netw
 
 -- the segment of a new network, while fewer than 4,000 networks stand
 abbrev pub chosen_segment : SettingsParts → List NetworkRow → Option Segment → Option Segment
-chosen_segment settings networks asked = if nat_le most_networks (length networks) then None else segment_or settings networks asked
+chosen_segment settings networks asked =
+    if nat_le most_networks (length networks) then None else segment_or settings networks asked

@@ -1,4 +1,5 @@
--- Ports that come along with other rows: of routers, of DHCP and of floating addresses. They have no port security.
+-- Ports that come along with other rows: of routers, of DHCP and of floating addresses. They have
+-- no port security.
 use Rattle.api_ml2.specs.Binding.{bound}
 use Rattle.api_types.specs.Ident.{Ident}
 use Rattle.api_types.specs.declared.network.NetworkRow.{NetworkRow}
@@ -21,7 +22,8 @@ abbrev pub floating_owner : Text
 floating_owner = codes "network:floatingip"
 
 -- of a project, on a network, bound to a host by the drivers
-abbrev pub service_port : SettingsParts → NetworkRow → Ident → Text → MacAddress → List Fixed → Text → Text → Text → PortRow
+abbrev pub service_port : SettingsParts → NetworkRow → Ident → Text → MacAddress → List Fixed
+    → Text → Text → Text → PortRow
 service_port settings n i project mac fixed owner device host = record {
   id = i;
   project = project;

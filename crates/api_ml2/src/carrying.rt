@@ -13,9 +13,7 @@ use net_settings::Host;
 pub fn is_on(host: &Host, physical: &Text) -> bool
     ensures { result ≡ list_any (bytes_eq physical.now) host.now.physical }
 {
-    host.physical
-        .iter()
-        .any(|other| physical == other)
+    host.physical.iter().any(|other| physical == other)
 }
 
 pub(crate) fn can_carry(host: &Host, segment: &Segment) -> bool

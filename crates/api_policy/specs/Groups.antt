@@ -1,4 +1,5 @@
--- What is printed of a security group and of a rule (Networking API reference, Show security group; Show security group rule).
+-- What is printed of a security group and of a rule (Networking API reference, Show security
+-- group; Show security group rule).
 use Rattle.std.specs.Prelude.{ℕ, List, [], ◌∷◌, ◌==◌, Option, Some, None, codes, decimal, if◌then◌else◌}
 use Rattle.std.specs.List.{filter}
 use Rattle.std.specs.Option.{unwrap_or}
@@ -25,9 +26,13 @@ ethertype_word Ipv6 = codes "IPv6"
 -- protocols with names (IANA, protocol numbers)
 abbrev pub named_protocol : ℕ → Option Text
 named_protocol n =
-    if n == 1 then Some (codes "icmp") else if n == 2 then Some (codes "igmp") else if n == 6 then Some (codes "tcp")
-    else if n == 17 then Some (codes "udp") else if n == 47 then Some (codes "gre") else if n == 50 then Some (codes "esp")
-    else if n == 51 then Some (codes "ah") else if n == 58 then Some (codes "ipv6-icmp") else if n == 89 then Some (codes "ospf") else if n == 112 then Some (codes "vrrp")
+    if n == 1 then Some (codes "icmp")
+    else if n == 2 then Some (codes "igmp") else if n == 6 then Some (codes "tcp")
+    else if n == 17 then Some (codes "udp")
+    else if n == 47 then Some (codes "gre") else if n == 50 then Some (codes "esp")
+    else if n == 51 then Some (codes "ah")
+    else if n == 58 then Some (codes "ipv6-icmp")
+    else if n == 89 then Some (codes "ospf") else if n == 112 then Some (codes "vrrp")
     else if n == 132 then Some (codes "sctp") else None
 
 -- a protocol is printed as its name, and else as its number

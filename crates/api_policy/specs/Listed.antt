@@ -1,5 +1,5 @@
--- Lists of rows (Networking API reference, pagination and filtering): of the rows behind the marker's, those that the caller sees
--- and that meet the filters, cut to the limit.
+-- Lists of rows (Networking API reference, pagination and filtering): of the rows behind the
+-- marker's, those that the caller sees and that meet the filters, cut to the limit.
 use Rattle.std.specs.Prelude.{ℕ, List, [], ◌∷◌, Bool, true, false, ◌&&◌, Option, None, Some, map, nat_le, take, if◌then◌else◌}
 use Rattle.std.specs.List.{filter}
 use Rattle.api_types.specs.Ident.{Ident}
@@ -51,22 +51,42 @@ is_full None many = false
 is_full (Some n) many = nat_le n many
 
 -- of rows with these members, those that are seen and meet the filters
-abbrev pub listed_of : {R : Type 0} → (R → Bool) → (R → List NamedTree) → Kind → Bool → Query → List R → List ShownRow
+abbrev pub listed_of : {R : Type 0} → (R → Bool) → (R → List NamedTree) → Kind → Bool → Query
+    → List R → List ShownRow
 listed_of seen members kind admin q rows =
-    map (λ r. shown_as kind admin q.fields (members r)) (filter (λ r. seen r && meets admin q.filters (members r)) rows)
+    map (λ r. shown_as kind admin q.fields (members r))
+    (filter (λ r. seen r && meets admin q.filters (members r)) rows)
 
 -- the same of the rows behind the marker, up to the limit
-abbrev pub listed_in : {R : Type 0} → (R → Ident) → (R → Bool) → (R → List NamedTree) → Kind → Bool → Query → List R → List ShownRow
-listed_in id_of seen members kind admin q rows = cut q.limit (listed_of seen members kind admin q (behind_marker id_of q.marker rows))
+abbrev pub listed_in : {R : Type 0} → (R → Ident) → (R → Bool) → (R → List NamedTree) → Kind → Bool
+    → Query → List R → List ShownRow
+listed_in id_of seen members kind admin q rows =
+    cut q.limit (listed_of seen members kind admin q (behind_marker id_of q.marker rows))
 
 -- what a caller is listed of a kind; projects are no rows that are shown
 abbrev pub listed : RowLists → Caller → Kind → Query → List ShownRow
 listed rows caller Project q = []
-listed rows caller Network q = listed_in (λ r. r.id) (sees_network rows caller) (network_members rows caller) Network caller.admin q rows.networks
-listed rows caller Subnet q = listed_in (λ r. r.id) (sees_subnet rows caller) subnet_members Subnet caller.admin q rows.subnets
-listed rows caller Port q = listed_in (λ r. r.id) (sees_port rows caller) (port_members rows) Port caller.admin q rows.ports
-listed rows caller Group q = listed_in (λ r. r.id) (λ r. is_own caller r.project) (group_members rows) Group caller.admin q rows.groups
-listed rows caller Rule q = listed_in (λ r. r.id) (λ r. is_own caller r.project) rule_members Rule caller.admin q rows.rules
-listed rows caller Router q = listed_in (λ r. r.id) (λ r. is_own caller r.project) (router_members rows) Router caller.admin q rows.routers
-listed rows caller Floating q = listed_in (λ r. r.id) (λ r. is_own caller r.project) floating_members Floating caller.admin q rows.floatings
-listed rows caller Policy q = listed_in (λ r. r.id) (λ r. is_own caller r.project) policy_members Policy caller.admin q rows.policies
+listed rows caller Network q =
+    listed_in (λ r. r.id) (sees_network rows caller) (network_members rows caller) Network
+    caller.admin q rows.networks
+listed rows caller Subnet q =
+    listed_in (λ r. r.id) (sees_subnet rows caller) subnet_members Subnet caller.admin q
+    rows.subnets
+listed rows caller Port q =
+    listed_in (λ r. r.id) (sees_port rows caller) (port_members rows) Port caller.admin q
+    rows.ports
+listed rows caller Group q =
+    listed_in (λ r. r.id) (λ r. is_own caller r.project) (group_members rows) Group caller.admin q
+    rows.groups
+listed rows caller Rule q =
+    listed_in (λ r. r.id) (λ r. is_own caller r.project) rule_members Rule caller.admin q
+    rows.rules
+listed rows caller Router q =
+    listed_in (λ r. r.id) (λ r. is_own caller r.project) (router_members rows) Router caller.admin
+    q rows.routers
+listed rows caller Floating q =
+    listed_in (λ r. r.id) (λ r. is_own caller r.project) floating_members Floating caller.admin q
+    rows.floatings
+listed rows caller Policy q =
+    listed_in (λ r. r.id) (λ r. is_own caller r.project) policy_members Policy caller.admin q
+    rows.policies

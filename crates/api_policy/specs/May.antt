@@ -1,5 +1,6 @@
--- Which rule of policy forbids a call: the first that is broken, by what the body asks for and by the rows that path and body name,
--- where they are there and seen. What is only shown or listed is forbidden to nobody.
+-- Which rule of policy forbids a call: the first that is broken, by what the body asks for and by
+-- the rows that path and body name, where they are there and seen. What is only shown or listed is
+-- forbidden to nobody.
 use Rattle.api_policy.specs.Permits.{breaks_admin_only, breaks_network_access, breaks_network_owner, breaks_owner_only, breaks_port_delete}
 use Rattle.api_policy.specs.Reserved.{floating_for_admin, network_for_admin, policy_for_admin, port_for_admin, port_for_owner, router_for_admin, snat_asked}
 use Rattle.api_policy.specs.Seen.{floating_seen, group_seen, network_seen, policy_seen, port_seen, router_seen, rule_seen, subnet_seen}
@@ -40,7 +41,8 @@ abbrev pub owner_rule : Caller → Text → Option PolicyRule
 owner_rule caller project = rule_if (breaks_owner_only caller project) OwnerOnly
 
 abbrev pub network_rule : RowLists → Caller → Bool → Ident → Option PolicyRule
-network_rule rows caller needed network = rule_if (breaks_network_owner rows caller needed network) NetworkOwner
+network_rule rows caller needed network =
+    rule_if (breaks_network_owner rows caller needed network) NetworkOwner
 
 abbrev pub access_rule : RowLists → Caller → Ident → Option PolicyRule
 access_rule rows caller network = rule_if (breaks_network_access rows caller network) NetworkAccess
@@ -51,69 +53,93 @@ deletion_rule rows caller p = rule_if (breaks_port_delete rows caller p) PortDel
 -- by the row that is named, where it is seen
 
 abbrev pub on_network : RowLists → Caller → Option Ident → Option PolicyRule
-on_network rows caller i = option_and_then (λ (n : NetworkRow). network_rule rows caller true n.id) (network_seen rows caller i)
+on_network rows caller i =
+    option_and_then (λ (n : NetworkRow). network_rule rows caller true n.id)
+    (network_seen rows caller i)
 
 abbrev pub network_owned : RowLists → Caller → Option Ident → Option PolicyRule
-network_owned rows caller i = option_and_then (λ (n : NetworkRow). owner_rule caller n.project) (network_seen rows caller i)
+network_owned rows caller i =
+    option_and_then (λ (n : NetworkRow). owner_rule caller n.project) (network_seen rows caller i)
 
 abbrev pub subnet_owned : RowLists → Caller → Option Ident → Option PolicyRule
-subnet_owned rows caller i = option_and_then (λ (s : SubnetRow). network_rule rows caller true s.network) (subnet_seen rows caller i)
+subnet_owned rows caller i =
+    option_and_then (λ (s : SubnetRow). network_rule rows caller true s.network)
+    (subnet_seen rows caller i)
 
 abbrev pub port_owned : RowLists → Caller → Option Ident → Option PolicyRule
-port_owned rows caller i = option_and_then (λ (p : PortRow). owner_rule caller p.project) (port_seen rows caller i)
+port_owned rows caller i =
+    option_and_then (λ (p : PortRow). owner_rule caller p.project) (port_seen rows caller i)
 
 abbrev pub group_owned : RowLists → Caller → Option Ident → Option PolicyRule
-group_owned rows caller i = option_and_then (λ (g : GroupRow). owner_rule caller g.project) (group_seen rows caller i)
+group_owned rows caller i =
+    option_and_then (λ (g : GroupRow). owner_rule caller g.project) (group_seen rows caller i)
 
 abbrev pub rule_owned : RowLists → Caller → Option Ident → Option PolicyRule
-rule_owned rows caller i = option_and_then (λ (r : RuleRow). owner_rule caller r.project) (rule_seen rows caller i)
+rule_owned rows caller i =
+    option_and_then (λ (r : RuleRow). owner_rule caller r.project) (rule_seen rows caller i)
 
 abbrev pub router_owned : RowLists → Caller → Option Ident → Option PolicyRule
-router_owned rows caller i = option_and_then (λ (r : RouterRow). owner_rule caller r.project) (router_seen rows caller i)
+router_owned rows caller i =
+    option_and_then (λ (r : RouterRow). owner_rule caller r.project) (router_seen rows caller i)
 
 abbrev pub floating_owned : RowLists → Caller → Option Ident → Option PolicyRule
-floating_owned rows caller i = option_and_then (λ (f : FloatingRow). owner_rule caller f.project) (floating_seen rows caller i)
+floating_owned rows caller i =
+    option_and_then (λ (f : FloatingRow). owner_rule caller f.project)
+    (floating_seen rows caller i)
 
 abbrev pub policy_owned : RowLists → Caller → Option Ident → Option PolicyRule
-policy_owned rows caller i = option_and_then (λ (l : PolicyRow). owner_rule caller l.project) (policy_seen rows caller i)
+policy_owned rows caller i =
+    option_and_then (λ (l : PolicyRow). owner_rule caller l.project) (policy_seen rows caller i)
 
 -- making a row
 
 abbrev pub port_on : RowLists → Caller → PortForm → NetworkRow → Option PolicyRule
-port_on rows caller form n = option_or (network_rule rows caller (port_for_owner form) n.id) (access_rule rows caller n.id)
+port_on rows caller form n =
+    option_or (network_rule rows caller (port_for_owner form) n.id) (access_rule rows caller n.id)
 
 abbrev pub port_made_by : RowLists → Caller → PortForm → Option PolicyRule
 port_made_by rows caller form =
-    option_or (admin_rule caller (port_for_admin caller form)) (option_and_then (port_on rows caller form) (network_seen rows caller (value_of form.network_id)))
+    option_or (admin_rule caller (port_for_admin caller form))
+    (option_and_then (port_on rows caller form)
+    (network_seen rows caller (value_of form.network_id)))
 
 abbrev pub creation_rule : RowLists → Caller → Form → Option PolicyRule
 creation_rule rows caller (NetworkOf form) = admin_rule caller (network_for_admin caller form)
 creation_rule rows caller (SubnetOf form) = on_network rows caller (value_of form.network_id)
 creation_rule rows caller (PortOf form) = port_made_by rows caller form
-creation_rule rows caller (GroupOf form) = admin_rule caller (is_for_other caller form.project_id form.tenant_id)
+creation_rule rows caller (GroupOf form) =
+    admin_rule caller (is_for_other caller form.project_id form.tenant_id)
 creation_rule rows caller (RuleOf form) = group_owned rows caller (value_of form.security_group_id)
 creation_rule rows caller (RouterOf form) = admin_rule caller (router_for_admin caller form)
 creation_rule rows caller (FloatingOf form) = admin_rule caller (floating_for_admin caller form)
-creation_rule rows caller (PolicyOf form) = option_or (admin_rule caller (policy_for_admin caller form)) (on_network rows caller (value_of form.object_id))
+creation_rule rows caller (PolicyOf form) =
+    option_or (admin_rule caller (policy_for_admin caller form))
+    (on_network rows caller (value_of form.object_id))
 
 -- changing a row; rules of security groups aren't changed
 
 abbrev pub change_of_port : RowLists → Caller → PortForm → PortRow → Option PolicyRule
-change_of_port rows caller form p = option_or (owner_rule caller p.project) (network_rule rows caller (port_for_owner form) p.network)
+change_of_port rows caller form p =
+    option_or (owner_rule caller p.project)
+    (network_rule rows caller (port_for_owner form) p.network)
 
 abbrev pub port_changed_by : RowLists → Caller → Option Ident → PortForm → Option PolicyRule
 port_changed_by rows caller i form =
-    option_or (admin_rule caller (port_for_admin caller form)) (option_and_then (change_of_port rows caller form) (port_seen rows caller i))
+    option_or (admin_rule caller (port_for_admin caller form))
+    (option_and_then (change_of_port rows caller form) (port_seen rows caller i))
 
 abbrev pub update_rule : RowLists → Caller → Option Ident → Form → Option PolicyRule
-update_rule rows caller i (NetworkOf form) = option_or (admin_rule caller (network_for_admin caller form)) (network_owned rows caller i)
+update_rule rows caller i (NetworkOf form) =
+    option_or (admin_rule caller (network_for_admin caller form)) (network_owned rows caller i)
 update_rule rows caller i (SubnetOf form) = subnet_owned rows caller i
 update_rule rows caller i (PortOf form) = port_changed_by rows caller i form
 update_rule rows caller i (GroupOf form) = group_owned rows caller i
 update_rule rows caller i (RuleOf form) = None
-update_rule rows caller i (RouterOf form) = option_or (admin_rule caller (is_some (snat_asked form))) (router_owned rows caller i)
+update_rule rows caller i (RouterOf form) =
+    option_or (admin_rule caller (is_some (snat_asked form))) (router_owned rows caller i)
 update_rule rows caller i (FloatingOf form) = floating_owned rows caller i
-update_rule rows caller i (PolicyOf form) = option_or (admin_rule caller (policy_for_admin caller form)) (policy_owned rows caller i)
+update_rule rows caller i (PolicyOf form) =
+    option_or (admin_rule caller (policy_for_admin caller form)) (policy_owned rows caller i)
 
 -- taking a row out
 

@@ -18,9 +18,12 @@ retargeted l (Some target) policies = with_aimed l target policies
 
 -- the first port on the policy's network that would lack what it needs
 abbrev pub port_in_need : RowLists → PolicyRow → List PolicyRow → Option PortRow
-port_in_need rows l policies = option_and_then (policy_user rows policies) (row_of (λ n. n.id) l.object rows.networks)
+port_in_need rows l policies =
+    option_and_then (policy_user rows policies) (row_of (λ n. n.id) l.object rows.networks)
 
 abbrev pub user_of_policy : RowLists → Ident → Option Text → Option (Kind × Ident)
 user_of_policy rows i target =
-    option_and_then (λ l. option_map (λ (p : PortRow). (PortKind, p.id)) (port_in_need rows l (retargeted l target rows.policies)))
+    option_and_then (λ l.
+    option_map (λ (p : PortRow). (PortKind, p.id))
+    (port_in_need rows l (retargeted l target rows.policies)))
     (row_of (λ l. l.id) i rows.policies)

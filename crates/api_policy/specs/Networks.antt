@@ -21,7 +21,8 @@ use Rattle.api_policy.specs.Trees.{id_word, list_of}
 
 -- a policy permits the action on the network to all projects
 abbrev pub permits_all : Ident → Action → PolicyRow → Bool
-permits_all network action p = ident_eq network p.object && (is_action action p.action && bytes_eq p.target everyone)
+permits_all network action p =
+    ident_eq network p.object && (is_action action p.action && bytes_eq p.target everyone)
 
 abbrev pub is_open : List PolicyRow → Ident → Action → Bool
 is_open policies network action = list_any (permits_all network action) policies
@@ -29,7 +30,9 @@ is_open policies network action = list_any (permits_all network action) policies
 -- the network's subnets that the caller sees
 abbrev pub subnets_of : RowLists → Caller → Ident → List Ident
 subnets_of rows caller network =
-    map (λ (s : SubnetRow). s.id) (filter (λ (s : SubnetRow). ident_eq network s.network && sees_subnet rows caller s) rows.subnets)
+    map (λ (s : SubnetRow). s.id)
+    (filter (λ (s : SubnetRow). ident_eq network s.network && sees_subnet rows caller s)
+    rows.subnets)
 
 abbrev pub type_word : Segment → Text
 type_word Local = codes "local"

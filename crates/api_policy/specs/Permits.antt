@@ -1,4 +1,5 @@
--- The rules of policy, by which some calls are for administrators or owners alone. Administrators meet all of them.
+-- The rules of policy, by which some calls are for administrators or owners alone. Administrators
+-- meet all of them.
 use Rattle.api_policy.specs.Visibility.{is_own, owns_network, sees_port, uses_network}
 use Rattle.api_types.specs.Refusing.{when}
 use Rattle.api_types.specs.Ident.{Ident}
@@ -23,11 +24,13 @@ breaks_owner_only caller project = not (is_own caller project)
 
 -- it asks for what is for the network's owner alone
 abbrev pub breaks_network_owner : RowLists → Caller → Bool → Ident → Bool
-breaks_network_owner rows caller needed network = needed && not (caller.admin || owns_network rows caller.project network)
+breaks_network_owner rows caller needed network =
+    needed && not (caller.admin || owns_network rows caller.project network)
 
 -- it needs a network that is neither its project's nor shared with it
 abbrev pub breaks_network_access : RowLists → Caller → Ident → Bool
-breaks_network_access rows caller network = not (caller.admin || uses_network rows caller.project network)
+breaks_network_access rows caller network =
+    not (caller.admin || uses_network rows caller.project network)
 
 -- it takes out a port of which neither it nor its network is the project's
 abbrev pub breaks_port_delete : RowLists → Caller → PortRow → Bool
@@ -42,10 +45,12 @@ abbrev pub owner_only : Caller → Text → Option Refusal
 owner_only caller project = when (breaks_owner_only caller project) (Forbidden OwnerOnly)
 
 abbrev pub network_owner : RowLists → Caller → Bool → Ident → Option Refusal
-network_owner rows caller needed network = when (breaks_network_owner rows caller needed network) (Forbidden NetworkOwner)
+network_owner rows caller needed network =
+    when (breaks_network_owner rows caller needed network) (Forbidden NetworkOwner)
 
 abbrev pub network_access : RowLists → Caller → Ident → Option Refusal
-network_access rows caller network = when (breaks_network_access rows caller network) (Forbidden NetworkAccess)
+network_access rows caller network =
+    when (breaks_network_access rows caller network) (Forbidden NetworkAccess)
 
 abbrev pub port_delete : RowLists → Caller → PortRow → Option Refusal
 port_delete rows caller p = when (breaks_port_delete rows caller p) (Forbidden PortDelete)

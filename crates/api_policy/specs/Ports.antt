@@ -1,4 +1,5 @@
--- What is printed of a port (Networking API reference, Show port details; extended attributes of bindings and port security).
+-- What is printed of a port (Networking API reference, Show port details; extended attributes of
+-- bindings and port security).
 use Rattle.std.specs.Prelude.{List, [], ◌∷◌, Bool, codes, if◌then◌else◌}
 use Rattle.net_addr.specs.Words.{Text}
 use Rattle.api_types.specs.Printed.{NamedTree, truth, word}

@@ -1,4 +1,5 @@
--- Quotas: how many rows of a kind a project may have. Rows that come along with others count as used.
+-- Quotas: how many rows of a kind a project may have. Rows that come along with others count as
+-- used.
 use Rattle.api_types.specs.Refusing.{when}
 use Rattle.api_types.specs.Parts.{project_of}
 use Rattle.api_types.specs.RowLists.{RowLists}
@@ -45,4 +46,5 @@ over_limit kind (AtMost limit) used = when (nat_lt limit (used + 1)) (OverQuota 
 
 -- one row more of the kind would be above the project's limit
 abbrev pub over_quota : SettingsParts → RowLists → Text → Kind → Option Refusal
-over_quota settings rows project kind = over_limit kind (limit_of settings.quotas kind) (used_of rows project kind)
+over_quota settings rows project kind =
+    over_limit kind (limit_of settings.quotas kind) (used_of rows project kind)

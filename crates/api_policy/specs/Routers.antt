@@ -17,7 +17,10 @@ fixed_of (Some p) = p.fixed
 abbrev pub gateway_object : RowLists → Gateway → Tree
 gateway_object rows g = object (branches_of (
     (codes "enable_snat", truth g.snat)
-    ∷ (codes "external_fixed_ips", list_of fixed_object (fixed_of (row_of (λ (p : PortRow). p.id) g.port rows.ports)))
+    ∷ (
+      codes "external_fixed_ips",
+      list_of fixed_object (fixed_of (row_of (λ (p : PortRow). p.id) g.port rows.ports)),
+    )
     ∷ (codes "network_id", id_word g.network)
     ∷ []))
 

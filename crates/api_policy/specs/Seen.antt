@@ -39,7 +39,8 @@ abbrev pub router_seen : RowLists → Caller → Option Ident → Option RouterR
 router_seen rows caller i = at_name (λ r. r.id) i (own_rows (λ r. r.project) caller rows.routers)
 
 abbrev pub floating_seen : RowLists → Caller → Option Ident → Option FloatingRow
-floating_seen rows caller i = at_name (λ r. r.id) i (own_rows (λ r. r.project) caller rows.floatings)
+floating_seen rows caller i =
+    at_name (λ r. r.id) i (own_rows (λ r. r.project) caller rows.floatings)
 
 abbrev pub policy_seen : RowLists → Caller → Option Ident → Option PolicyRow
 policy_seen rows caller i = at_name (λ r. r.id) i (own_rows (λ r. r.project) caller rows.policies)

@@ -35,13 +35,21 @@ abbrev pub list_of : {X : Type 0} → (X → Tree) → List X → Tree
 list_of printed xs = items (trees_of (map printed xs))
 
 abbrev pub fixed_object : Fixed → Tree
-fixed_object f = object (branches_of ((codes "ip_address", address_word f.address) ∷ (codes "subnet_id", id_word f.subnet) ∷ []))
+fixed_object f =
+    object (branches_of
+    ((codes "ip_address", address_word f.address) ∷ (codes "subnet_id", id_word f.subnet) ∷ []))
 
 abbrev pub pair_object : Pair → Tree
-pair_object p = object (branches_of ((codes "ip_address", prefix_word p.prefix) ∷ (codes "mac_address", mac_word p.mac) ∷ []))
+pair_object p =
+    object (branches_of
+    ((codes "ip_address", prefix_word p.prefix) ∷ (codes "mac_address", mac_word p.mac) ∷ []))
 
 abbrev pub route_object : Hop → Tree
-route_object h = object (branches_of ((codes "destination", prefix_word h.destination) ∷ (codes "nexthop", address_word h.next) ∷ []))
+route_object h =
+    object (branches_of ((codes "destination", prefix_word h.destination)
+    ∷ (codes "nexthop", address_word h.next) ∷ []))
 
 abbrev pub span_object : Span → Tree
-span_object s = object (branches_of ((codes "end", address_word s.last) ∷ (codes "start", address_word s.first) ∷ []))
+span_object s =
+    object
+    (branches_of ((codes "end", address_word s.last) ∷ (codes "start", address_word s.first) ∷ []))

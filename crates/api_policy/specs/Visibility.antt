@@ -19,15 +19,23 @@ is_own caller project = caller.admin || bytes_eq project caller.project
 
 -- and a project sees a network that is shared with it or external to it
 abbrev pub sees_network : RowLists → Caller → NetworkRow → Bool
-sees_network rows caller n = is_own caller n.project || (is_shared_with rows.policies n.id caller.project || is_external_to rows.policies n.id caller.project)
+sees_network rows caller n =
+    is_own caller n.project
+    || (is_shared_with rows.policies n.id caller.project
+    || is_external_to rows.policies n.id caller.project)
 
 -- whether the network is there and is the project's
 abbrev pub owns_network : RowLists → Text → Ident → Bool
-owns_network rows project i = stands_so (λ (n : NetworkRow). n.id) i (λ (n : NetworkRow). bytes_eq n.project project) rows.networks
+owns_network rows project i =
+    stands_so (λ (n : NetworkRow). n.id) i (λ (n : NetworkRow). bytes_eq n.project project)
+    rows.networks
 
 -- whether the network is there and is the project's or shared with it
 abbrev pub uses_network : RowLists → Text → Ident → Bool
-uses_network rows project i = stands_so (λ (n : NetworkRow). n.id) i (λ (n : NetworkRow). bytes_eq n.project project || is_shared_with rows.policies n.id project) rows.networks
+uses_network rows project i =
+    stands_so (λ (n : NetworkRow). n.id) i
+    (λ (n : NetworkRow). bytes_eq n.project project || is_shared_with rows.policies n.id project)
+    rows.networks
 
 -- the subnets of such a network
 abbrev pub sees_subnet : RowLists → Caller → SubnetRow → Bool
@@ -56,5 +64,7 @@ sees_row rows caller Port i = stands_so (λ r. r.id) i (sees_port rows caller) r
 sees_row rows caller Group i = stands_so (λ r. r.id) i (λ r. is_own caller r.project) rows.groups
 sees_row rows caller Rule i = stands_so (λ r. r.id) i (λ r. is_own caller r.project) rows.rules
 sees_row rows caller Router i = stands_so (λ r. r.id) i (λ r. is_own caller r.project) rows.routers
-sees_row rows caller Floating i = stands_so (λ r. r.id) i (λ r. is_own caller r.project) rows.floatings
-sees_row rows caller Policy i = stands_so (λ r. r.id) i (λ r. is_own caller r.project) rows.policies
+sees_row rows caller Floating i =
+    stands_so (λ r. r.id) i (λ r. is_own caller r.project) rows.floatings
+sees_row rows caller Policy i =
+    stands_so (λ r. r.id) i (λ r. is_own caller r.project) rows.policies

@@ -9,7 +9,9 @@ ghost use Rattle.api_policy.specs.Uses.{named_by_device as named_by, port_in_use
 
 use crate::empty::is_empty;
 use crate::told::told_user;
-use api_types::{Caller, FloatingRow, Id, Kind, PortRow, Refusal, RouterRow, Rows, Shared, UseRule};
+use api_types::{
+    Caller, FloatingRow, Id, Kind, PortRow, Refusal, RouterRow, Rows, Shared, UseRule,
+};
 use net_addr::Text;
 
 fn router_named<'r>(

@@ -16,8 +16,8 @@ use crate::empty::is_empty;
 use crate::standing::{Standing, is_granted, permits_all};
 use crate::told::{unless_used, used_by_port};
 use api_types::{
-    Action, Caller, FloatingRow, Id, Kind, NetworkRow, PolicyRow, PortRow, Refusal, RouterRow, Rows,
-    Shared, UseRule,
+    Action, Caller, FloatingRow, Id, Kind, NetworkRow, PolicyRow, PortRow, Refusal, RouterRow,
+    Rows, Shared, UseRule,
 };
 use net_addr::Text;
 

@@ -176,7 +176,9 @@ pub fn group_in_use(rows: &Rows, caller: &Caller, group: Id) -> Result<(), Refus
 fn interface_on<'r>(ports: &'r [Shared<PortRow>], router: &RouterRow) -> Option<&'r Shared<PortRow>>
     ensures { option_copied result ≡ find (interface_of router.now) ports.now }
 {
-    ports.iter().find(|port| port.is_interface() && port.is_of(router))
+    ports
+        .iter()
+        .find(|port| port.is_interface() && port.is_of(router))
 }
 
 /// Refuses a router that has an interface. Its cost grows with the ports.

@@ -7,8 +7,8 @@ ghost use Rattle.api_types.specs.declared.call.Caller.{Caller as TheCaller};
 ghost use Rattle.api_policy.specs.Visibility.{is_own as is_own_of, owns_network as owns_network_of, uses_network as uses_network_of, sees_network, sees_subnet, sees_port, sees_row};
 
 use api_types::{
-    Caller, FloatingRow, GroupRow, Id, Keyed, Kind, NetworkRow, PolicyRow, PortRow, RouterRow, Rows,
-    RuleRow, SubnetRow, Table,
+    Caller, FloatingRow, GroupRow, Id, Keyed, Kind, NetworkRow, PolicyRow, PortRow, RouterRow,
+    Rows, RuleRow, SubnetRow, Table,
 };
 use net_addr::Text;
 
@@ -47,9 +47,7 @@ pub(crate) fn uses_network(rows: &Rows, project: &Text, network: Id) -> bool
     let networks = rows.networks();
     let _own_ids = networks.rows(); // for the proof: no two networks have one id
     match networks.get(network) {
-        Some(network) => {
-            network.project == *project || rows.is_shared_with(network.id, project)
-        }
+        Some(network) => { network.project == *project || rows.is_shared_with(network.id, project) }
         None => false,
     }
 }

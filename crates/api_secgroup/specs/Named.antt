@@ -12,4 +12,5 @@ abbrev pub names : Ident → PortRow → Bool
 names g p = names_group g p.groups
 
 abbrev pub given_by : PortRow → List Prefix
-given_by p = map (λ (f : Fixed). whole_prefix f.address) p.fixed ++ map (λ (x : Pair). x.prefix) p.pairs
+given_by p =
+    map (λ (f : Fixed). whole_prefix f.address) p.fixed ++ map (λ (x : Pair). x.prefix) p.pairs

@@ -18,8 +18,11 @@ asked_under filters name = record { name = name; filters = filters }
 
 -- a filter with the name asks for the value
 abbrev pub asks_for : AskedName → Tree → Bool
-asks_for a value = list_any (λ (f : Filter). bytes_eq a.name f.name && fits f.value value) a.filters
+asks_for a value =
+    list_any (λ (f : Filter). bytes_eq a.name f.name && fits f.value value) a.filters
 
 -- a member that the caller is told has the name, and a value that is asked for
 abbrev pub has_asked : Bool → List NamedTree → AskedName → Bool
-has_asked admin members a = list_any (λ (m : NamedTree). is_told admin m.0 && (bytes_eq a.name m.0 && asks_for a m.1)) members
+has_asked admin members a =
+    list_any (λ (m : NamedTree). is_told admin m.0 && (bytes_eq a.name m.0 && asks_for a m.1))
+    members

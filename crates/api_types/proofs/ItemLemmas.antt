@@ -5,7 +5,7 @@ use Rattle.std.proofs.lemmas.Option.{slice_get_within, slice_get_past}
 use Rattle.std.proofs.lemmas.Bool.Decides.{nat_tests}
 use Rattle.api_types.specs.Ident.{Ident}
 use Rattle.api_types.specs.Table.{row_of, ident_eq, HaveOwnIds}
-use Rattle.api_types.specs.Edits.{edited, edited_at, FitsAt, FitsTable, IsOfKind}
+use Rattle.api_types.specs.Edits.{list_after, list_after_at, FitsAt, FitsTable, IsOfKind}
 use Rattle.api_types.specs.TableItems.{same_kind, place_before, after_one, after_all, FitsIf, FitAll, has_id, said_of, said_by}
 use Rattle.api_types.specs.declared.change.Item.{Item}
 use Rattle.api_types.specs.declared.kind.Kind.{Kind}
@@ -102,7 +102,7 @@ module _ {R : Type 0} (kind : Kind) (part : Row → Option R) (id_of : R → Ide
   own_one : (rows : List R) (item : Item) → HaveOwnIds id_of rows → FitsIf (same_kind item.kind kind) part id_of rows item → HaveOwnIds id_of (after_one kind part rows item)
   own_one rows item own fits = by (same_kind item.kind kind) fits
     where
-      by : (b : Bool) → FitsIf b part id_of rows item → HaveOwnIds id_of (cond b (edited part rows item) rows)
+      by : (b : Bool) → FitsIf b part id_of rows item → HaveOwnIds id_of (cond b (list_after part rows item) rows)
       by true fits = own_still id_of rows item.place (option_and_then part item.before) (option_and_then part item.after) own fits.2
       by false fits = own
 
@@ -114,12 +114,12 @@ module _ {R : Type 0} (kind : Kind) (part : Row → Option R) (id_of : R → Ide
   -- what stands at a place after an item stood at another before it
 
   put_at : (rows : List R) (place : ℕ) (before : Option R) (row : R) → FitsAt id_of rows place before (Some row)
-      → slice_get (edited_at rows place before (Some row)) place ≡ Some row
+      → slice_get (list_after_at rows place before (Some row)) place ≡ Some row
   put_at rows place None row fits = got_last rows row place fits.0
   put_at rows place (Some old) row fits = got_set rows place old row fits.0
 
   left_at : (rows : List R) (place at : ℕ) (before : Option R) (row : R) → FitsAt id_of rows place before (Some row) → (place ≡ at → ⊥)
-      → slice_get (edited_at rows place before (Some row)) at ≡ slice_get rows at
+      → slice_get (list_after_at rows place before (Some row)) at ≡ slice_get rows at
   left_at rows place at None row fits off = got_earlier rows row place at fits.0 off
   left_at rows place at (Some old) row fits off = got_other rows place at row off
 
@@ -149,24 +149,24 @@ module _ {R : Type 0} (kind : Kind) (part : Row → Option R) (id_of : R → Ide
   back_removed rows place at put false e = got_front rows place at (above place at e)
 
   back_put : (rows : List R) (place at : ℕ) (before : Option R) (row : R) → FitsAt id_of rows place before (Some row) → (b : Bool) → (place == at) ≡ b
-      → IsBack (edited_at rows place before (Some row)) rows at (Some row) (if b then None else Some at)
+      → IsBack (list_after_at rows place before (Some row)) rows at (Some row) (if b then None else Some at)
   back_put rows place at before row fits true e =
-      ap (slice_get (edited_at rows place before (Some row))) (sym (equal place at e)) ∙ put_at kind part id_of rows place before row fits
+      ap (slice_get (list_after_at rows place before (Some row))) (sym (equal place at e)) ∙ put_at kind part id_of rows place before row fits
   back_put rows place at before row fits false e = left_at kind part id_of rows place at before row fits (apart place at e)
 
   back_some : (rows : List R) (place at : ℕ) (before after : Option R) → IsSome after → FitsAt id_of rows place before after
-      → IsBack (edited_at rows place before after) rows at after (if place == at then None else Some at)
+      → IsBack (list_after_at rows place before after) rows at after (if place == at then None else Some at)
   back_some rows place at before None is fits = absurd (true≢false (sym is))
   back_some rows place at before (Some row) is fits = back_put rows place at before row fits (place == at) refl
 
   back_item : (rows : List R) (place at : ℕ) (before : Option R) (after : Option Row) → IsOfKind part after → FitsAt id_of rows place before (option_and_then part after)
-      → IsBack (edited_at rows place before (option_and_then part after)) rows at (option_and_then part after)
+      → IsBack (list_after_at rows place before (option_and_then part after)) rows at (option_and_then part after)
       (if is_some after then (if place == at then None else Some at) else (if nat_le place at then Some (at + 1) else Some at))
   back_item rows place at before None is fits = back_removed rows place at None (nat_le place at) refl
   back_item rows place at before (Some row) is fits = back_some rows place at before (part row) is fits
 
   back_one : (rows : List R) (item : Item) (at : ℕ) (b : Bool) → FitsIf b part id_of rows item
-      → IsBack (cond b (edited part rows item) rows) rows at (option_and_then part item.after)
+      → IsBack (cond b (list_after part rows item) rows) rows at (option_and_then part item.after)
       (if b then
       (if is_some item.after then (if item.place == at then None else Some at)
       else (if nat_le item.place at then Some (at + 1) else Some at))
@@ -261,7 +261,7 @@ module _ {R : Type 0} (id_of : R → Ident) where
   said_set i rows place old row at same false e = same_set i rows place old row at same
 
   said_at : (i : Ident) (rows : List R) (place : ℕ) (before after : Option R) → HaveOwnIds id_of rows → FitsAt id_of rows place before after
-      → IsSaid i (edited_at rows place before after) rows (said_of id_of i before after)
+      → IsSaid i (list_after_at rows place before after) rows (said_of id_of i before after)
   said_at i rows place None None own fits = absurd fits
   said_at i rows place None (Some row) own fits = said_added i rows row (ident_eq i (id_of row)) refl
   said_at i rows place (Some old) None own fits = said_removed i rows place old own fits (ident_eq i (id_of old)) refl
@@ -271,7 +271,7 @@ module _ {R : Type 0} (id_of : R → Ident) where
 
 module _ {R : Type 0} (kind : Kind) (part : Row → Option R) (id_of : R → Ident) where
   said_one : (i : Ident) (rows : List R) (item : Item) (b : Bool) → HaveOwnIds id_of rows → FitsIf b part id_of rows item
-      → IsSaid id_of i (cond b (edited part rows item) rows) rows (if b then said_of id_of i (option_and_then part item.before) (option_and_then part item.after) else None)
+      → IsSaid id_of i (cond b (list_after part rows item) rows) rows (if b then said_of id_of i (option_and_then part item.before) (option_and_then part item.after) else None)
   said_one i rows item true own fits = said_at id_of i rows item.place (option_and_then part item.before) (option_and_then part item.after) own fits.2
   said_one i rows item false own fits = refl
 

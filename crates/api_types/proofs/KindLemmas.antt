@@ -3,7 +3,7 @@ use Rattle.std.proofs.Common.{◌≡◌, ℕ, zero, suc, ◌+◌, ◌<◌, List,
 use Rattle.std.specs.Prelude.{◌↔◌, if◌then◌else◌, IsTrue, Bool, Option, option_and_then, is_some, ⊤}
 use Rattle.std.proofs.Math.Seq.{take-suc}
 use Rattle.api_types.specs.Ident.{Ident}
-use Rattle.api_types.specs.Edits.{edited, FitsTable}
+use Rattle.api_types.specs.Edits.{list_after, FitsTable}
 use Rattle.api_types.specs.Parts.{project_of, network_of, subnet_of, port_of, group_of, rule_of, router_of, floating_of, policy_of}
 use Rattle.api_types.specs.RowLists.{RowLists}
 use Rattle.api_types.specs.Rows.{project_id, after, after_item, after_of_kind, Fits, FitsItem, FitsOfKind}
@@ -24,15 +24,15 @@ use Rattle.api_types.specs.declared.policy.PolicyRow.{PolicyRow}
 
 -- an item changes the table of its kind alone
 record IsOfOne (k : Kind) (rows : RowLists) (item : Item) : Type 0 where
-  pub projects : (after_of_kind k rows item).projects ≡ (if same_kind k Project then edited project_of rows.projects item else rows.projects)
-  pub networks : (after_of_kind k rows item).networks ≡ (if same_kind k Network then edited network_of rows.networks item else rows.networks)
-  pub subnets : (after_of_kind k rows item).subnets ≡ (if same_kind k Subnet then edited subnet_of rows.subnets item else rows.subnets)
-  pub ports : (after_of_kind k rows item).ports ≡ (if same_kind k Port then edited port_of rows.ports item else rows.ports)
-  pub groups : (after_of_kind k rows item).groups ≡ (if same_kind k Group then edited group_of rows.groups item else rows.groups)
-  pub rules : (after_of_kind k rows item).rules ≡ (if same_kind k Rule then edited rule_of rows.rules item else rows.rules)
-  pub routers : (after_of_kind k rows item).routers ≡ (if same_kind k Router then edited router_of rows.routers item else rows.routers)
-  pub floatings : (after_of_kind k rows item).floatings ≡ (if same_kind k Floating then edited floating_of rows.floatings item else rows.floatings)
-  pub policies : (after_of_kind k rows item).policies ≡ (if same_kind k Policy then edited policy_of rows.policies item else rows.policies)
+  pub projects : (after_of_kind k rows item).projects ≡ (if same_kind k Project then list_after project_of rows.projects item else rows.projects)
+  pub networks : (after_of_kind k rows item).networks ≡ (if same_kind k Network then list_after network_of rows.networks item else rows.networks)
+  pub subnets : (after_of_kind k rows item).subnets ≡ (if same_kind k Subnet then list_after subnet_of rows.subnets item else rows.subnets)
+  pub ports : (after_of_kind k rows item).ports ≡ (if same_kind k Port then list_after port_of rows.ports item else rows.ports)
+  pub groups : (after_of_kind k rows item).groups ≡ (if same_kind k Group then list_after group_of rows.groups item else rows.groups)
+  pub rules : (after_of_kind k rows item).rules ≡ (if same_kind k Rule then list_after rule_of rows.rules item else rows.rules)
+  pub routers : (after_of_kind k rows item).routers ≡ (if same_kind k Router then list_after router_of rows.routers item else rows.routers)
+  pub floatings : (after_of_kind k rows item).floatings ≡ (if same_kind k Floating then list_after floating_of rows.floatings item else rows.floatings)
+  pub policies : (after_of_kind k rows item).policies ≡ (if same_kind k Policy then list_after policy_of rows.policies item else rows.policies)
 
 of_one : (k : Kind) (rows : RowLists) (item : Item) → IsOfOne k rows item
 of_one Project rows item = record { projects = refl; networks = refl; subnets = refl; ports = refl; groups = refl; rules = refl; routers = refl; floatings = refl; policies = refl }

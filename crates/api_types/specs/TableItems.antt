@@ -4,7 +4,7 @@ use Rattle.std.specs.Prelude.{ℕ, ◌+◌, Bool, true, false, List, [], ◌∷�
 use Rattle.api_types.specs.Ident.{Ident}
 use Rattle.api_types.specs.Table.{ident_eq}
 use Rattle.api_types.specs.Lists.{is_some_so}
-use Rattle.api_types.specs.Edits.{edited, FitsTable}
+use Rattle.api_types.specs.Edits.{list_after, FitsTable}
 use Rattle.api_types.specs.declared.change.Item.{Item}
 use Rattle.api_types.specs.declared.kind.Kind.{Kind}
 use Rattle.api_types.specs.declared.kind.Kind.TheVariants.{Project, Network, Subnet, Port, Group, Rule, Router, Floating, Policy}
@@ -34,7 +34,8 @@ place_before kind item at =
 module _ {R : Type 0} where
   -- the rows after an item, if it is of this kind
   abbrev pub after_one : Kind → (Row → Option R) → List R → Item → List R
-  after_one kind part rows item = if same_kind item.kind kind then edited part rows item else rows
+  after_one kind part rows item =
+      if same_kind item.kind kind then list_after part rows item else rows
 
   -- the rows after those of the items that are of this kind, put in one after the other
   abbrev pub after_all : Kind → (Row → Option R) → List R → List Item → List R

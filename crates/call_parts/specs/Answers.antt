@@ -1,4 +1,5 @@
--- What a plan and its checks answer: the refusal that a definition gives, unless memory could not be had, or where the call leads.
+-- What a plan and its checks answer: the refusal that a definition gives, unless memory could not
+-- be had, or where the call leads.
 use Rattle.api_types.specs.Outcome.{Moved, Outcome, Refused}
 use Rattle.api_types.specs.Printed.{Reply}
 use Rattle.api_types.specs.Registration.{Drawing}
@@ -26,8 +27,10 @@ abbrev pub Passes : Option Refusal → Result (Unit {0}) Refusal → Type 0
 Passes refusal (Ok passed) = refusal ≡ None
 Passes refusal (Err e) = IsRefusalIn refusal e
 
--- the call is accepted: the draft begins at the rows of now and leads where the call does, and the reply is of the rows after it
-pub record Leads (rows : RowLists) (outcome : Outcome) (draft : DraftParts) (reply : RowLists → Reply) : Type 0 where
+-- the call is accepted: the draft begins at the rows of now and leads where the call does, and the
+-- reply is of the rows after it
+pub record Leads (rows : RowLists) (outcome : Outcome) (draft : DraftParts)
+    (reply : RowLists → Reply) : Type 0 where
   pub start : draft.start ≡ rows
   pub moved : outcome ≡ Moved draft.rows (reply draft.rows)
 

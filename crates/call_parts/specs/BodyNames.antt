@@ -1,4 +1,5 @@
--- The rows that a body names: each has to be there and to be seen by the caller, in byte order of the attributes.
+-- The rows that a body names: each has to be there and to be seen by the caller, in byte order of
+-- the attributes.
 use Rattle.api_types.specs.Refusing.{not_found}
 use Rattle.api_types.specs.Ident.{Ident, ident_text}
 use Rattle.api_types.specs.declared.kind.Kind.{Kind}
@@ -23,4 +24,5 @@ unless_found kind (Some i) None = Some (not_found kind (ident_text i))
 
 -- the first of the named rows that fails the test
 abbrev pub unless_all : Kind → (Ident → Bool) → List Ident → Option Refusal
-unless_all kind found names = option_map (λ i. not_found kind (ident_text i)) (find (λ i. not (found i)) names)
+unless_all kind found names =
+    option_map (λ i. not_found kind (ident_text i)) (find (λ i. not (found i)) names)

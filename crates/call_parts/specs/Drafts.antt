@@ -26,7 +26,8 @@ pub record DraftParts : Type 0 where
   pub rows : RowLists
 
 -- the row with an id, at its place; no two have one id
-pub record IsFound {R : Type 0} (id_of : R → Ident) (i : Ident) (rows : List R) (place : ℕ) (r : R) : Type 0 where
+pub record IsFound {R : Type 0} (id_of : R → Ident) (i : Ident) (rows : List R) (place : ℕ) (r : R)
+    : Type 0 where
   pub at : slice_get rows place ≡ Some r
   pub is : ident_eq i (id_of r) ≡ true
   pub own_ids : HaveOwnIds id_of rows
@@ -37,4 +38,5 @@ AreRulesNew rules ordinal = (c : ℕ) → row_of (λ (r : RuleRow). r.id) (ident
 
 -- the rows in which so many more ids were drawn for a project
 abbrev pub raised : RowLists → ProjectRow → ℕ → RowLists
-raised rows project many = with_put rows (ProjectOf (record project { count = project.count + many }))
+raised rows project many =
+    with_put rows (ProjectOf (record project { count = project.count + many }))

@@ -1,4 +1,5 @@
--- What an accepted call does to rows, edit by edit, in the order in which its rows are made, set and taken out.
+-- What an accepted call does to rows, edit by edit, in the order in which its rows are made, set
+-- and taken out.
 use Rattle.api_types.specs.Ident.{Ident}
 use Rattle.api_types.specs.Outcome.{Moved, Outcome}
 use Rattle.api_types.specs.Printed.{Reply}

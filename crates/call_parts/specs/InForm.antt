@@ -76,33 +76,42 @@ is_no_service owner = not (bytes_eq (take 8 owner) (codes "network:"))
 
 abbrev pub is_network_body : NetworkForm → Bool
 is_network_body form =
-    are_owners form.project_id form.tenant_id && if_value (λ n. nat_le 1 n && nat_le n 16777215) form.provider_segmentation_id
+    are_owners form.project_id form.tenant_id
+    && if_value (λ n. nat_le 1 n && nat_le n 16777215) form.provider_segmentation_id
 
 abbrev pub is_subnet_body : SubnetForm → Bool
 is_subnet_body form =
-    if_value is_cidr form.cidr && all_apart (value_or [] form.allocation_pools) && is_few 20 form.allocation_pools
-    && is_few 5 form.dns_nameservers && is_few 20 form.host_routes && are_hops form.host_routes && not_null form.enable_dhcp
+    if_value is_cidr form.cidr && all_apart (value_or [] form.allocation_pools)
+    && is_few 20 form.allocation_pools
+    && is_few 5 form.dns_nameservers && is_few 20 form.host_routes && are_hops form.host_routes
+    && not_null form.enable_dhcp
 
 abbrev pub is_port_body : PortForm → Bool
 is_port_body form =
-    are_owners form.project_id form.tenant_id && not_null form.mac_address && if_value is_unicast form.mac_address
+    are_owners form.project_id form.tenant_id && not_null form.mac_address
+    && if_value is_unicast form.mac_address
     && is_few 5 form.fixed_ips && if_value (list_all is_item) form.fixed_ips
-    && is_few 10 form.allowed_address_pairs && if_value (list_all is_pair) form.allowed_address_pairs
+    && is_few 10 form.allowed_address_pairs
+    && if_value (list_all is_pair) form.allowed_address_pairs
     && is_few 20 form.security_groups && if_value is_no_service form.device_owner
 
 abbrev pub is_router_body : RouterForm → Bool
-is_router_body form = are_owners form.project_id form.tenant_id && is_few 30 form.routes && are_hops form.routes
+is_router_body form =
+    are_owners form.project_id form.tenant_id && is_few 30 form.routes && are_hops form.routes
 
 -- what a new row has to have
 abbrev pub has_needed : Form → Bool
 has_needed (NetworkOf form) = true
-has_needed (SubnetOf form) = is_there form.network_id && is_there form.ip_version && is_there form.cidr
+has_needed (SubnetOf form) =
+    is_there form.network_id && is_there form.ip_version && is_there form.cidr
 has_needed (PortOf form) = is_there form.network_id
 has_needed (GroupOf form) = true
 has_needed (RuleOf form) = is_there form.security_group_id && is_there form.direction
 has_needed (RouterOf form) = true
 has_needed (FloatingOf form) = is_there form.floating_network_id
-has_needed (PolicyOf form) = is_there form.object_type && is_there form.object_id && is_there form.action && is_there form.target_tenant
+has_needed (PolicyOf form) =
+    is_there form.object_type && is_there form.object_id && is_there form.action
+    && is_there form.target_tenant
 
 abbrev pub is_form : Form → Bool
 is_form (NetworkOf form) = is_network_body form

@@ -1,4 +1,5 @@
--- Floating addresses whose fixed address leaves its port are disassociated, whatever call it is that takes the address.
+-- Floating addresses whose fixed address leaves its port are disassociated, whatever call it is
+-- that takes the address.
 use Rattle.call_parts.specs.Edits.{Edit, Put}
 use Rattle.api_types.specs.Ident.{Ident}
 use Rattle.api_types.specs.Lists.{is_some_so}
@@ -13,7 +14,8 @@ use Rattle.std.specs.Prelude.{Bool, List, None, filter, map, not, ◌&&◌}
 
 -- the floating address stands for an address of the port that isn't kept
 abbrev pub loses_target : Ident → List Fixed → Target → Bool
-loses_target port kept t = ident_eq port t.port && not (list_any (λ (f : Fixed). is_four f.address t.fixed) kept)
+loses_target port kept t =
+    ident_eq port t.port && not (list_any (λ (f : Fixed). is_four f.address t.fixed) kept)
 
 abbrev pub disassociated : FloatingRow → FloatingRow
 disassociated f = record f { target = None }
@@ -21,4 +23,5 @@ disassociated f = record f { target = None }
 -- by the addresses that the port keeps
 abbrev pub disassociations : List FloatingRow → Ident → List Fixed → List Edit
 disassociations floatings port kept =
-    map (λ (f : FloatingRow). Put (Floating (disassociated f))) (filter (λ (f : FloatingRow). is_some_so (loses_target port kept) f.target) floatings)
+    map (λ (f : FloatingRow). Put (Floating (disassociated f)))
+    (filter (λ (f : FloatingRow). is_some_so (loses_target port kept) f.target) floatings)

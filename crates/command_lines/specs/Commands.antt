@@ -27,10 +27,18 @@ abbrev pub plain_app : Text → App
 plain_app name = on_top plain (new_app name)
 
 abbrev pub session_app : App
-session_app = with_rule (with_rule (with_rule (plain_app (codes "session")) (option (codes "settings"))) (option (codes "store"))) (option (codes "delivery"))
+session_app =
+    with_rule
+    (with_rule (with_rule (plain_app (codes "session")) (option (codes "settings")))
+    (option (codes "store"))) (option (codes "delivery"))
 
 abbrev pub serve_app : App
-serve_app = with_rule (with_rule session_app (required_option (codes "listen"))) (required_option (codes "connections"))
+serve_app =
+    with_rule (with_rule session_app (required_option (codes "listen")))
+    (required_option (codes "connections"))
 
 abbrev pub drill_app : App
-drill_app = with_rule (with_rule (with_rule (plain_app (codes "drill")) (word (codes "start"))) (word (codes "size"))) (flag (codes "replies"))
+drill_app =
+    with_rule
+    (with_rule (with_rule (plain_app (codes "drill")) (word (codes "start")))
+    (word (codes "size"))) (flag (codes "replies"))

@@ -1,4 +1,5 @@
--- Which words are a command line, and what they give. How `clap` reads words is said in its own words (`fault_of`, `matches_of`).
+-- Which words are a command line, and what they give. How `clap` reads words is said in its own
+-- words (`fault_of`, `matches_of`).
 use Rattle.std.specs.Prelude.{◌≡◌, ◌≢◌, ◌^◌, ◌-◌, ◌&&◌, List, [], ◌∷◌, Bool, true, false, not, Option, Some, None, Result, Ok, Err, codes, if◌then◌else◌, is_some, option_map, option_and_then}
 use Rattle.std.specs.List.{list_any}
 use Rattle.std.specs.Str.{bytes_eq}
@@ -34,11 +35,13 @@ abbrev pub rows_read : App → List Text → Option (List Row)
 rows_read app words = if is_read app words then Some (matches_of app words) else None
 
 abbrev pub opening_by : Option Text → Option Text → Delivery → Opening
-opening_by settings store delivery = record { settings = settings; store = store; delivery = delivery }
+opening_by settings store delivery =
+    record { settings = settings; store = store; delivery = delivery }
 
 abbrev pub opening_of : List Row → Option Opening
 opening_of rows =
-    option_and_then (λ settings. option_and_then (λ store. option_map (λ delivery. opening_by settings store delivery)
+    option_and_then (λ settings.
+    option_and_then (λ store. option_map (λ delivery. opening_by settings store delivery)
     (delivery_of (first_of (codes "delivery") rows)))
     (optional_value (first_of (codes "store") rows)))
     (optional_value (first_of (codes "settings") rows))
@@ -48,14 +51,16 @@ session_of rows = option_map (λ opening. Session opening) (opening_of rows)
 
 abbrev pub serve_of : List Row → Option Line
 serve_of rows =
-    option_and_then (λ opening. option_and_then (λ listen. option_map (λ connections. Serve opening listen connections)
+    option_and_then (λ opening.
+    option_and_then (λ listen. option_map (λ connections. Serve opening listen connections)
     (required_number 1 1000000 (first_of (codes "connections") rows)))
     (required_value (first_of (codes "listen") rows)))
     (opening_of rows)
 
 abbrev pub drill_of : List Row → Option Line
 drill_of rows =
-    option_and_then (λ start. option_map (λ size. Drill start size (is_set (first_of (codes "replies") rows)))
+    option_and_then (λ start.
+    option_map (λ size. Drill start size (is_set (first_of (codes "replies") rows)))
     (required_number 1 10000 (first_of (codes "size") rows)))
     (required_number 0 (2 ^ 64 - 1) (first_of (codes "start") rows))
 
@@ -90,7 +95,8 @@ IsAnswer (Err refusal) given = refusal ≡ Wrong → given ≡ None
 
 -- Ok gives what `clap` finds in words without a fault, and Wrong comes only of words with one
 abbrev pub AreMatches : App → List Text → Result ArgMatches Refusal → Type 0
-AreMatches app words (Ok m) = (fault_of app words ≡ []) × (rows_of (found_of m) ≡ matches_of app words)
+AreMatches app words (Ok m) =
+    (fault_of app words ≡ []) × (rows_of (found_of m) ≡ matches_of app words)
 AreMatches app words (Err refusal) = refusal ≡ Wrong → fault_of app words ≢ []
 
 -- Ok gives what is found in words that are read, and Wrong comes only of words that aren't

@@ -33,7 +33,10 @@ is_within least most n = nat_le least n && nat_le n most
 
 -- the number from the least to the most that the digits write
 abbrev pub number_of : ℕ → ℕ → Text → Option ℕ
-number_of least most text = if is_digits text && is_within least most (digits_value 10 text) then Some (digits_value 10 text) else None
+number_of least most text =
+    if is_digits text && is_within least most (digits_value 10 text)
+    then Some (digits_value 10 text)
+    else None
 
 abbrev pub required_number : ℕ → ℕ → Option Text → Option ℕ
 required_number least most given = option_and_then (number_of least most) given
@@ -41,7 +44,9 @@ required_number least most given = option_and_then (number_of least most) given
 -- automatic where nothing is said
 abbrev pub delivery_of : Option Text → Option Delivery
 delivery_of None = Some Automatic
-delivery_of (Some text) = if bytes_eq text (codes "auto") then Some Automatic else if bytes_eq text (codes "manual") then Some Manual else None
+delivery_of (Some text) =
+    if bytes_eq text (codes "auto") then Some Automatic
+    else if bytes_eq text (codes "manual") then Some Manual else None
 
 -- whether an option without a value was there
 abbrev pub is_set : Option Text → Bool

@@ -1,4 +1,5 @@
--- Draws of a linear congruential generator: the multiplier of Knuth's MMIX (The Art of Computer Programming, volume 2, 3.3.4), and its increment.
+-- Draws of a linear congruential generator: the multiplier of Knuth's MMIX (The Art of Computer
+-- Programming, volume 2, 3.3.4), and its increment.
 use Rattle.std.specs.Prelude.{ℕ, zero, suc, ◌+◌, ◌*◌, ◌/◌, ◌%◌, ◌^◌}
 
 -- the state after a draw

@@ -1,4 +1,5 @@
--- The bytes of a drill: requests of HTTP/1.1 (RFC 9112), whose bodies are JSON without spaces and with sorted members.
+-- The bytes of a drill: requests of HTTP/1.1 (RFC 9112), whose bodies are JSON without spaces and
+-- with sorted members.
 use Rattle.std.specs.Prelude.{ℕ, zero, suc, ◌+◌, ◌%◌, ◌==◌, [], ◌∷◌, ◌++◌, length, min, codes, if◌then◌else◌}
 use Rattle.std.specs.Fmt.{decimal}
 use Rattle.net_addr.specs.Words.{Bytes, Text}
@@ -17,11 +18,13 @@ length_line body = codes "Content-Length: " ++ decimal (length body)
 -- a POST of an administrator of the project `drill`
 unfoldable pub request : Text → Bytes → Bytes
 request path body =
-    line (codes "POST " ++ path ++ codes " HTTP/1.1") ++ line (codes "X-Project-Id: drill") ++ line (codes "X-Roles: admin")
+    line (codes "POST " ++ path ++ codes " HTTP/1.1") ++ line (codes "X-Project-Id: drill")
+    ++ line (codes "X-Roles: admin")
     ++ line (length_line body) ++ line [] ++ body
 
--- The project's first call registers it, and its default group and that one's four rules take the counts 1 to 5. So the network has 6,
--- its subnet 7, the subnet's DHCP port 8, and the k-th port of the drill 8 + k.
+-- The project's first call registers it, and its default group and that one's four rules take the
+-- counts 1 to 5. So the network has 6, its subnet 7, the subnet's DHCP port 8, and the k-th port
+-- of the drill 8 + k.
 abbrev pub id_at : ℕ → Text
 id_at count = ident_text (record { ordinal = 1; count = count })
 
@@ -39,12 +42,17 @@ abbrev pub network_body : Bytes
 network_body = codes "{\"network\":{}}"
 
 abbrev pub subnet_body : Bytes
-subnet_body = codes "{\"subnet\":{\"cidr\":\"10.0.0.0/16\",\"ip_version\":4,\"network_id\":\"" ++ id_at 6 ++ codes "\"}}"
+subnet_body =
+    codes "{\"subnet\":{\"cidr\":\"10.0.0.0/16\",\"ip_version\":4,\"network_id\":\"" ++ id_at 6
+    ++ codes "\"}}"
 
 abbrev pub port_body : Text → Bytes
-port_body host = codes "{\"port\":{\"binding:host_id\":\"" ++ host ++ codes "\",\"network_id\":\"" ++ id_at 6 ++ codes "\"}}"
+port_body host =
+    codes "{\"port\":{\"binding:host_id\":\"" ++ host ++ codes "\",\"network_id\":\"" ++ id_at 6
+    ++ codes "\"}}"
 
--- an event of TCP between two ports, by their own MACs and addresses: its front, up to the port that it is sent from
+-- an event of TCP between two ports, by their own MACs and addresses: its front, up to the port
+-- that it is sent from
 unfoldable pub frame_front : ℕ → ℕ → ℕ → Bytes
 frame_front from to sport =
     codes "{\"event\":{\"frame\":{\"dport\":22,\"dst\":\"" ++ port_mac to
@@ -68,24 +76,31 @@ port_request number = request (codes "/v2.0/ports") (port_body (host_by number))
 
 -- between two of so many ports
 abbrev pub frame_request : ℕ → ℕ → ℕ → ℕ → Bytes
-frame_request ports x y z = request (codes "/lab/v1/frames") (frame_body (1 + x % ports) (1 + y % ports) (1024 + z % 60000))
+frame_request ports x y z =
+    request (codes "/lab/v1/frames")
+    (frame_body (1 + x % ports) (1 + y % ports) (1024 + z % 60000))
 
 -- so many ports, one draw each
 unfoldable pub port_requests : ℕ → ℕ → Bytes
 port_requests zero state = []
-port_requests (suc many) state = port_request (drawn state) ++ port_requests many (state_after state)
+port_requests (suc many) state =
+    port_request (drawn state) ++ port_requests many (state_after state)
 
 -- so many frames, three draws each
 unfoldable pub frame_requests : ℕ → ℕ → ℕ → Bytes
 frame_requests ports zero state = []
 frame_requests ports (suc many) state =
-    frame_request ports (drawn state) (drawn (state_after state)) (drawn (state_after (state_after state)))
+    frame_request ports (drawn state) (drawn (state_after state))
+    (drawn (state_after (state_after state)))
     ++ frame_requests ports many (state_after (state_after (state_after state)))
 
 -- a network and its subnet
 abbrev pub network_requests : Bytes
-network_requests = request (codes "/v2.0/networks") network_body ++ request (codes "/v2.0/subnets") subnet_body
+network_requests =
+    request (codes "/v2.0/networks") network_body ++ request (codes "/v2.0/subnets") subnet_body
 
 -- the requests of a drill of this size, whose draws start here
 abbrev pub stream : ℕ → ℕ → Bytes
-stream start size = network_requests ++ port_requests size start ++ frame_requests (min size 499) size (state_behind size start)
+stream start size =
+    network_requests ++ port_requests size start
+    ++ frame_requests (min size 499) size (state_behind size start)

@@ -59,9 +59,7 @@ fn find_destination(
 fn holds(port: &RouterPort, address: &Addr) -> bool
     ensures { result ≡ list_any (λ a. addr_eq a address.now) port.now.addresses }
 {
-    port.addresses
-        .iter()
-        .any(|held| *held == *address)
+    port.addresses.iter().any(|held| *held == *address)
 }
 
 // Whether a live port of the router holds the address.

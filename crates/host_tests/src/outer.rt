@@ -129,7 +129,9 @@ pub(crate) fn routing_host(alloc: Global) -> Result<TableLists, OutOfMemory> {
     let mut tables = first_host(alloc)?;
     let beyond = tag_row(EXTERNAL, BEYOND, Some(wire(alloc)?));
     tables.tags.push(beyond)?;
-    tables.bridge.insert(at_mac(HERE, INSIDE, to_router(INSIDE)))?;
+    tables
+        .bridge
+        .insert(at_mac(HERE, INSIDE, to_router(INSIDE)))?;
     tables
         .bridge
         .insert(at_mac(BEYOND, OUTSIDE, to_router(OUTSIDE)))?;

@@ -1,4 +1,5 @@
--- What the fields of a head say of the request (RFC 9110, sections 7.6.1 and 8.6; RFC 9112, section 6).
+-- What the fields of a head say of the request (RFC 9110, sections 7.6.1 and 8.6; RFC 9112,
+-- section 6).
 use Rattle.std.specs.Prelude.{ℕ, Bool, false, ◌||◌, ◌==◌, nat_lt, List, [], ◌∷◌, length, map, filter, Option, Some, None, codes, if◌then◌else◌}
 use Rattle.std.specs.List.{list_any}
 use Rattle.std.specs.Str.{bytes_eq}
@@ -48,21 +49,25 @@ needs_length method = bytes_eq method (codes "POST") || bytes_eq method (codes "
 abbrev pub refusal_by_form : Bool → Bool → Option ℕ
 refusal_by_form needed coded = if needed || coded then Some 4 else None
 
--- the refusal of a head with at most 64 fields: the body is too large, or its form is none that is read
+-- the refusal of a head with at most 64 fields: the body is too large, or its form is none that is
+-- read
 abbrev pub refusal_by_length : Bool → Bool → BodyLength → Option ℕ
 refusal_by_length needed coded Bad = Some 1
 refusal_by_length needed coded Missing = refusal_by_form needed coded
-refusal_by_length needed coded (Given n) = if nat_lt 65536 n then Some 3 else refusal_by_form false coded
+refusal_by_length needed coded (Given n) =
+    if nat_lt 65536 n then Some 3 else refusal_by_form false coded
 
 -- a length out of form comes before too many fields, and these before all else
 abbrev pub refusal_of : Bool → Bool → Bool → BodyLength → Option ℕ
 refusal_of many needed coded Bad = Some 1
 refusal_of many needed coded told = if many then Some 2 else refusal_by_length needed coded told
 
--- the refusal of a whole head, if any: 1 malformed, 2 too many fields, 3 body too large, 4 no length or a transfer coding
+-- the refusal of a whole head, if any: 1 malformed, 2 too many fields, 3 body too large, 4 no
+-- length or a transfer coding
 unfoldable pub own_refusal : RequestHead → Option ℕ
 own_refusal head =
-    refusal_of (nat_lt 64 (length head.fields)) (needs_length head.method) (has_field (codes "transfer-encoding") (fields_of head)) (told_length (fields_of head))
+    refusal_of (nat_lt 64 (length head.fields)) (needs_length head.method)
+    (has_field (codes "transfer-encoding") (fields_of head)) (told_length (fields_of head))
 
 abbrev pub length_told : BodyLength → ℕ
 length_told Missing = 0
@@ -75,7 +80,10 @@ body_length head = length_told (told_length (fields_of head))
 
 -- the connection ends behind the reply: version 1.0, or the option `close`
 unfoldable pub closes : RequestHead → Bool
-closes head = head.minor == 0 || list_any (has_word is_space_or_tab (codes "close")) (values (codes "connection") (fields_of head))
+closes head =
+    head.minor == 0
+    || list_any (has_word is_space_or_tab (codes "close"))
+    (values (codes "connection") (fields_of head))
 
 -- the one value, where there is exactly one
 abbrev pub only : List Text → Option Text
@@ -89,4 +97,5 @@ project_of head = only (values (codes "x-project-id") (fields_of head))
 
 -- the roles have `admin`
 unfoldable pub is_admin : RequestHead → Bool
-is_admin head = list_any (has_word is_space (codes "admin")) (values (codes "x-roles") (fields_of head))
+is_admin head =
+    list_any (has_word is_space (codes "admin")) (values (codes "x-roles") (fields_of head))

@@ -15,7 +15,9 @@ IsInFirstLine bytes = line_feeds (behind_blank bytes) ≡ 0
 
 -- a head with any number of fields begins with the bytes, or the first line is not whole
 abbrev pub CanFollow : Bytes → Type 0
-CanFollow bytes = ((more : Bytes) × (head : RequestHead) × ReadsRequest (bytes ++ more) head []) ⊎ IsInFirstLine bytes
+CanFollow bytes =
+    ((more : Bytes) × (head : RequestHead) × ReadsRequest (bytes ++ more) head [])
+    ⊎ IsInFirstLine bytes
 
 -- the bytes have the most bytes of a head, or more than 64 whole field lines behind the first line
 abbrev pub IsLarge : Bytes → Type 0
@@ -33,9 +35,11 @@ judgement_of head (Some n) = Refuses n
 
 -- what a judged prefix says, and it says nothing where none of these holds
 pub data Judges : Bytes → Judgement → Type 0 where
-  whole : {bytes : Bytes} {head : RequestHead} → ReadsRequest bytes head [] → Judges bytes (judgement_of head (own_refusal head))
+  whole : {bytes : Bytes} {head : RequestHead} → ReadsRequest bytes head []
+      → Judges bytes (judgement_of head (own_refusal head))
   wrong : {bytes : Bytes} → IsNoHead bytes → (CanFollow bytes → ⊥) → Judges bytes (Refuses 1)
-  large : {bytes : Bytes} → IsNoHead bytes → CanFollow bytes → IsLarge bytes → Judges bytes (Refuses 2)
+  large : {bytes : Bytes} → IsNoHead bytes → CanFollow bytes → IsLarge bytes
+      → Judges bytes (Refuses 2)
 
 -- it says nothing
 pub record IsOpen (bytes : Bytes) : Type 0 where
@@ -43,7 +47,8 @@ pub record IsOpen (bytes : Bytes) : Type 0 where
   pub follow : CanFollow bytes
   pub small : IsLarge bytes → ⊥
 
--- the prefix of n bytes is judged: it ends with a line feed, or has as many bytes as a head may have
+-- the prefix of n bytes is judged: it ends with a line feed, or has as many bytes as a head may
+-- have
 pub record IsJudged (input : Bytes) (n : ℕ) : Type 0 where
   pub fits : n ≤ length input
   pub short : n ≤ 16384
@@ -74,4 +79,5 @@ pub record Takes (bytes : Bytes) (asked : Asked) (rest : Bytes) : Type 0 where
 -- neither a whole request nor a refusal has come
 abbrev pub IsWaiting : Bytes → Type 0
 IsWaiting bytes = IsUndecided bytes
-    ⊎ ((head : RequestHead) × Decides bytes (Passes head) × (length bytes < length (print_request head) + body_length head))
+    ⊎ ((head : RequestHead) × Decides bytes (Passes head)
+    × (length bytes < length (print_request head) + body_length head))

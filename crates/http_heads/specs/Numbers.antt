@@ -7,7 +7,8 @@ use Rattle.http_heads.specs.Texts.{Text}
 
 -- 1 to so many digits, and nothing else
 abbrev pub is_number : ℕ → Text → Bool
-is_number most text = nat_le 1 (length text) && (nat_le (length text) most && list_all is_ascii_digit text)
+is_number most text =
+    nat_le 1 (length text) && (nat_le (length text) most && list_all is_ascii_digit text)
 
 -- the number that 1 to so many digits write
 abbrev pub number_in : ℕ → Text → Option ℕ

@@ -15,16 +15,19 @@ use Rattle.http_heads.specs.declared.judging.Judged.{Judged}
 use Rattle.http_heads.specs.declared.judging.Judged.TheVariants.{Open, Wrong, Large, Whole}
 
 -- what is told of a head that passes
-pub record IsToldOf (bytes : Bytes) (head : RequestHead) (body_size body_start : ℕ) (close : Bool) (parts : HeadParts) : Type 0 where
+pub record IsToldOf (bytes : Bytes) (head : RequestHead) (body_size body_start : ℕ) (close : Bool)
+    (parts : HeadParts) : Type 0 where
   pub size : body_size ≡ body_length head
   pub start : body_start ≡ length (print_request head)
   pub closes_is : close ≡ closes head
   pub parts_are : ArePartsOf bytes head parts
 
--- what is answered of the first judged prefix that says something: this head with its parts, or this refusal
+-- what is answered of the first judged prefix that says something: this head with its parts, or
+-- this refusal
 abbrev pub IsReadAs : Bytes → Judgement → HeadRead → Type 0
 IsReadAs bytes (Passes head) More = ⊥
-IsReadAs bytes (Passes head) (Head size start close parts) = IsToldOf bytes head size start close parts
+IsReadAs bytes (Passes head) (Head size start close parts) =
+    IsToldOf bytes head size start close parts
 IsReadAs bytes (Passes head) (Refused n) = ⊥
 IsReadAs bytes (Refuses m) More = ⊥
 IsReadAs bytes (Refuses m) (Head size start close parts) = ⊥
@@ -38,7 +41,8 @@ undecided_read false = More
 -- what the bytes decide is answered, or nothing is decided and that is
 abbrev pub IsHeadRead : Bytes → Bool → HeadRead → Type 0
 IsHeadRead bytes ended result =
-    ((judgement : Judgement) × Decides bytes judgement × IsReadAs bytes judgement result) ⊎ (IsUndecided bytes × (result ≡ undecided_read ended))
+    ((judgement : Judgement) × Decides bytes judgement × IsReadAs bytes judgement result)
+    ⊎ (IsUndecided bytes × (result ≡ undecided_read ended))
 
 -- a refusal is one of four
 abbrev pub IsNumbered : HeadRead → Type 0
@@ -60,11 +64,21 @@ abbrev pub IsJudgedAs : Bytes → List HeaderSpan → Judged → Type 0
 IsJudgedAs prefix fields Open = IsOpen prefix
 IsJudgedAs prefix fields Wrong = IsNoHead prefix × (CanFollow prefix → ⊥)
 IsJudgedAs prefix fields Large = IsNoHead prefix × CanFollow prefix × IsLarge prefix
-IsJudgedAs prefix fields (Whole spans) = IsRequestWithin prefix fields spans × ((head : RequestHead) × IsRequestAt prefix fields spans head × ReadsRequest prefix head [])
+IsJudgedAs prefix fields (Whole spans) =
+    IsRequestWithin prefix fields spans
+    × ((head : RequestHead) × IsRequestAt prefix fields spans head × ReadsRequest prefix head [])
 
 -- what the prefix of n bytes says, and that it is judged, or that it says nothing
 abbrev pub IsJudgedAt : Bytes → ℕ → List HeaderSpan → Judged → Type 0
-IsJudgedAt buffer n fields Open = (IsJudged buffer n → IsOpen (take n buffer)) × (line_feeds (behind_blank (take n buffer)) ≤ 65)
-IsJudgedAt buffer n fields Wrong = IsJudged buffer n × (IsNoHead (take n buffer) × (CanFollow (take n buffer) → ⊥))
-IsJudgedAt buffer n fields Large = IsJudged buffer n × (IsNoHead (take n buffer) × CanFollow (take n buffer) × IsLarge (take n buffer))
-IsJudgedAt buffer n fields (Whole spans) = IsJudged buffer n × (IsRequestWithin (take n buffer) fields spans × ((head : RequestHead) × IsRequestAt (take n buffer) fields spans head × ReadsRequest (take n buffer) head []))
+IsJudgedAt buffer n fields Open =
+    (IsJudged buffer n → IsOpen (take n buffer)) × (line_feeds (behind_blank (take n buffer)) ≤ 65)
+IsJudgedAt buffer n fields Wrong =
+    IsJudged buffer n × (IsNoHead (take n buffer) × (CanFollow (take n buffer) → ⊥))
+IsJudgedAt buffer n fields Large =
+    IsJudged buffer n
+    × (IsNoHead (take n buffer) × CanFollow (take n buffer) × IsLarge (take n buffer))
+IsJudgedAt buffer n fields (Whole spans) =
+    IsJudged buffer n
+    × (IsRequestWithin (take n buffer) fields spans
+    × ((head : RequestHead) × IsRequestAt (take n buffer) fields spans head
+    × ReadsRequest (take n buffer) head []))

@@ -29,7 +29,8 @@ comma_items text = slice_split (λ b. b == 44) text
 
 -- an item is the word, blanks at its ends cut off
 abbrev pub has_word : (ℕ → Bool) → Text → Text → Bool
-has_word blank word text = list_any (λ item. same_word (cut_ends blank item) word) (comma_items text)
+has_word blank word text =
+    list_any (λ item. same_word (cut_ends blank item) word) (comma_items text)
 
 abbrev pub is_space : ℕ → Bool
 is_space b = b == 32

@@ -14,4 +14,6 @@ AllAnswered (NoMemory reply ∷ tolds) = ⊥
 
 -- the machine's step is a function
 abbrev pub IsFunctional : {W : Type 0} → Transition W → Type 0
-IsFunctional step = (w : _) (asked : Asked) (a b : Bytes) (x y : _) → step w asked a x → step w asked b y → (a ≡ b) × (x ≡ y)
+IsFunctional step =
+    (w : _) (asked : Asked) (a b : Bytes) (x y : _) → step w asked a x → step w asked b y
+    → (a ≡ b) × (x ≡ y)

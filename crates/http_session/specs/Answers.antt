@@ -10,9 +10,11 @@ use Rattle.http_session.specs.Told.{Transition}
 -- how the world moved. Where the reply could not be written, the step was made for some reply
 abbrev pub MovesBy : {W : Type 0} → Transition W → Fixed W → W → Asked → Answer → W → Type 0
 MovesBy step fixed old asked (Reply bytes) new = Moves step fixed old asked (Answered bytes) new
-MovesBy step fixed old asked (StoreFault bytes) new = Moves step fixed old asked (StoreFailed bytes) new
+MovesBy step fixed old asked (StoreFault bytes) new =
+    Moves step fixed old asked (StoreFailed bytes) new
 MovesBy step fixed old asked NoMemory new = (fixed.may_want ≡ true) × (new ≡ old)
-MovesBy step fixed old asked Unwritten new = (reply : Bytes) × Moves step fixed old asked (Answered reply) new
+MovesBy step fixed old asked Unwritten new =
+    (reply : Bytes) × Moves step fixed old asked (Answered reply) new
 
 -- how many faults of the store it tells
 abbrev pub answer_faults : Answer → ℕ

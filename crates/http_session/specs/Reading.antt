@@ -17,13 +17,15 @@ use Rattle.http_session.specs.declared.reading.Stop.{Stop}
 use Rattle.http_session.specs.declared.reading.Stop.TheVariants.{Bad, AtEnd, NoRead, Spent}
 
 -- some more bytes were read
-pub record Reads (old new : Bytes) (left left_new : Option Bytes) (taken taken_new : ℕ) : Type 0 where
+pub record Reads (old new : Bytes) (left left_new : Option Bytes) (taken taken_new : ℕ)
+    : Type 0 where
   pub more : Bytes
   pub grew : new ≡ old ++ more
   pub read : Consumes left left_new more
   pub count : taken_new ≡ taken + length more
 
--- the bytes begin with a head that passes, and the request's parts are those of the head and of the body behind it
+-- the bytes begin with a head that passes, and the request's parts are those of the head and of
+-- the body behind it
 pub record HasHead (bytes : Bytes) (request : Request) (head : RequestHead) : Type 0 where
   pub decides : Decides bytes (Passes head)
   pub parts : ArePartsOf bytes head request.parts
@@ -46,13 +48,15 @@ IsStop limit buffer left taken Spent = IsWaiting buffer × (taken ≡ limit)
 
 -- a head was waited for
 abbrev pub IsHeadAwaited : ℕ → Bytes → Option Bytes → ℕ → Awaited → Type 0
-IsHeadAwaited limit buffer left taken (Found request) = (head : RequestHead) × HasHead buffer request head
+IsHeadAwaited limit buffer left taken (Found request) =
+    (head : RequestHead) × HasHead buffer request head
 IsHeadAwaited limit buffer left taken (Stopped stop) = IsStop limit buffer left taken stop
 
 -- the buffer begins with this request
 abbrev pub IsFound : Bytes → Request → Type 0
 IsFound buffer request = (request.body.end ≤ length buffer) × (0 < request.body.end)
-    × ((asked : Asked) × Takes buffer asked (drop request.body.end buffer) × IsRequest buffer request asked)
+    × ((asked : Asked) × Takes buffer asked (drop request.body.end buffer)
+    × IsRequest buffer request asked)
 
 -- a request was waited for
 abbrev pub IsAwaited : ℕ → Bytes → Option Bytes → ℕ → Awaited → Type 0

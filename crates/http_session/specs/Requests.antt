@@ -14,4 +14,5 @@ pub record IsRequest (bytes : Bytes) (request : Request) (asked : Asked) : Type 
 
 -- the bytes begin with a request, and its parts are these
 abbrev pub BeginsWith : Bytes → Request → Type 0
-BeginsWith bytes request = (asked : Asked) × (rest : Bytes) × Takes bytes asked rest × IsRequest bytes request asked
+BeginsWith bytes request =
+    (asked : Asked) × (rest : Bytes) × Takes bytes asked rest × IsRequest bytes request asked

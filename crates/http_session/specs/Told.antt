@@ -29,7 +29,8 @@ abbrev pub faults : List Told → ℕ
 faults [] = 0
 faults (told ∷ tolds) = told_faults told + faults tolds
 
--- the replies that aren't the machine's: of the store's failing, which only a change meets, of want of memory, and of refusals 1 to 4
+-- the replies that aren't the machine's: of the store's failing, which only a change meets, of
+-- want of memory, and of refusals 1 to 4
 pub record Fixed (W : Type 0) : Type 0 where
   pub store_failed : Bool → Bytes
   pub no_memory : Bool → Bytes
@@ -46,5 +47,8 @@ Transition W = W → Asked → Bytes → W → Type 0
 -- a request moves the world by the machine's step, or not at all
 abbrev pub Moves : {W : Type 0} → Transition W → Fixed W → W → Asked → Told → W → Type 0
 Moves step fixed old asked (Answered reply) new = step old asked reply new
-Moves step fixed old asked (StoreFailed reply) new = (fixed.changes old asked ≡ true) × (new ≡ old) × (reply ≡ fixed.store_failed (closes asked.head))
-Moves step fixed old asked (NoMemory reply) new = (fixed.may_want ≡ true) × (new ≡ old) × (reply ≡ fixed.no_memory (closes asked.head))
+Moves step fixed old asked (StoreFailed reply) new =
+    (fixed.changes old asked ≡ true) × (new ≡ old)
+    × (reply ≡ fixed.store_failed (closes asked.head))
+Moves step fixed old asked (NoMemory reply) new =
+    (fixed.may_want ≡ true) × (new ≡ old) × (reply ≡ fixed.no_memory (closes asked.head))

@@ -17,7 +17,8 @@ pub record Whole (old new : Option Bytes) (flushed : Option ℕ) (reply : Bytes)
   pub flushed_all : flushed ≡ option_map length new
 
 -- a front of the reply is written, and nothing more is flushed
-pub record Short (old new : Option Bytes) (flushed_old flushed_new : Option ℕ) (reply : Bytes) : Type 0 where
+pub record Short (old new : Option Bytes) (flushed_old flushed_new : Option ℕ) (reply : Bytes)
+    : Type 0 where
   pub front : Bytes
   pub back : Bytes
   pub parts : reply ≡ front ++ back
@@ -25,16 +26,23 @@ pub record Short (old new : Option Bytes) (flushed_old flushed_new : Option ℕ)
   pub flushed_stays : flushed_new ≡ flushed_old
 
 -- what came of a reply
-abbrev pub IsSent : Option Bytes → Option Bytes → Option ℕ → Option ℕ → Bytes → Bool → Turn → Type 0
-IsSent old new flushed_old flushed_new reply close Again = Whole old new flushed_new reply × (close ≡ false)
-IsSent old new flushed_old flushed_new reply close (Ends Done) = Whole old new flushed_new reply × (close ≡ true)
-IsSent old new flushed_old flushed_new reply close (Ends WriteFault) = Short old new flushed_old flushed_new reply
-IsSent old new flushed_old flushed_new reply close (Ends OutOfMemory) = Short old new flushed_old flushed_new reply
+abbrev pub IsSent : Option Bytes → Option Bytes → Option ℕ → Option ℕ → Bytes → Bool → Turn
+    → Type 0
+IsSent old new flushed_old flushed_new reply close Again =
+    Whole old new flushed_new reply × (close ≡ false)
+IsSent old new flushed_old flushed_new reply close (Ends Done) =
+    Whole old new flushed_new reply × (close ≡ true)
+IsSent old new flushed_old flushed_new reply close (Ends WriteFault) =
+    Short old new flushed_old flushed_new reply
+IsSent old new flushed_old flushed_new reply close (Ends OutOfMemory) =
+    Short old new flushed_old flushed_new reply
 IsSent old new flushed_old flushed_new reply close (Ends ReadFault) = ⊥
 IsSent old new flushed_old flushed_new reply close (Ends Budget) = ⊥
 
 -- a request is answered, and so much of the reply is sent
-pub record IsAnswered {W : Type 0} (step : Transition W) (fixed : Fixed W) (old new : W) (asked : Asked) (faults_old faults_new : ℕ) (written_old written_new : Option Bytes) (flushed_old flushed_new : Option ℕ) (close : Bool) (turn : Turn) : Type 0 where
+pub record IsAnswered {W : Type 0} (step : Transition W) (fixed : Fixed W) (old new : W)
+    (asked : Asked) (faults_old faults_new : ℕ) (written_old written_new : Option Bytes)
+    (flushed_old flushed_new : Option ℕ) (close : Bool) (turn : Turn) : Type 0 where
   pub told : Told
   pub moves : Moves step fixed old asked told new
   pub faults : RoseBy (told_faults told) faults_old faults_new
@@ -42,5 +50,8 @@ pub record IsAnswered {W : Type 0} (step : Transition W) (fixed : Fixed W) (old 
 
 -- the session goes on with less to do, or ends
 abbrev pub IsTurn : {W : Type 0} → Transition W → Fixed W → ℕ → Moment W → Moment W → Turn → Type 0
-IsTurn step fixed limit a z Again = Goes step fixed a z × ((limit - z.taken) + length z.buffer < (limit - a.taken) + length a.buffer)
-IsTurn step fixed limit a z (Ends end) = (m : Moment _) × Goes step fixed a m × Ending step fixed limit m z end
+IsTurn step fixed limit a z Again =
+    Goes step fixed a z
+    × ((limit - z.taken) + length z.buffer < (limit - a.taken) + length a.buffer)
+IsTurn step fixed limit a z (Ends end) =
+    (m : Moment _) × Goes step fixed a m × Ending step fixed limit m z end

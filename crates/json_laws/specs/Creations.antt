@@ -98,7 +98,8 @@ pub record NetworkAgain (f g : NetworkForm) : Type 0 where
   pub shared : Again f.shared g.shared
   pub router_external : Again f.router_external g.router_external
   pub provider_network_type : Again f.provider_network_type g.provider_network_type
-  pub provider_physical_network : AgainOrNull f.provider_physical_network g.provider_physical_network
+  pub provider_physical_network : AgainOrNull f.provider_physical_network
+      g.provider_physical_network
   pub provider_segmentation_id : AgainOrNull f.provider_segmentation_id g.provider_segmentation_id
   pub project_id : Again f.project_id g.project_id
   pub tenant_id : Again f.tenant_id g.tenant_id

@@ -10,7 +10,8 @@ use Rattle.json_replies.specs.Printed.{tree_data}
 
 -- a value that is read, then printed, is read as the same
 abbrev pub IsReadBack : {T : Type 0} → (Data → Option T) → (T → Tree) → Type 0
-IsReadBack {T = T} says print = (d : Data) (x : T) → says d ≡ Some x → says (tree_data (print x)) ≡ Some x
+IsReadBack {T = T} says print =
+    (d : Data) (x : T) → says d ≡ Some x → says (tree_data (print x)) ≡ Some x
 
 -- the word of a network's type
 abbrev pub type_name : NetworkType → Text

@@ -1,4 +1,5 @@
--- What each reply prints (OpenStack API reference, Networking API v2.0; the lab's replies are this server's own).
+-- What each reply prints (OpenStack API reference, Networking API v2.0; the lab's replies are this
+-- server's own).
 use Rattle.std.specs.Prelude.{ℕ, Bool, [], ◌∷◌, map, codes, Option, Some, None}
 use Rattle.net_addr.specs.Words.{Bytes, Text}
 use Rattle.api_types.specs.Printed.{Tree, truth, number, word, NamedTree, ShownRow, OneRow, ManyRows, NewRow, NoRow, InterfaceRow, reply_of}
@@ -22,7 +23,8 @@ only name t = fields ((name, t) ∷ [])
 abbrev pub row_tree : ShownRow → Tree
 row_tree row = fields row.members
 
--- one row is an object with the one member named for its kind, and rows are one with the plural member; an interface is a plain object, and a deletion has no body
+-- one row is an object with the one member named for its kind, and rows are one with the plural
+-- member; an interface is a plain object, and a deletion has no body
 abbrev pub answer_tree : answered.Reply → Option Tree
 answer_tree (OneRow row) = Some (only (resource_of row.kind) (row_tree row))
 answer_tree (ManyRows kind rows) = Some (only (collection_of kind) (list (map row_tree rows)))
@@ -31,7 +33,8 @@ answer_tree NoRow = None
 answer_tree (InterfaceRow row) = Some (row_tree row)
 
 abbrev pub host_tree : HostState → Tree
-host_tree host = fields ((codes "held", or_null number host.held) ∷ (codes "name", word host.name) ∷ [])
+host_tree host =
+    fields ((codes "held", or_null number host.held) ∷ (codes "name", word host.name) ∷ [])
 
 abbrev pub version_tree : ℕ → ℕ → Tree
 version_tree first last = fields ((codes "first", number first) ∷ (codes "last", number last) ∷ [])
@@ -42,7 +45,8 @@ change_tree n = fields ((codes "number", number n) ∷ [])
 
 abbrev pub page_tree : ℕ → ℕ → Bool → Tree
 page_tree version n last = fields (
-    (codes "last", truth last) ∷ (codes "number", number n) ∷ (codes "version", number version) ∷ [])
+    (codes "last", truth last) ∷ (codes "number", number n) ∷ (codes "version", number version)
+    ∷ [])
 
 abbrev pub lab_tree : LabAnswer → Tree
 lab_tree (Seen verdict) = only (codes "verdict") (verdict_tree verdict)
@@ -59,7 +63,8 @@ words_tree kind message = fields (
     (codes "detail", word []) ∷ (codes "message", word message) ∷ (codes "type", word kind) ∷ [])
 
 abbrev pub fault_tree : Refusal → Tree
-fault_tree refusal = only (codes "NeutronError") (words_tree (type_of refusal) (message_of refusal))
+fault_tree refusal =
+    only (codes "NeutronError") (words_tree (type_of refusal) (message_of refusal))
 
 abbrev pub reply_tree : Reply → Option Tree
 reply_tree (Done answer) = answer_tree (reply_of answer)

@@ -48,11 +48,18 @@ ethertype_tree Ipv6 = word (codes "IPv6")
 
 -- what a packet carries
 abbrev pub part_members : KeyPart → List NamedTree
-part_members (part.Tcp sport dport) = (codes "dport", number dport) ∷ (codes "proto", word (codes "tcp")) ∷ (codes "sport", number sport) ∷ []
-part_members (part.Udp sport dport) = (codes "dport", number dport) ∷ (codes "proto", word (codes "udp")) ∷ (codes "sport", number sport) ∷ []
-part_members (part.EchoAsk id) = (codes "id", number id) ∷ (codes "proto", word (codes "echo_ask")) ∷ []
-part_members (part.EchoReply id) = (codes "id", number id) ∷ (codes "proto", word (codes "echo_reply")) ∷ []
-part_members (part.Proto n) = (codes "number", number n) ∷ (codes "proto", word (codes "other")) ∷ []
+part_members (part.Tcp sport dport) =
+    (codes "dport", number dport) ∷ (codes "proto", word (codes "tcp"))
+    ∷ (codes "sport", number sport) ∷ []
+part_members (part.Udp sport dport) =
+    (codes "dport", number dport) ∷ (codes "proto", word (codes "udp"))
+    ∷ (codes "sport", number sport) ∷ []
+part_members (part.EchoAsk id) =
+    (codes "id", number id) ∷ (codes "proto", word (codes "echo_ask")) ∷ []
+part_members (part.EchoReply id) =
+    (codes "id", number id) ∷ (codes "proto", word (codes "echo_reply")) ∷ []
+part_members (part.Proto n) =
+    (codes "number", number n) ∷ (codes "proto", word (codes "other")) ∷ []
 
 -- the kinds of packets, and of asks for addresses, by the version
 abbrev pub packet_word : Ends → Text
@@ -65,15 +72,19 @@ ask_word (Ends6 from to) = codes "neigh_ask"
 
 abbrev pub frame_members : Frame → List NamedTree
 frame_members (Ip src dst ends ttl part) =
-    (codes "dst", mac_tree dst) ∷ (codes "from", address_tree (source ends)) ∷ (codes "kind", word (packet_word ends))
-    ∷ (codes "src", mac_tree src) ∷ (codes "to", address_tree (destination ends)) ∷ (codes "ttl", number ttl) ∷ part_members part
+    (codes "dst", mac_tree dst) ∷ (codes "from", address_tree (source ends))
+    ∷ (codes "kind", word (packet_word ends))
+    ∷ (codes "src", mac_tree src) ∷ (codes "to", address_tree (destination ends))
+    ∷ (codes "ttl", number ttl) ∷ part_members part
 frame_members (NeighbourAsk src ends) =
     (codes "from", address_tree (source ends)) ∷ (codes "kind", word (ask_word ends))
     ∷ (codes "src", mac_tree src) ∷ (codes "to", address_tree (destination ends)) ∷ []
 frame_members (Dhcp src from) =
-    (codes "from", four_tree from) ∷ (codes "kind", word (codes "dhcp_ask")) ∷ (codes "src", mac_tree src) ∷ []
+    (codes "from", four_tree from) ∷ (codes "kind", word (codes "dhcp_ask"))
+    ∷ (codes "src", mac_tree src) ∷ []
 frame_members (Other src dst ethertype) =
-    (codes "dst", mac_tree dst) ∷ (codes "ethertype", number ethertype) ∷ (codes "kind", word (codes "other"))
+    (codes "dst", mac_tree dst) ∷ (codes "ethertype", number ethertype)
+    ∷ (codes "kind", word (codes "other"))
     ∷ (codes "src", mac_tree src) ∷ []
 
 abbrev pub frame_tree : Frame → Tree
@@ -89,7 +100,8 @@ kind_members (Proto n) = (codes "number", number n) ∷ (codes "proto", word (co
 
 abbrev pub key_members : Key → List NamedTree
 key_members key =
-    (codes "dport", number key.dport) ∷ (codes "from", address_tree (source key.ends)) ∷ (codes "sport", number key.sport)
+    (codes "dport", number key.dport) ∷ (codes "from", address_tree (source key.ends))
+    ∷ (codes "sport", number key.sport)
     ∷ (codes "to", address_tree (destination key.ends)) ∷ kind_members key.kind
 
 abbrev pub key_tree : Key → Tree
@@ -97,8 +109,10 @@ key_tree key = fields (key_members key)
 
 abbrev pub entry_tree : Entry → Tree
 entry_tree (Flow port direction key) = fields (
-    (codes "direction", direction_tree direction) ∷ (codes "key", key_tree key) ∷ (codes "kind", word (codes "flow"))
+    (codes "direction", direction_tree direction) ∷ (codes "key", key_tree key)
+    ∷ (codes "kind", word (codes "flow"))
     ∷ (codes "port", id_tree port) ∷ [])
 entry_tree (Snat router key outer outer_port) = fields (
-    (codes "key", key_tree key) ∷ (codes "kind", word (codes "snat")) ∷ (codes "outer", four_tree outer)
+    (codes "key", key_tree key) ∷ (codes "kind", word (codes "snat"))
+    ∷ (codes "outer", four_tree outer)
     ∷ (codes "outer_port", number outer_port) ∷ (codes "router", id_tree router) ∷ [])

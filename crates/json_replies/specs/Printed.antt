@@ -19,7 +19,8 @@ abbrev mutual
   trees_data no_trees = json.no_items
   trees_data (tree t ts) = json.item (tree_data t) (trees_data ts)
 
-  -- members beside others: each takes its place among the names, and the last of equal names counts
+  -- members beside others: each takes its place among the names, and the last of equal names
+  -- counts
   pub branches_data : Branches → json.Members → json.Members
   branches_data no_branches ms = ms
   branches_data (branch name t bs) ms = branches_data bs (put name (tree_data t) ms)

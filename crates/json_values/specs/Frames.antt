@@ -43,16 +43,23 @@ abbrev pub six : ℕ → ℕ → Ends
 six from to = Ends6 from to
 
 abbrev pub ends_of : Ethertype → Data → Option Ends
-ends_of Ipv4 d = applied (option_map four (member_of four_of (codes "from") d)) (member_of four_of (codes "to") d)
-ends_of Ipv6 d = applied (option_map six (member_of six_of (codes "from") d)) (member_of six_of (codes "to") d)
+ends_of Ipv4 d =
+    applied (option_map four (member_of four_of (codes "from") d))
+    (member_of four_of (codes "to") d)
+ends_of Ipv6 d =
+    applied (option_map six (member_of six_of (codes "from") d)) (member_of six_of (codes "to") d)
 
 -- what a packet carries, by its `proto`
 abbrev pub carried_of : Data → Option Carried
-carried_of = word_of ((codes "tcp", carried.Tcp) ∷ (codes "udp", carried.Udp) ∷ (codes "echo_ask", carried.EchoAsk)
+carried_of =
+    word_of
+    ((codes "tcp", carried.Tcp) ∷ (codes "udp", carried.Udp) ∷ (codes "echo_ask", carried.EchoAsk)
     ∷ (codes "echo_reply", carried.EchoReply) ∷ (codes "other", carried.Other) ∷ [])
 
 abbrev pub packet_names : List Text
-packet_names = codes "kind" ∷ codes "src" ∷ codes "dst" ∷ codes "from" ∷ codes "to" ∷ codes "ttl" ∷ codes "proto" ∷ []
+packet_names =
+    codes "kind" ∷ codes "src" ∷ codes "dst" ∷ codes "from" ∷ codes "to" ∷ codes "ttl"
+    ∷ codes "proto" ∷ []
 
 abbrev pub part_names : Carried → List Text
 part_names carried.Tcp = codes "sport" ∷ codes "dport" ∷ []
@@ -68,11 +75,16 @@ abbrev pub udp : ℕ → ℕ → KeyPart
 udp sport dport = Udp sport dport
 
 abbrev pub part_of : Ethertype → Carried → Data → Option KeyPart
-part_of version carried.Tcp d = applied (option_map tcp (member_of sixteen_bits (codes "sport") d)) (member_of sixteen_bits (codes "dport") d)
-part_of version carried.Udp d = applied (option_map udp (member_of sixteen_bits (codes "sport") d)) (member_of sixteen_bits (codes "dport") d)
+part_of version carried.Tcp d =
+    applied (option_map tcp (member_of sixteen_bits (codes "sport") d))
+    (member_of sixteen_bits (codes "dport") d)
+part_of version carried.Udp d =
+    applied (option_map udp (member_of sixteen_bits (codes "sport") d))
+    (member_of sixteen_bits (codes "dport") d)
 part_of version carried.EchoAsk d = option_map EchoAsk (member_of sixteen_bits (codes "id") d)
 part_of version carried.EchoReply d = option_map EchoReply (member_of sixteen_bits (codes "id") d)
-part_of version carried.Other d = option_map Proto (member_of (other_protocol version) (codes "number") d)
+part_of version carried.Other d =
+    option_map Proto (member_of (other_protocol version) (codes "number") d)
 
 abbrev pub packet : ℕ → ℕ → Ends → ℕ → KeyPart → Frame
 packet src dst ends ttl part = Ip src dst ends ttl part
@@ -85,7 +97,9 @@ packet_with version carries = object_of (packet_names ++ part_names carries) (λ
     (member_of eight_bits (codes "ttl") d)) (part_of version carries d))
 
 abbrev pub packet_of : Ethertype → Data → Option Frame
-packet_of version d = option_and_then (λ carries. packet_with version carries d) (member_of carried_of (codes "proto") d)
+packet_of version d =
+    option_and_then (λ carries. packet_with version carries d)
+    (member_of carried_of (codes "proto") d)
 
 abbrev pub neighbour_ask : ℕ → Ends → Frame
 neighbour_ask src ends = NeighbourAsk src ends
@@ -100,17 +114,22 @@ dhcp_ask src from = Dhcp src from
 
 abbrev pub dhcp_of : Data → Option Frame
 dhcp_of = object_of (codes "kind" ∷ codes "src" ∷ codes "from" ∷ []) (λ d.
-    applied (option_map dhcp_ask (member_of mac_of (codes "src") d)) (member_of four_of (codes "from") d))
+    applied (option_map dhcp_ask (member_of mac_of (codes "src") d))
+    (member_of four_of (codes "from") d))
 
 abbrev pub other_frame : ℕ → ℕ → ℕ → Frame
 other_frame src dst ethertype = Other src dst ethertype
 
 abbrev pub other_of : Data → Option Frame
 other_of = object_of (codes "kind" ∷ codes "src" ∷ codes "dst" ∷ codes "ethertype" ∷ []) (λ d.
-    applied (applied (option_map other_frame (member_of mac_of (codes "src") d)) (member_of mac_of (codes "dst") d)) (member_of sixteen_bits (codes "ethertype") d))
+    applied
+    (applied (option_map other_frame (member_of mac_of (codes "src") d))
+    (member_of mac_of (codes "dst") d)) (member_of sixteen_bits (codes "ethertype") d))
 
 abbrev pub kind_of : Data → Option FrameKind
-kind_of = word_of ((codes "ip4", kind.Ip4) ∷ (codes "ip6", kind.Ip6) ∷ (codes "arp_ask", kind.ArpAsk) ∷ (codes "neigh_ask", kind.NeighAsk)
+kind_of =
+    word_of ((codes "ip4", kind.Ip4) ∷ (codes "ip6", kind.Ip6) ∷ (codes "arp_ask", kind.ArpAsk)
+    ∷ (codes "neigh_ask", kind.NeighAsk)
     ∷ (codes "dhcp_ask", kind.Dhcp) ∷ (codes "other", kind.Other) ∷ [])
 
 abbrev pub frame_by : FrameKind → Data → Option Frame

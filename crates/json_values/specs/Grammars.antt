@@ -1,4 +1,5 @@
--- The grammar of each attribute (OpenStack API reference, Networking API v2.0): what its value says by itself. None is said by a value that isn't allowed.
+-- The grammar of each attribute (OpenStack API reference, Networking API v2.0): what its value
+-- says by itself. None is said by a value that isn't allowed.
 use Rattle.std.specs.Prelude.{ℕ, ◌^◌, ◌-◌, ◌==◌, ◌&&◌, ◌||◌, not, Bool, false, nat_le, nat_eq, List, [], ◌∷◌, length, if◌then◌else◌, Option, Some, None, option_and_then, codes}
 use Rattle.std.specs.Char.{is_ascii_alphanumeric}
 use Rattle.std.specs.List.{list_all, starts_with}
@@ -63,7 +64,8 @@ is_project_byte b = is_ascii_alphanumeric b || (b == 45 || b == 95)
 
 -- 1 to 64 of them
 abbrev pub is_project_name : Text → Bool
-is_project_name text = nat_le 1 (length text) && (nat_le (length text) 64 && list_all is_project_byte text)
+is_project_name text =
+    nat_le 1 (length text) && (nat_le (length text) 64 && list_all is_project_byte text)
 
 abbrev pub project_name : Data → Option Text
 project_name d = kept is_project_name (as_str d)
@@ -76,7 +78,9 @@ abbrev pub target_name : Data → Option Text
 target_name d = kept is_target (as_str d)
 
 abbrev pub network_type_of : Data → Option NetworkType
-network_type_of = word_of ((codes "local", Local) ∷ (codes "flat", Flat) ∷ (codes "vlan", Vlan) ∷ (codes "vxlan", Vxlan) ∷ [])
+network_type_of =
+    word_of ((codes "local", Local) ∷ (codes "flat", Flat) ∷ (codes "vlan", Vlan)
+    ∷ (codes "vxlan", Vxlan) ∷ [])
 
 -- a tag of IEEE 802.1Q or a number of VXLAN (RFC 7348): which of them, the network's type says
 abbrev pub segment_number : Data → Option ℕ
@@ -88,9 +92,12 @@ version_of n = if n == 4 then Some V4 else if n == 6 then Some V6 else None
 abbrev pub ip_version : Data → Option IpVersion
 ip_version d = option_and_then version_of (whole_of 4 6 d)
 
--- how the ports of a subnet of version 6 come by their addresses, and what its router tells of that
+-- how the ports of a subnet of version 6 come by their addresses, and what its router tells of
+-- that
 abbrev pub mode_of : Data → Option Ipv6Mode
-mode_of = word_of ((codes "slaac", Slaac) ∷ (codes "dhcpv6-stateful", Stateful) ∷ (codes "dhcpv6-stateless", Stateless) ∷ [])
+mode_of =
+    word_of ((codes "slaac", Slaac) ∷ (codes "dhcpv6-stateful", Stateful)
+    ∷ (codes "dhcpv6-stateless", Stateless) ∷ [])
 
 abbrev pub is_subnet_prefix : Prefix → Bool
 is_subnet_prefix p = nat_le 1 p.len && nat_le p.len (longest_of p.base)
@@ -134,15 +141,19 @@ direction_of = word_of ((codes "ingress", Ingress) ∷ (codes "egress", Egress) 
 
 -- in any ASCII case
 abbrev pub ethertype_in : Text → Option Ethertype
-ethertype_in text = word_in ((codes "ipv4", Ipv4) ∷ (codes "ipv6", Ipv6) ∷ []) (str_to_ascii_lowercase text)
+ethertype_in text =
+    word_in ((codes "ipv4", Ipv4) ∷ (codes "ipv6", Ipv6) ∷ []) (str_to_ascii_lowercase text)
 
 abbrev pub ethertype_of : Data → Option Ethertype
 ethertype_of = said_by ethertype_in
 
 -- protocols by their names (IANA)
 abbrev pub named_protocol : Text → Option ℕ
-named_protocol = word_in ((codes "icmp", 1) ∷ (codes "igmp", 2) ∷ (codes "tcp", 6) ∷ (codes "udp", 17) ∷ (codes "gre", 47)
-    ∷ (codes "esp", 50) ∷ (codes "ah", 51) ∷ (codes "ipv6-icmp", 58) ∷ (codes "icmpv6", 58) ∷ (codes "ospf", 89) ∷ (codes "vrrp", 112) ∷ (codes "sctp", 132) ∷ [])
+named_protocol =
+    word_in ((codes "icmp", 1) ∷ (codes "igmp", 2) ∷ (codes "tcp", 6) ∷ (codes "udp", 17)
+    ∷ (codes "gre", 47)
+    ∷ (codes "esp", 50) ∷ (codes "ah", 51) ∷ (codes "ipv6-icmp", 58) ∷ (codes "icmpv6", 58)
+    ∷ (codes "ospf", 89) ∷ (codes "vrrp", 112) ∷ (codes "sctp", 132) ∷ [])
 
 -- a name, or a number's text
 abbrev pub protocol_in : Text → Option ℕ
@@ -160,7 +171,8 @@ abbrev pub object_type_of : Data → Option ObjectType
 object_type_of = word_of ((codes "network", Network) ∷ [])
 
 abbrev pub action_of : Data → Option Action
-action_of = word_of ((codes "access_as_shared", Shared) ∷ (codes "access_as_external", External) ∷ [])
+action_of =
+    word_of ((codes "access_as_shared", Shared) ∷ (codes "access_as_external", External) ∷ [])
 
 -- a tag of IEEE 802.1Q
 abbrev pub wire_tag : Data → Option ℕ

@@ -56,7 +56,9 @@ span first last = record { first = first; last = last }
 
 abbrev pub span_of : Data → Option Span
 span_of = object_of (codes "end" ∷ codes "start" ∷ []) (λ d.
-    kept is_span (applied (option_map span (member_of address_of (codes "start") d)) (member_of address_of (codes "end") d)))
+    kept is_span
+    (applied (option_map span (member_of address_of (codes "start") d))
+    (member_of address_of (codes "end") d)))
 
 -- a route: a destination, and a next hop of its version
 abbrev pub is_hop : Hop → Bool
@@ -67,7 +69,9 @@ hop destination next = record { destination = destination; next = next }
 
 abbrev pub hop_of : Data → Option Hop
 hop_of = object_of (codes "destination" ∷ codes "nexthop" ∷ []) (λ d.
-    kept is_hop (applied (option_map hop (member_of exact_of (codes "destination") d)) (member_of address_of (codes "nexthop") d)))
+    kept is_hop
+    (applied (option_map hop (member_of exact_of (codes "destination") d))
+    (member_of address_of (codes "nexthop") d)))
 
 -- a fixed address: an address, a subnet or both
 abbrev pub names_one : FixedAsked → Bool
@@ -78,7 +82,9 @@ fixed address subnet = record { address = address; subnet = subnet }
 
 abbrev pub fixed_of : Data → Option FixedAsked
 fixed_of = object_of (codes "ip_address" ∷ codes "subnet_id" ∷ []) (λ d.
-    kept names_one (applied (option_map fixed (maybe_of address_of (codes "ip_address") d)) (maybe_of id_of (codes "subnet_id") d)))
+    kept names_one
+    (applied (option_map fixed (maybe_of address_of (codes "ip_address") d))
+    (maybe_of id_of (codes "subnet_id") d)))
 
 -- an allowed address pair
 abbrev pub pair : Option ℕ → Prefix → PairAsked
@@ -86,7 +92,8 @@ pair mac prefix = record { mac = mac; prefix = prefix }
 
 abbrev pub pair_of : Data → Option PairAsked
 pair_of = object_of (codes "ip_address" ∷ codes "mac_address" ∷ []) (λ d.
-    applied (option_map pair (maybe_of card_of (codes "mac_address") d)) (member_of prefix_said (codes "ip_address") d))
+    applied (option_map pair (maybe_of card_of (codes "mac_address") d))
+    (member_of prefix_said (codes "ip_address") d))
 
 -- a gateway
 abbrev pub gateway : Ident → Option Bool → GatewayAsked
@@ -94,7 +101,8 @@ gateway network snat = record { network = network; snat = snat }
 
 abbrev pub gateway_of : Data → Option GatewayAsked
 gateway_of = object_of (codes "enable_snat" ∷ codes "network_id" ∷ []) (λ d.
-    applied (option_map gateway (member_of id_of (codes "network_id") d)) (maybe_of as_bool (codes "enable_snat") d))
+    applied (option_map gateway (member_of id_of (codes "network_id") d))
+    (maybe_of as_bool (codes "enable_snat") d))
 
 -- two ids are different
 abbrev pub other_id : Ident → Ident → Bool
@@ -102,4 +110,6 @@ other_id i j = not (ident_eq i j)
 
 -- two routes are different
 abbrev pub other_hop : Hop → Hop → Bool
-other_hop a b = not (addr_eq a.destination.base b.destination.base && (a.destination.len == b.destination.len) && addr_eq a.next b.next)
+other_hop a b =
+    not (addr_eq a.destination.base b.destination.base && (a.destination.len == b.destination.len)
+    && addr_eq a.next b.next)

@@ -1,4 +1,5 @@
--- What a text says where an address, a prefix or an id is expected. None is said by a text that spells none.
+-- What a text says where an address, a prefix or an id is expected. None is said by a text that
+-- spells none.
 use Rattle.std.specs.Prelude.{ℕ, ◌+◌, ◌/◌, ◌%◌, ◌^◌, ◌==◌, ◌&&◌, Bool, nat_le, nat_lt, if◌then◌else◌, Option, Some, None, option_map, option_and_then}
 use Rattle.std.specs.Int.{w128, from_be_bytes}
 use Rattle.std.specs.List.{after_first, before_first}
@@ -24,9 +25,13 @@ is_slash b = b == 47
 abbrev pub written : Addr → ℕ → Written
 written addr len = record { addr = addr; len = len }
 
--- the address before the first slash, and behind it the length, to 32 or 128 (RFC 4632, 3.1; RFC 4291, 2.3)
+-- the address before the first slash, and behind it the length, to 32 or 128 (RFC 4632, 3.1; RFC
+-- 4291, 2.3)
 unfoldable pub written_in : Text → Option Written
-written_in text = option_and_then (λ addr. option_map (written addr) (number_in (width addr + 1) (after_first is_slash text))) (address_in (before_first is_slash text))
+written_in text =
+    option_and_then
+    (λ addr. option_map (written addr) (number_in (width addr + 1) (after_first is_slash text)))
+    (address_in (before_first is_slash text))
 
 abbrev pub prefix_by : Option Addr → Option Written → Option Prefix
 prefix_by (Some address) w = Some (whole_prefix address)
@@ -38,7 +43,8 @@ prefix_in text = prefix_by (address_in text) (written_in text)
 
 -- whether a project can have drawn the id
 abbrev pub is_drawable : Ident → Bool
-is_drawable i = nat_le 1 i.ordinal && nat_lt i.ordinal (2 ^ 32) && nat_le 1 i.count && nat_lt i.count (2 ^ 62)
+is_drawable i =
+    nat_le 1 i.ordinal && nat_lt i.ordinal (2 ^ 32) && nat_le 1 i.count && nat_lt i.count (2 ^ 62)
 
 -- the id, if a project can have drawn it and these are its sixteen bytes
 abbrev pub ident_if : Text → Ident → Option Ident

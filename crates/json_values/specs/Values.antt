@@ -19,7 +19,8 @@ applied (Some f) (Some a) = Some (f a)
 
 -- a whole number from one to another, written without fraction and exponent
 abbrev pub whole_of : ℕ → ℕ → Data → Option ℕ
-whole_of low high d = kept (λ n. nat_le low n && nat_le n high) (option_and_then as_u64 (as_number d))
+whole_of low high d =
+    kept (λ n. nat_le low n && nat_le n high) (option_and_then as_u64 (as_number d))
 
 -- what a text says
 abbrev pub said_by : {T : Type 0} → (Text → Option T) → Data → Option T
@@ -50,7 +51,9 @@ all_said says (d ∷ ds) = more (says d) (all_said says ds)
 
 -- an array of at most so many items
 abbrev pub list_of : {T : Type 0} → ℕ → (Data → Option T) → Data → Option (List T)
-list_of most says d = kept (λ xs. nat_le (length xs) most) (option_and_then (all_said says) (option_map values_of (as_array d)))
+list_of most says d =
+    kept (λ xs. nat_le (length xs) most)
+    (option_and_then (all_said says) (option_map values_of (as_array d)))
 
 -- whether this holds of each two items
 abbrev pub pairwise : {T : Type 0} → (T → T → Bool) → List T → Bool

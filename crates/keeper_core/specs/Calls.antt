@@ -10,4 +10,8 @@ fails_next calls = list_any (λ n. nat_eq n (raised calls.made)) calls.failing
 
 -- the calls after the next one
 abbrev pub counted : Calls → Calls
-counted calls = record { made = raised calls.made; failing = calls.failing; faults = if fails_next calls then raised calls.faults else calls.faults }
+counted calls = record {
+  made = raised calls.made;
+  failing = calls.failing;
+  faults = if fails_next calls then raised calls.faults else calls.faults;
+}

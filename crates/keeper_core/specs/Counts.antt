@@ -25,7 +25,8 @@ abbrev pub IsWant : OutsideRefusal → Type 0
 IsWant refusal = refusal ≡ OutOfMemory
 
 -- the same of a refusal that may also be want of memory, which is free
-pub record HasRefusalCause {T : Type 0} (before now : ℕ) (result : Result T OutsideRefusal) : Type 0 where
+pub record HasRefusalCause {T : Type 0} (before now : ℕ) (result : Result T OutsideRefusal)
+    : Type 0 where
   pub later : before ≤ now
   pub failed : IsFailure result → RoseBy 1 before now
 

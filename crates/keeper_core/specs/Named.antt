@@ -12,8 +12,10 @@ module _ {V : Type 0} where
   abbrev pub value_named : Text → List (Named V) → Option V
   value_named name items = option_map (λ item. item.value) (find (has_name name) items)
 
-  -- the items with this value under the name: in the place of the first one with the name, else last
+  -- the items with this value under the name: in the place of the first one with the name, else
+  -- last
   abbrev pub with_value : Text → V → List (Named V) → List (Named V)
   with_value name value [] = record { name = name; value = value } ∷ []
   with_value name value (item ∷ items) =
-      if has_name name item then record { name = item.name; value = value } ∷ items else item ∷ with_value name value items
+      if has_name name item then record { name = item.name; value = value } ∷ items
+      else item ∷ with_value name value items

@@ -1,5 +1,5 @@
--- What calls of the lab come to: what hosts make of an event, what the rows say of it, the hosts and their tables, and messages that
--- hosts get or lose. They are for administrators alone.
+-- What calls of the lab come to: what hosts make of an event, what the rows say of it, the hosts
+-- and their tables, and messages that hosts get or lose. They are for administrators alone.
 use Rattle.std.specs.Prelude.{◌≡◌, ◌⊎◌, ◌∷◌, [], not, List, Option, Some, None, codes, find, is_some, map}
 use Rattle.std.specs.Str.{bytes_eq}
 use Rattle.net_addr.specs.Words.{Text, Version}
@@ -38,7 +38,8 @@ abbrev pub unless_barred : Option Refusal → LabOutcome → LabOutcome
 unless_barred None outcome = outcome
 unless_barred (Some refusal) outcome = Barred refusal
 
--- an event's port has to be there and to be seen; so has, for an administrator, a network that the physical one carries so
+-- an event's port has to be there and to be seen; so has, for an administrator, a network that the
+-- physical one carries so
 abbrev pub event_refusal : RowLists → Caller → Event → Option Refusal
 event_refusal rows caller (FromPort port frame) = first_refusal (
     when (not (sees_row rows caller PortKind port)) (not_found PortKind (ident_text port))
@@ -46,7 +47,8 @@ event_refusal rows caller (FromPort port frame) = first_refusal (
     ∷ [])
 event_refusal rows caller (FromWire physical tag frame) = first_refusal (
     when (not caller.admin) (Forbidden AdminOnly)
-    ∷ when (not (is_some (network_on rows (record { physical = physical; tag = tag })))) (Invalid (codes "physical_network"))
+    ∷ when (not (is_some (network_on rows (record { physical = physical; tag = tag }))))
+    (Invalid (codes "physical_network"))
     ∷ [])
 
 -- a caller who is no administrator is refused before anything else is looked at
@@ -71,20 +73,33 @@ hosts_told w = Hosts (map host_state w.agents)
 abbrev pub stepped : World → Step → LabOutcome
 stepped w s = Answered (hosts_told (step w s)) (step w s)
 
--- a host is looked for before the number, which is refused with the first and the last number that are kept
+-- a host is looked for before the number, which is refused with the first and the last number that
+-- are kept
 abbrev pub delivered : World → Text → Version → Agent → Option (List Item) → LabOutcome
 delivered w name number a None = Barred (NoMessage number (first_kept w.history) w.history.version)
-delivered w name number a (Some c) = Answered (Told (hearing number a.held)) (step w (Deliver name number))
+delivered w name number a (Some c) =
+    Answered (Told (hearing number a.held)) (step w (Deliver name number))
 
 abbrev pub lab_outcome : World → Caller → LabCall → LabOutcome
-lab_outcome w caller (call.Frames event) = unless_barred (event_refusal w.history.rows caller event) (Answered (Seen (fabric_verdict (seats w) event)) (step w (Send event)))
-lab_outcome w caller (call.Explain event) = unless_barred (event_refusal w.history.rows caller event) (Answered (Seen (rows_verdict w.history.rows (all_entries (seats w)) event)) w)
+lab_outcome w caller (call.Frames event) =
+    unless_barred (event_refusal w.history.rows caller event)
+    (Answered (Seen (fabric_verdict (seats w) event)) (step w (Send event)))
+lab_outcome w caller (call.Explain event) =
+    unless_barred (event_refusal w.history.rows caller event)
+    (Answered (Seen (rows_verdict w.history.rows (all_entries (seats w)) event)) w)
 lab_outcome w caller call.Hosts = for_admins caller (Answered (hosts_told w) w)
-lab_outcome w caller (call.Tables name) = for_admins caller (with_host name (host_named w name) (λ a. Answered (Tables a.tables) w))
-lab_outcome w caller (call.Deliver name number) = for_admins caller (with_host name (host_named w name) (λ a. delivered w name number a (change_at w.history number)))
-lab_outcome w caller (call.Resync name) = for_admins caller (with_host name (host_named w name) (λ a. stepped w (Resync name)))
-lab_outcome w caller (call.Restart name) = for_admins caller (with_host name (host_named w name) (λ a. stepped w (Restart name)))
-lab_outcome w caller (call.Forget name) = for_admins caller (with_host name (host_named w name) (λ a. stepped w (Forget name)))
+lab_outcome w caller (call.Tables name) =
+    for_admins caller (with_host name (host_named w name) (λ a. Answered (Tables a.tables) w))
+lab_outcome w caller (call.Deliver name number) =
+    for_admins caller
+    (with_host name (host_named w name) (λ a.
+    delivered w name number a (change_at w.history number)))
+lab_outcome w caller (call.Resync name) =
+    for_admins caller (with_host name (host_named w name) (λ a. stepped w (Resync name)))
+lab_outcome w caller (call.Restart name) =
+    for_admins caller (with_host name (host_named w name) (λ a. stepped w (Restart name)))
+lab_outcome w caller (call.Forget name) =
+    for_admins caller (with_host name (host_named w name) (λ a. stepped w (Forget name)))
 lab_outcome w caller call.Settle = for_admins caller (stepped w Settle)
 -- no route leads to the three asks of agents in other processes yet
 lab_outcome w caller call.Version = Barred NoRoute

@@ -7,7 +7,9 @@ use Rattle.lab_world.specs.declared.opening.OpenRefusal.TheVariants.{Inconsisten
 abbrev pub refusal_of : Broken → OpenRefusal
 refusal_of broken = Inconsistent broken.rule broken.kind broken.id
 
--- the first clause that they break, with the row that breaks it; or they break none, and memory could not be had
+-- the first clause that they break, with the row that breaks it; or they break none, and memory
+-- could not be had
 abbrev pub IsOpenRefusal : Option Broken → OpenRefusal → Type 0
-IsOpenRefusal broken (Inconsistent rule kind id) = broken ≡ Some (record { rule = rule; kind = kind; id = id })
+IsOpenRefusal broken (Inconsistent rule kind id) =
+    broken ≡ Some (record { rule = rule; kind = kind; id = id })
 IsOpenRefusal broken OutOfMemory = broken ≡ None

@@ -18,6 +18,7 @@ world_seen settings rows version kept nodes manual = record {
 }
 
 -- what is true between any two calls
-pub record AreParts (settings : SettingsParts) (rows : RowLists) (version : Version) (kept : Kept) (nodes : List Node) (manual : Bool) : Type 0 where
+pub record AreParts (settings : SettingsParts) (rows : RowLists) (version : Version) (kept : Kept)
+    (nodes : List Node) (manual : Bool) : Type 0 where
   pub world : IsWorld (world_seen settings rows version kept nodes manual)
   pub numbered : kept.last ≡ version

@@ -17,7 +17,8 @@ use Rattle.world_laws.specs.Steps.{holds}
 
 -- a host of the name stands at a place
 abbrev pub IsNamedAt : Text → List Node → ℕ → Type 0
-IsNamedAt name nodes at = (n : Node) × (slice_get nodes at ≡ Some n) × (bytes_eq name n.name ≡ true)
+IsNamedAt name nodes at =
+    (n : Node) × (slice_get nodes at ≡ Some n) × (bytes_eq name n.name ≡ true)
 
 abbrev pub named_node : Text → List Node → Option Node
 named_node name nodes = find (λ (n : Node). bytes_eq name n.name) nodes
@@ -35,7 +36,8 @@ abbrev pub node_state : Node → HostState
 node_state n = record { name = n.name; held = n.held }
 
 abbrev pub state_with : Text → Option Version → Node → HostState
-state_with name held n = record { name = n.name; held = if bytes_eq name n.name then held else n.held }
+state_with name held n =
+    record { name = n.name; held = if bytes_eq name n.name then held else n.held }
 
 abbrev pub state_at_version : Version → Node → HostState
 state_at_version version n = record { name = n.name; held = Some version }
@@ -71,14 +73,22 @@ AreFor ready nodes = map made_for ready ≡ map held_by nodes
 
 -- what each host would be given with rows of a version
 abbrev pub ready_for : Version → RowLists → Node → Ready
-ready_for version rows n = record { name = n.name; version = version; rows = rows; tables = tables_of_rows rows n.name n.tables.tags; old = n.tables.tags }
+ready_for version rows n = record {
+  name = n.name;
+  version = version;
+  rows = rows;
+  tables = tables_of_rows rows n.name n.tables.tags;
+  old = n.tables.tags;
+}
 
 -- given rows of a version, where that isn't held
 abbrev pub settled_node : Version → RowLists → Node → ℕ → Node
-settled_node version rows n spare = if holds version n.held then record n { spare = spare } else after_resync n version rows spare
+settled_node version rows n spare =
+    if holds version n.held then record n { spare = spare } else after_resync n version rows spare
 
 abbrev pub IsSettledAt : Version → List Ready → ℕ → Node → Node → Type 0
-IsSettledAt version ready k n m = (r : Ready) → slice_get ready k ≡ Some r → m ≡ settled_node version r.rows n m.spare
+IsSettledAt version ready k n m =
+    (r : Ready) → slice_get ready k ≡ Some r → m ≡ settled_node version r.rows n m.spare
 
 -- a host has the entries that it made of these
 abbrev pub IsKeptAt : List Made → ℕ → Node → Node → Type 0

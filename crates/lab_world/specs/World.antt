@@ -1,4 +1,5 @@
--- What a server makes of an ask: the machine's step, which is a message to its hosts, or what the lab answers.
+-- What a server makes of an ask: the machine's step, which is a message to its hosts, or what the
+-- lab answers.
 use Rattle.std.specs.Prelude.{◌≡◌, ◌⊎◌, Bool, true, false, List, Result, Ok, Err, ⊤}
 use Rattle.net_addr.specs.Words.{Text}
 use Rattle.api_types.specs.Outcome.{Outcome, Refused as RefusedWith, Told, Moved}
@@ -41,8 +42,8 @@ abbrev pub IsAskInForm : Caller → Ask → Type 0
 IsAskInForm caller (Api call) = IsInForm caller call
 IsAskInForm caller (Lab call) = ⊤
 
--- an accepted call: some change that fits the rows leads to the rows of its outcome; it is kept as a message, and in automatic delivery
--- each host is told it but some that find no memory
+-- an accepted call: some change that fits the rows leads to the rows of its outcome; it is kept as
+-- a message, and in automatic delivery each host is told it but some that find no memory
 pub record Accepts (w : World) (rows : RowLists) (v : World) : Type 0 where
   pub change : List Item
   pub left_out : List Text
@@ -70,7 +71,9 @@ told_of (ByLab (Answered answer w)) = OfLab (Ok answer)
 
 -- the reply is the outcome's
 abbrev pub IsTold : AskOutcome → Reply → Type 0
-IsTold (ByMachine outcome) (Done answer) = (outcome ≡ Told (reply_of answer)) ⊎ ((rows : RowLists) × (outcome ≡ Moved rows (reply_of answer)))
+IsTold (ByMachine outcome) (Done answer) =
+    (outcome ≡ Told (reply_of answer))
+    ⊎ ((rows : RowLists) × (outcome ≡ Moved rows (reply_of answer)))
 IsTold (ByMachine outcome) (Refused refusal) = outcome ≡ RefusedWith refusal
 IsTold (ByMachine outcome) (LabDone answer) = ⊥
 IsTold (ByLab outcome) (Done answer) = ⊥
@@ -91,8 +94,10 @@ is_change (ByLab outcome) = false
 
 -- memory could not be had, or the store failed to keep a change
 abbrev pub IsOutside : AskOutcome → Reply → Type 0
-IsOutside outcome reply = (reply ≡ Refused OutOfMemory) ⊎ ((reply ≡ Refused StoreFault) × (is_change outcome ≡ true))
+IsOutside outcome reply =
+    (reply ≡ Refused OutOfMemory) ⊎ ((reply ≡ Refused StoreFault) × (is_change outcome ≡ true))
 
 -- the ask is answered, or it is refused for one of these and all is as it was
 abbrev pub Handles : AskOutcome → World → World → Reply → Type 0
-Handles outcome old new reply = IsHandled outcome old new reply ⊎ (IsOutside outcome reply × (new ≡ old))
+Handles outcome old new reply =
+    IsHandled outcome old new reply ⊎ (IsOutside outcome reply × (new ≡ old))

@@ -26,7 +26,8 @@ Spells (Number top ∷ parts) start text n =
 Spells (Digit ∷ parts) start text n =
     (c : ℕ) × (rest : Text) × (digit_value c < 16) × (text ≡ c ∷ rest)
     × Spells parts (start * 16 + digit_value c) rest n
-Spells (Mark c ∷ parts) start text n = (rest : Text) × (text ≡ c ∷ rest) × Spells parts start rest n
+Spells (Mark c ∷ parts) start text n =
+    (rest : Text) × (text ≡ c ∷ rest) × Spells parts start rest n
 Spells (Group ∷ parts) start text n =
     (ds : Text) × (rest : Text) × (0 < length ds) × (length ds ≤ 4) × AllDigits 16 ds
     × (text ≡ ds ++ rest)
@@ -40,7 +41,8 @@ IsTextOf parts text = (n : ℕ) × Spells parts 0 text n
 
 -- four decimal numbers to 255 with dots between
 abbrev pub address_parts : List Part
-address_parts = Number 255 ∷ Mark 46 ∷ Number 255 ∷ Mark 46 ∷ Number 255 ∷ Mark 46 ∷ Number 255 ∷ []
+address_parts =
+    Number 255 ∷ Mark 46 ∷ Number 255 ∷ Mark 46 ∷ Number 255 ∷ Mark 46 ∷ Number 255 ∷ []
 
 -- six pairs of hexadecimal digits with colons between
 abbrev pub mac_parts : List Part

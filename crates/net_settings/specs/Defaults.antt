@@ -25,10 +25,22 @@ default_quotas = record {
 
 -- a host on `physnet1`; routers and DHCP ports stand on a central one
 abbrev pub default_host : Text → Bool → Host
-default_host name central = record { name = name; physical = codes "physnet1" ∷ []; vxlan = true; l3 = central; dhcp = central }
+default_host name central = record {
+  name = name;
+  physical = codes "physnet1" ∷ [];
+  vxlan = true;
+  l3 = central;
+  dhcp = central;
+}
 
 abbrev pub default_hosts : List Host
 default_hosts = default_host (codes "c1") true ∷ default_host (codes "c2") false ∷ []
 
 abbrev pub default_parts : SettingsParts
-default_parts = record { drivers = default_drivers; vxlan_first = 1; vxlan_last = 1000; quotas = default_quotas; hosts = default_hosts }
+default_parts = record {
+  drivers = default_drivers;
+  vxlan_first = 1;
+  vxlan_last = 1000;
+  quotas = default_quotas;
+  hosts = default_hosts;
+}

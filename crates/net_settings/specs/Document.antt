@@ -36,7 +36,14 @@ settings_in ms = do
   last ← at_key (codes "vxlan_last") (vxlan_last_in ms)
   quotas ← at_key (codes "quotas") (quotas_in ms)
   hosts ← hosts_in ms
-  unless_unknown (first_unknown ms) (record { drivers = drivers; vxlan_first = first; vxlan_last = last; quotas = quotas; hosts = hosts })
+  unless_unknown (first_unknown ms)
+      (record {
+        drivers = drivers;
+        vxlan_first = first;
+        vxlan_last = last;
+        quotas = quotas;
+        hosts = hosts;
+      })
 
 -- the table that the bytes are; the empty key where they are no TOML
 abbrev pub document_of : Bytes → Result Members Text

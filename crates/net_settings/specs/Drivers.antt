@@ -20,7 +20,9 @@ driver_named name =
 -- the drivers of these names, if all name one
 abbrev pub drivers_among : List Text → Option (List Driver)
 drivers_among names =
-    if list_all (λ n. is_some (driver_named n)) names then Some (map (λ n. unwrap_or (driver_named n) Openvswitch) names) else None
+    if list_all (λ n. is_some (driver_named n)) names
+    then Some (map (λ n. unwrap_or (driver_named n) Openvswitch) names)
+    else None
 
 -- the two are one driver
 abbrev pub is_driver : Driver → Driver → Bool
@@ -30,7 +32,9 @@ is_driver _ _ = false
 
 -- no driver is there twice
 abbrev pub is_each_once : List Driver → Bool
-is_each_once drivers = nat_le (count_by (is_driver Openvswitch) drivers) 1 && nat_le (count_by (is_driver L2population) drivers) 1
+is_each_once drivers =
+    nat_le (count_by (is_driver Openvswitch) drivers) 1
+    && nat_le (count_by (is_driver L2population) drivers) 1
 
 -- the drivers, if none is there twice
 abbrev pub if_each_once : List Driver → Option (List Driver)

@@ -21,7 +21,8 @@ name_in ms = option_and_then name_if_good (option_and_then as_str (get_member (c
 
 -- physical networks: different names of 1 to 64 characters
 abbrev pub physical_if_good : List Text → Option (List Text)
-physical_if_good names = if list_all (is_name 64) names && are_different names then Some names else None
+physical_if_good names =
+    if list_all (is_name 64) names && are_different names then Some names else None
 
 -- the physical networks, or none where the key is absent
 abbrev pub physical_from : Option Data → Option (List Text)
@@ -54,7 +55,9 @@ draft_of ms = record {
 -- the drafts of values that are all tables
 abbrev pub drafts_among : List Data → Option (List HostDraft)
 drafts_among ds =
-    if list_all (λ d. is_some (as_table d)) ds then Some (map (λ d. draft_of (unwrap_or (as_table d) no_members)) ds) else None
+    if list_all (λ d. is_some (as_table d)) ds
+    then Some (map (λ d. draft_of (unwrap_or (as_table d) no_members)) ds)
+    else None
 
 -- the drafts of 1 to 64 values
 abbrev pub drafts_if_few : List Data → Option (List HostDraft)
@@ -79,7 +82,8 @@ keeps Dhcp h = is_some h.dhcp
 -- the first key at which some host breaks its rule
 abbrev pub bad_host_key : List HostDraft → Option Text
 bad_host_key hosts =
-    if not (list_all (keeps Name) hosts && are_different (map draft_name hosts)) then Some (codes "hosts.name")
+    if not (list_all (keeps Name) hosts && are_different (map draft_name hosts))
+    then Some (codes "hosts.name")
     else if not (list_all (keeps Physical) hosts) then Some (codes "hosts.physical")
     else if not (list_all (keeps Vxlan) hosts) then Some (codes "hosts.vxlan")
     else if not (list_all (keeps L3) hosts) then Some (codes "hosts.l3")

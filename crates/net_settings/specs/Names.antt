@@ -12,7 +12,8 @@ is_name_byte b = ((is_ascii_alphanumeric b || b == 45) || b == 95) || b == 46
 
 -- 1 to `most` such characters
 abbrev pub is_name : ℕ → Text → Bool
-is_name most text = (nat_le 1 (length text) && nat_le (length text) most) && list_all is_name_byte text
+is_name most text =
+    (nat_le 1 (length text) && nat_le (length text) most) && list_all is_name_byte text
 
 -- there are as many different texts as texts
 abbrev pub are_different : List Text → Bool

@@ -28,4 +28,6 @@ unless_above (Some last) n = if nat_lt last n then None else Some n
 
 -- the first number that the settings have, or none where the key breaks its rule
 abbrev pub vxlan_first_in : Members → Option ℕ
-vxlan_first_in ms = option_and_then (unless_above (vxlan_last_in ms)) (vxlan_from 1 (get_member (codes "vxlan_first") ms))
+vxlan_first_in ms =
+    option_and_then (unless_above (vxlan_last_in ms))
+    (vxlan_from 1 (get_member (codes "vxlan_first") ms))

@@ -1,6 +1,7 @@
 -- The key `quotas`: a table of limits by kind of resource, each from -1, which is no limit, to
--- 2147483647 (Neutron's quotas, https://docs.openstack.org/api-ref/network/v2/#quotas-extension-quotas).
--- A kind that isn't there has its default.
+-- 2147483647 (Neutron's quotas,
+-- https://docs.openstack.org/api-ref/network/v2/#quotas-extension-quotas). A kind that isn't there
+-- has its default.
 use Rattle.std.specs.Prelude.{ℤ, zero, suc, Bool, true, ◌&&◌, nat_le, [], ◌∷◌, codes, pos, negsuc, Option, Some, None, is_some, unwrap_or, option_and_then, if◌then◌else◌}
 use Rattle.std.specs.List.{list_any}
 use Rattle.toml.specs.Data.{Data, Members, no_members, member, get_member, as_integer, as_table}
@@ -23,7 +24,10 @@ limit_of d = option_and_then if_limit (as_integer d)
 
 -- the kinds of resources
 abbrev pub is_quota : Text → Bool
-is_quota key = list_any (bytes_eq key) (codes "network" ∷ codes "subnet" ∷ codes "port" ∷ codes "router" ∷ codes "floatingip" ∷ codes "security_group" ∷ codes "security_group_rule" ∷ codes "rbac_policy" ∷ [])
+is_quota key =
+    list_any (bytes_eq key)
+    (codes "network" ∷ codes "subnet" ∷ codes "port" ∷ codes "router" ∷ codes "floatingip"
+    ∷ codes "security_group" ∷ codes "security_group_rule" ∷ codes "rbac_policy" ∷ [])
 
 -- each member is a limit at a kind's key
 abbrev pub are_quotas : Members → Bool
@@ -43,7 +47,8 @@ quotas_among ms = record {
   router = limit_at (codes "router") default_quotas.router ms;
   floatingip = limit_at (codes "floatingip") default_quotas.floatingip ms;
   security_group = limit_at (codes "security_group") default_quotas.security_group ms;
-  security_group_rule = limit_at (codes "security_group_rule") default_quotas.security_group_rule ms;
+  security_group_rule = limit_at (codes "security_group_rule") default_quotas.security_group_rule
+      ms;
   rbac_policy = limit_at (codes "rbac_policy") default_quotas.rbac_policy ms;
 }
 

@@ -15,7 +15,9 @@ values_of d = option_map list_of (as_array d)
 
 -- the texts of the values, if all are strings
 abbrev pub texts_among : List Data → Option (List Text)
-texts_among ds = if list_all (λ d. is_some (as_str d)) ds then Some (map (λ d. unwrap_or (as_str d) []) ds) else None
+texts_among ds =
+    if list_all (λ d. is_some (as_str d)) ds then Some (map (λ d. unwrap_or (as_str d) []) ds)
+    else None
 
 -- the texts of an array of strings
 abbrev pub texts_of : Data → Option (List Text)

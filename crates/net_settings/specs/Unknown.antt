@@ -12,11 +12,16 @@ use Rattle.net_settings.specs.Texts.{values_of}
 
 -- the keys at the top
 abbrev pub is_key : Text → Bool
-is_key key = list_any (bytes_eq key) (codes "drivers" ∷ codes "vxlan_first" ∷ codes "vxlan_last" ∷ codes "quotas" ∷ codes "hosts" ∷ [])
+is_key key =
+    list_any (bytes_eq key)
+    (codes "drivers" ∷ codes "vxlan_first" ∷ codes "vxlan_last" ∷ codes "quotas" ∷ codes "hosts"
+    ∷ [])
 
 -- the keys of a host's table
 abbrev pub is_host_key : Text → Bool
-is_host_key key = list_any (bytes_eq key) (codes "name" ∷ codes "physical" ∷ codes "vxlan" ∷ codes "l3" ∷ codes "dhcp" ∷ [])
+is_host_key key =
+    list_any (bytes_eq key)
+    (codes "name" ∷ codes "physical" ∷ codes "vxlan" ∷ codes "l3" ∷ codes "dhcp" ∷ [])
 
 -- a rule knows the key at this level
 abbrev pub knows : Level → Text → Bool
@@ -31,7 +36,8 @@ full_key Hosts key = codes "hosts." ++ key
 -- the unknown keys of a table
 abbrev pub unknown_in : Level → Members → List Text
 unknown_in level no_members = []
-unknown_in level (member key d ms) = if knows level key then unknown_in level ms else full_key level key ∷ unknown_in level ms
+unknown_in level (member key d ms) =
+    if knows level key then unknown_in level ms else full_key level key ∷ unknown_in level ms
 
 -- the unknown keys of the tables among some values
 abbrev pub unknown_among : List Data → List Text
@@ -41,7 +47,8 @@ unknown_among (d ∷ ds) = unknown_in Hosts (unwrap_or (as_table d) no_members) 
 -- all unknown keys of a document
 abbrev pub unknown_keys : Members → List Text
 unknown_keys ms =
-    unknown_in Top ms ++ unknown_among (unwrap_or (option_and_then values_of (get_member (codes "hosts") ms)) [])
+    unknown_in Top ms
+    ++ unknown_among (unwrap_or (option_and_then values_of (get_member (codes "hosts") ms)) [])
 
 -- the lesser of two texts in byte order
 abbrev pub lesser : Option Text → Text → Option Text

@@ -1,4 +1,5 @@
--- The status, the type and the message of each refusal (OpenStack API reference, Networking API v2.0: faults).
+-- The status, the type and the message of each refusal (OpenStack API reference, Networking API
+-- v2.0: faults).
 use Rattle.std.specs.Prelude.{ℕ, [], ◌∷◌, ◌++◌, Option, Some, None, codes, decimal}
 use Rattle.net_addr.specs.Words.{Text}
 use Rattle.net_addr.specs.Spelling.{addr_text, mac_text}
@@ -118,7 +119,8 @@ rule_name PortDelete = codes "port_delete"
 
 abbrev pub body_message : Option Text → Text
 body_message None = codes "The body is not an object."
-body_message (Some member) = codes "The body is not an object with the one member " ++ member ++ codes "."
+body_message (Some member) =
+    codes "The body is not an object with the one member " ++ member ++ codes "."
 
 -- what is told of the row that uses another
 abbrev pub user_text : Option (Kind × Ident) → Text
@@ -141,19 +143,32 @@ message_of (NoMethod allowed) = codes "The method is not allowed for this resour
 message_of (BadBody member) = body_message member
 message_of (Invalid name) = codes "Invalid input for " ++ name ++ codes "."
 message_of (NotFound kind text) = kind ++ codes " " ++ text ++ codes " could not be found."
-message_of (Forbidden rule) = codes "(rule:" ++ rule_name rule ++ codes ") is disallowed by policy."
-message_of (InUse rule kind id by) = title_of kind ++ codes " " ++ ident_text id ++ codes " is in use" ++ user_text by
-message_of (Taken value network) = value_text value ++ codes " is in use in network " ++ ident_text network ++ codes "."
+message_of (Forbidden rule) =
+    codes "(rule:" ++ rule_name rule ++ codes ") is disallowed by policy."
+message_of (InUse rule kind id by) =
+    title_of kind ++ codes " " ++ ident_text id ++ codes " is in use" ++ user_text by
+message_of (Taken value network) =
+    value_text value ++ codes " is in use in network " ++ ident_text network ++ codes "."
 message_of (Exists kind id) = codes "An equal row exists: " ++ ident_text id ++ codes "."
-message_of (SegmentInUse segment network) = codes "The segment is in use by network " ++ ident_text network ++ codes "."
-message_of (NoGateway network subnet) = codes "External network " ++ ident_text network ++ codes " is not reachable from subnet " ++ ident_text subnet ++ codes "."
-message_of (OverQuota resource limit used) = codes "Quota exceeded for " ++ resource_of resource ++ codes ": limit " ++ decimal limit ++ codes ", used " ++ decimal used ++ codes "."
-message_of (PoolsSpent network) = codes "No more IP addresses available on network " ++ ident_text network ++ codes "."
+message_of (SegmentInUse segment network) =
+    codes "The segment is in use by network " ++ ident_text network ++ codes "."
+message_of (NoGateway network subnet) =
+    codes "External network " ++ ident_text network ++ codes " is not reachable from subnet "
+    ++ ident_text subnet ++ codes "."
+message_of (OverQuota resource limit used) =
+    codes "Quota exceeded for " ++ resource_of resource ++ codes ": limit " ++ decimal limit
+    ++ codes ", used " ++ decimal used ++ codes "."
+message_of (PoolsSpent network) =
+    codes "No more IP addresses available on network " ++ ident_text network ++ codes "."
 message_of NoNetwork = codes "No tenant network is available for allocation."
 message_of CountersSpent = codes "A counter is at its last value."
 message_of StoreFault = codes "The store failed in this request."
 message_of OutOfMemory = codes "Memory could not be had."
 message_of (NoHost name) = codes "Host " ++ name ++ codes " could not be found."
-message_of (NoMessage asked first last) = codes "Message " ++ decimal asked ++ codes " is not kept: first " ++ decimal first ++ codes ", last " ++ decimal last ++ codes "."
-message_of (VersionMoved asked now) = codes "Version " ++ decimal asked ++ codes " is not the version of now: " ++ decimal now ++ codes "."
+message_of (NoMessage asked first last) =
+    codes "Message " ++ decimal asked ++ codes " is not kept: first " ++ decimal first
+    ++ codes ", last " ++ decimal last ++ codes "."
+message_of (VersionMoved asked now) =
+    codes "Version " ++ decimal asked ++ codes " is not the version of now: " ++ decimal now
+    ++ codes "."
 message_of (NoPage number) = codes "Page " ++ decimal number ++ codes " could not be found."

@@ -10,21 +10,27 @@ use Rattle.api_types.specs.declared.kind.Kind.TheVariants.{Project, Network, Sub
 abbrev pub own_filters : Kind → List Text
 own_filters Project = []
 own_filters Network =
-    codes "name" ∷ codes "admin_state_up" ∷ codes "shared" ∷ codes "router:external" ∷ codes "provider:network_type"
+    codes "name" ∷ codes "admin_state_up" ∷ codes "shared" ∷ codes "router:external"
+    ∷ codes "provider:network_type"
     ∷ codes "provider:physical_network" ∷ codes "provider:segmentation_id" ∷ []
 own_filters Subnet =
-    codes "name" ∷ codes "network_id" ∷ codes "ip_version" ∷ codes "cidr" ∷ codes "gateway_ip" ∷ codes "enable_dhcp"
+    codes "name" ∷ codes "network_id" ∷ codes "ip_version" ∷ codes "cidr" ∷ codes "gateway_ip"
+    ∷ codes "enable_dhcp"
     ∷ codes "ipv6_address_mode" ∷ codes "ipv6_ra_mode" ∷ []
 own_filters Port =
-    codes "name" ∷ codes "admin_state_up" ∷ codes "network_id" ∷ codes "mac_address" ∷ codes "device_id"
+    codes "name" ∷ codes "admin_state_up" ∷ codes "network_id" ∷ codes "mac_address"
+    ∷ codes "device_id"
     ∷ codes "device_owner" ∷ codes "binding:host_id" ∷ []
 own_filters Group = codes "name" ∷ []
 own_filters Rule =
-    codes "security_group_id" ∷ codes "direction" ∷ codes "ethertype" ∷ codes "protocol" ∷ codes "remote_ip_prefix"
+    codes "security_group_id" ∷ codes "direction" ∷ codes "ethertype" ∷ codes "protocol"
+    ∷ codes "remote_ip_prefix"
     ∷ codes "remote_group_id" ∷ []
 own_filters Router = codes "name" ∷ codes "admin_state_up" ∷ []
-own_filters Floating = codes "floating_network_id" ∷ codes "floating_ip_address" ∷ codes "port_id" ∷ []
-own_filters Policy = codes "object_type" ∷ codes "object_id" ∷ codes "action" ∷ codes "target_tenant" ∷ []
+own_filters Floating =
+    codes "floating_network_id" ∷ codes "floating_ip_address" ∷ codes "port_id" ∷ []
+own_filters Policy =
+    codes "object_type" ∷ codes "object_id" ∷ codes "action" ∷ codes "target_tenant" ∷ []
 
 -- the names for rows of every kind
 abbrev pub common_filters : List Text

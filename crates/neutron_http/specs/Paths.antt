@@ -12,7 +12,8 @@ use Rattle.api_types.specs.declared.kind.Kind.TheVariants.{Project, Network, Sub
 use Rattle.neutron_http.specs.declared.route.RoutePath.{RoutePath}
 use Rattle.neutron_http.specs.declared.route.RoutePath.TheVariants.{Rows, Row, AddInterface, RemoveInterface, Frames, Explain, Deliver, Resync, Restart, Forget, Settle, Hosts, Tables}
 
--- the text of the path of all rows of a kind (OpenStack API reference, Networking API v2.0); projects have none
+-- the text of the path of all rows of a kind (OpenStack API reference, Networking API v2.0);
+-- projects have none
 abbrev pub rows_text : Kind → Text
 rows_text Project = []
 rows_text Network = codes "/v2.0/networks"
@@ -55,19 +56,23 @@ template_of Tables = codes "/lab/v1/hosts/{name}/tables"
 -- the paths, in the order in which the router takes them
 abbrev pub all_paths : List RoutePath
 all_paths =
-    Rows Network ∷ Row Network ∷ Rows Subnet ∷ Row Subnet ∷ Rows Port ∷ Row Port ∷ Rows Group ∷ Row Group ∷ Rows Rule ∷ Row Rule
-    ∷ Rows Router ∷ Row Router ∷ Rows Floating ∷ Row Floating ∷ Rows Policy ∷ Row Policy ∷ AddInterface ∷ RemoveInterface
+    Rows Network ∷ Row Network ∷ Rows Subnet ∷ Row Subnet ∷ Rows Port ∷ Row Port ∷ Rows Group
+    ∷ Row Group ∷ Rows Rule ∷ Row Rule
+    ∷ Rows Router ∷ Row Router ∷ Rows Floating ∷ Row Floating ∷ Rows Policy ∷ Row Policy
+    ∷ AddInterface ∷ RemoveInterface
     ∷ Frames ∷ Explain ∷ Deliver ∷ Resync ∷ Restart ∷ Forget ∷ Settle ∷ Hosts ∷ Tables ∷ []
 
 -- the rows of a router with the route of that text
-abbrev pub with_route : {T : Type 0} → Result Scan InsertError → T → RowsOf (RouteOf T) → RowsOf (RouteOf T)
+abbrev pub with_route : {T : Type 0} → Result Scan InsertError → T → RowsOf (RouteOf T)
+    → RowsOf (RouteOf T)
 with_route (Ok s) value rows = placed ((route_from s value).pattern, route_from s value) rows
 with_route (Err e) value rows = rows
 
 -- the rows with the routes of these paths
 abbrev pub with_routes : List RoutePath → RowsOf (RouteOf RoutePath) → RowsOf (RouteOf RoutePath)
 with_routes [] rows = rows
-with_routes (path ∷ paths) rows = with_routes paths (with_route (parse_route (template_of path)) path rows)
+with_routes (path ∷ paths) rows =
+    with_routes paths (with_route (parse_route (template_of path)) path rows)
 
 -- the router that holds the paths
 abbrev pub routes : RowsOf (RouteOf RoutePath)

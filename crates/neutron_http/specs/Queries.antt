@@ -1,4 +1,5 @@
--- What a query asks of a list or of one row (OpenStack API reference, Networking API v2.0: filtering, pagination, `fields`).
+-- What a query asks of a list or of one row (OpenStack API reference, Networking API v2.0:
+-- filtering, pagination, `fields`).
 use Rattle.std.specs.Prelude.{◌≡◌, ℕ, Bool, true, false, ◌&&◌, ◌||◌, not, nat_le, List, [], ◌∷◌, ◌++◌, length, map, filter, if◌then◌else◌, Result, Ok, Err, Option, Some, None, is_some, codes}
 use Rattle.std.specs.List.{list_any}
 use Rattle.std.specs.Str.{bytes_eq}
@@ -56,17 +57,21 @@ limit_by (Some n) = if nat_le 1 n && nat_le n 10000 then Some n else None
 abbrev pub limit_in : Text → Option ℕ
 limit_in text = limit_by (number_in 5 text)
 
--- a pair of a list's query is bad behind these: a limit that is none, or a second limit or marker, or a name that isn't known
+-- a pair of a list's query is bad behind these: a limit that is none, or a second limit or marker,
+-- or a name that isn't known
 abbrev pub is_bad : Kind → List Named → Named → Bool
 is_bad kind before pair =
-    if is_named (codes "limit") pair then has_name (codes "limit") before || not (is_some (limit_in pair.1)) else (
+    if is_named (codes "limit") pair
+    then has_name (codes "limit") before || not (is_some (limit_in pair.1))
+    else (
     if is_named (codes "marker") pair then has_name (codes "marker") before else (
     if is_named (codes "fields") pair then false else not (is_filter kind pair.0)))
 
 -- the name of the first bad pair behind these
 abbrev pub first_bad : Kind → List Named → List Named → Option Text
 first_bad kind before [] = None
-first_bad kind before (pair ∷ pairs) = if is_bad kind before pair then Some pair.0 else first_bad kind (before ++ pair ∷ []) pairs
+first_bad kind before (pair ∷ pairs) =
+    if is_bad kind before pair then Some pair.0 else first_bad kind (before ++ pair ∷ []) pairs
 
 -- the first of some texts
 abbrev pub first_of : List Text → Option Text
@@ -81,7 +86,8 @@ limit_of (Some text) = limit_in text
 abbrev pub filters_in : Kind → List Named → List Named
 filters_in kind pairs = filter (λ p. is_filter kind p.0) pairs
 
--- what is asked: filters, the most rows, the row behind which the list begins, and the members that are kept
+-- what is asked: filters, the most rows, the row behind which the list begins, and the members
+-- that are kept
 pub record Asked : Type 0 where
   pub filters : List Named
   pub limit : Option ℕ
@@ -99,7 +105,8 @@ list_asked kind pairs = record {
 
 -- what a query asks of one row: the members that are kept
 abbrev pub fields_asked : List Named → Asked
-fields_asked pairs = record { filters = []; limit = None; marker = None; fields = with_name (codes "fields") pairs }
+fields_asked pairs =
+    record { filters = []; limit = None; marker = None; fields = with_name (codes "fields") pairs }
 
 -- what a query asks that isn't looked at
 abbrev pub nothing_asked : Asked

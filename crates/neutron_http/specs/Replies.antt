@@ -31,7 +31,9 @@ body_of code body = if code == 204 then [] else body
 -- the type and the length of a body, which a 204 hasn't
 abbrev pub body_fields : ℕ → ℕ → List Named
 body_fields code n =
-    if code == 204 then [] else (codes "Content-Type", codes "application/json") ∷ (codes "Content-Length", decimal n) ∷ []
+    if code == 204 then []
+    else (codes "Content-Type", codes "application/json") ∷ (codes "Content-Length", decimal n)
+    ∷ []
 
 -- the methods that the path has, for a 405 alone
 abbrev pub allow_fields : ℕ → Option Text → List Named
@@ -49,7 +51,8 @@ close_fields close = if close then (codes "Connection", codes "close") ∷ [] el
 -- the fields of a reply, in their order
 abbrev pub fields_of : ℕ → Bool → Option Text → Bytes → List Named
 fields_of code close allow body =
-    body_fields code (length body) ++ allow_fields code allow ++ caller_fields code ++ close_fields close
+    body_fields code (length body) ++ allow_fields code allow ++ caller_fields code
+    ++ close_fields close
 
 -- the phrase of a code
 abbrev pub phrase_of : ℕ → Text
@@ -63,9 +66,12 @@ reply_bytes code close allow body =
 
 -- the body of a reply for which no memory could be had
 abbrev pub no_memory_body : Bytes
-no_memory_body = codes "{\"NeutronError\":{\"detail\":\"\",\"message\":\"Memory could not be had.\",\"type\":\"OutOfMemory\"}}"
+no_memory_body =
+    codes
+    "{\"NeutronError\":{\"detail\":\"\",\"message\":\"Memory could not be had.\",\"type\":\"OutOfMemory\"}}"
 
--- the codes of the API's replies: the phrases that clients read stand in RFC 9110, section 15, and RFC 6585
+-- the codes of the API's replies: the phrases that clients read stand in RFC 9110, section 15, and
+-- RFC 6585
 abbrev pub reply_codes : List ℕ
 reply_codes =
     200 ∷ 201 ∷ 204 ∷ 400 ∷ 401 ∷ 403 ∷ 404 ∷ 405 ∷ 409 ∷ 411 ∷ 413 ∷ 431 ∷ 503 ∷ 507 ∷ []
@@ -79,8 +85,10 @@ pub record IsFieldValue (value : Text) : Type 0 where
   pub bytes : AllPass is_value_byte value
   pub trimmed : trim_ows value ≡ value
 
--- a reader of responses finds one whole head of version 1.1 with this code, phrase and fields, and this body behind it
-pub record IsWholeReply (bytes : Bytes) (code : ℕ) (fields : List Named) (body : Bytes) : Type 0 where
+-- a reader of responses finds one whole head of version 1.1 with this code, phrase and fields, and
+-- this body behind it
+pub record IsWholeReply (bytes : Bytes) (code : ℕ) (fields : List Named) (body : Bytes)
+    : Type 0 where
   pub head : ResponseHead
   pub reads : ReadsResponse bytes head body
   pub minor : head.minor ≡ 1

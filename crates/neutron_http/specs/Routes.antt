@@ -66,7 +66,8 @@ is_parameter part = slice_index part 0 == 123
 abbrev pub parameters_in : List Text → List Text → List Text
 parameters_in [] parts = []
 parameters_in (name ∷ names) [] = []
-parameters_in (name ∷ names) (part ∷ parts) = if is_parameter name then part ∷ parameters_in names parts else parameters_in names parts
+parameters_in (name ∷ names) (part ∷ parts) =
+    if is_parameter name then part ∷ parameters_in names parts else parameters_in names parts
 
 -- the parts between slashes
 abbrev pub segments_of : Text → List Text
@@ -76,7 +77,8 @@ segments_of text = slice_split (λ b. b == 47) text
 abbrev pub parameters_of : Text → Text → List Text
 parameters_of template path = parameters_in (segments_of template) (segments_of path)
 
--- where a request leads: nowhere, to a path without its method, or to a path with its method and parameters
+-- where a request leads: nowhere, to a path without its method, or to a path with its method and
+-- parameters
 pub data Routed : Type 0 where
   Nowhere : Routed
   Without : RoutePath → Routed
@@ -98,7 +100,8 @@ route_of method path = if is_utf8 path then routed method path (path_at path) el
 abbrev pub Answers : Result Route RouteRefusal → Routed → Type 0
 Answers (Ok r) routed = routed ≡ To r.path r.method r.parameters
 Answers (Err NoRoute) routed = routed ≡ Nowhere
-Answers (Err (NoMethod allowed)) routed = (path : RoutePath) × (routed ≡ Without path) × (allowed ≡ allowed_text path)
+Answers (Err (NoMethod allowed)) routed =
+    (path : RoutePath) × (routed ≡ Without path) × (allowed ≡ allowed_text path)
 Answers (Err OutOfMemory) routed = Unit {0}
 
 -- the methods that are told are a field's value

@@ -1,4 +1,5 @@
--- What a request asks, by its route, its query and its body (OpenStack API reference, Networking API v2.0; the lab is this server's own).
+-- What a request asks, by its route, its query and its body (OpenStack API reference, Networking
+-- API v2.0; the lab is this server's own).
 use Rattle.std.specs.Prelude.{List, [], ◌∷◌, Some, option_map, codes}
 use Rattle.net_addr.specs.Words.{Bytes, Text}
 use Rattle.api_types.specs.declared.call.Call.TheVariants.{List as ListRows, Show, Create as CreateRow, Update as UpdateRow, Delete as DeleteRow, AddInterface, RemoveInterface}
@@ -49,26 +50,36 @@ update name form = Api (UpdateRow name form)
 
 -- a body that creates a row
 abbrev pub creation_read : Kind → Bytes → Read Ask
-creation_read kind body = member_read Create (resource_of kind) (λ d. attributes_of kind) (λ d. option_map creation (form_of kind d)) body
+creation_read kind body =
+    member_read Create (resource_of kind) (λ d. attributes_of kind)
+    (λ d. option_map creation (form_of kind d)) body
 
 -- a body that updates one
 abbrev pub update_read : Kind → IdText → Bytes → Read Ask
-update_read kind name body = member_read Update (resource_of kind) (λ d. attributes_of kind) (λ d. option_map (update name) (form_of kind d)) body
+update_read kind name body =
+    member_read Update (resource_of kind) (λ d. attributes_of kind)
+    (λ d. option_map (update name) (form_of kind d)) body
 
 abbrev pub on_event : (Event → LabCall) → Event → Ask
 on_event call event = Lab (call event)
 
 abbrev pub event_read : (Event → LabCall) → Bytes → Read Ask
-event_read call body = member_read Create (codes "event") event_attributes (λ d. option_map (on_event call) (event_of d)) body
+event_read call body =
+    member_read Create (codes "event") event_attributes
+    (λ d. option_map (on_event call) (event_of d)) body
 
 abbrev pub on_host : (Text → LabCall) → Text → Ask
 on_host call host = Lab (call host)
 
 abbrev pub host_read : Text → (Text → LabCall) → Bytes → Read Ask
-host_read name call body = member_read Create name (λ d. host_attributes) (λ d. option_map (on_host call) (host_of d)) body
+host_read name call body =
+    member_read Create name (λ d. host_attributes) (λ d. option_map (on_host call) (host_of d))
+    body
 
 abbrev pub deliver_read : Bytes → Read Ask
-deliver_read body = member_read Create (codes "deliver") (λ d. deliver_attributes) (λ d. option_map Lab (deliver_of d)) body
+deliver_read body =
+    member_read Create (codes "deliver") (λ d. deliver_attributes)
+    (λ d. option_map Lab (deliver_of d)) body
 
 abbrev pub settle_read : Bytes → Read Ask
 settle_read body = member_read Create (codes "settle") (λ d. []) (λ d. Some (Lab Settle)) body

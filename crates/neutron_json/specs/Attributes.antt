@@ -1,4 +1,5 @@
--- Attributes of an object: how a value is written, which bodies read it, and whether it must be there or may be null. And what is first wrong with an object.
+-- Attributes of an object: how a value is written, which bodies read it, and whether it must be
+-- there or may be null. And what is first wrong with an object.
 use denote.Ref.{Bor}
 use Rattle.std.specs.Prelude.{◌&&◌, ◌||◌, Bool, true, false, List, [], ◌∷◌, find, if◌then◌else◌, Option, Some, None, is_some, is_none}
 use Rattle.std.specs.Str.{bytes_eq}
@@ -21,7 +22,8 @@ pub record Attribute : Type 0 where
   pub needs : Needs
 
 abbrev pub attribute : Text → GrammarName → ReadIn → Needs → Attribute
-attribute name grammar read_in needs = record { name = name; grammar = grammar; read_in = read_in; needs = needs }
+attribute name grammar read_in needs =
+    record { name = name; grammar = grammar; read_in = read_in; needs = needs }
 
 -- an attribute in the code's tables
 abbrev pub attribute_of : Bor Text × GrammarName × ReadIn × Needs → Attribute
@@ -76,12 +78,15 @@ is_good edit attributes name d = fits edit d (attribute_named name attributes)
 -- the first member that is none: members stand in byte order of their names
 abbrev pub first_bad : Edit → List Attribute → Members → Option Text
 first_bad edit attributes no_members = None
-first_bad edit attributes (member name d ms) = if is_good edit attributes name d then first_bad edit attributes ms else Some name
+first_bad edit attributes (member name d ms) =
+    if is_good edit attributes name d then first_bad edit attributes ms else Some name
 
 -- the first attribute that has to be there and is missing
 abbrev pub first_missing : List Attribute → Data → Option Text
 first_missing [] d = None
-first_missing (a ∷ attributes) d = if is_required a.needs && is_none (get a.name d) then Some a.name else first_missing attributes d
+first_missing (a ∷ attributes) d =
+    if is_required a.needs && is_none (get a.name d) then Some a.name
+    else first_missing attributes d
 
 abbrev pub bad_among : Edit → List Attribute → Option Members → Option Text
 bad_among edit attributes None = None
@@ -97,4 +102,5 @@ or_else None other = other
 
 -- the attribute that a refusal names: a bad one, else a missing one
 abbrev pub first_wrong : Edit → List Attribute → Data → Option Text
-first_wrong edit attributes d = or_else (bad_among edit attributes (as_object d)) (missing_in edit attributes d)
+first_wrong edit attributes d =
+    or_else (bad_among edit attributes (as_object d)) (missing_in edit attributes d)

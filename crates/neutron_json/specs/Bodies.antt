@@ -18,7 +18,8 @@ use Rattle.neutron_json.specs.Tables.{interface_attributes}
 use Rattle.neutron_json.specs.declared.attribute.Edit.{Edit}
 use Rattle.neutron_json.specs.declared.attribute.Edit.TheVariants.{Create}
 
--- what a body says; or it isn't an object with this one member, or no object at all; or this attribute breaks its rule
+-- what a body says; or it isn't an object with this one member, or no object at all; or this
+-- attribute breaks its rule
 pub data Read (T : Type 0) : Type 0 where
   Says : T → Read T
   NoFrame : Option Text → Read T
@@ -53,13 +54,17 @@ abbrev pub checked : {T : Type 0} → Option Text → Option T → Option Text �
 checked frame says (Some name) = BadName name
 checked frame says None = said_or frame says
 
-abbrev pub member_says : {T : Type 0} → Edit → Text → (Data → List Attribute) → (Data → Option T) → Option Data → Read T
+abbrev pub member_says : {T : Type 0} → Edit → Text → (Data → List Attribute) → (Data → Option T)
+    → Option Data → Read T
 member_says edit name attributes says None = NoFrame (Some name)
-member_says edit name attributes says (Some d) = checked (Some name) (says d) (first_wrong edit (attributes d) d)
+member_says edit name attributes says (Some d) =
+    checked (Some name) (says d) (first_wrong edit (attributes d) d)
 
 -- a body of an object with the one member of this name: its attributes, and what it then says
-abbrev pub member_read : {T : Type 0} → Edit → Text → (Data → List Attribute) → (Data → Option T) → Bytes → Read T
-member_read edit name attributes says body = member_says edit name attributes says (option_and_then (framed name) (json_of body))
+abbrev pub member_read : {T : Type 0} → Edit → Text → (Data → List Attribute) → (Data → Option T)
+    → Bytes → Read T
+member_read edit name attributes says body =
+    member_says edit name attributes says (option_and_then (framed name) (json_of body))
 
 -- exactly one of the two names the interface
 abbrev pub one_of : Option Ident → Option Ident → Read InterfaceBy
@@ -70,7 +75,8 @@ one_of (Some subnet) (Some port) = BadName (codes "port_id")
 
 abbrev pub interface_by : Data → Option Text → Read InterfaceBy
 interface_by d (Some name) = BadName name
-interface_by d None = one_of (member_of id_of (codes "subnet_id") d) (member_of id_of (codes "port_id") d)
+interface_by d None =
+    one_of (member_of id_of (codes "subnet_id") d) (member_of id_of (codes "port_id") d)
 
 abbrev pub interface_says : Option Data → Read InterfaceBy
 interface_says None = NoFrame None

@@ -18,13 +18,16 @@ use Rattle.neutron_json.specs.Tables.{port_event_attributes, wire_event_attribut
 
 -- an event with a port is one from that port
 abbrev pub event_attributes : Data → List Attribute
-event_attributes d = if is_some (get (codes "port") d) then port_event_attributes else wire_event_attributes
+event_attributes d =
+    if is_some (get (codes "port") d) then port_event_attributes else wire_event_attributes
 
 abbrev pub sent : Ident → Frame → Event
 sent port frame = FromPort port frame
 
 abbrev pub port_event : Data → Option Event
-port_event d = applied (option_map sent (member_of id_of (codes "port") d)) (member_of frame_of (codes "frame") d)
+port_event d =
+    applied (option_map sent (member_of id_of (codes "port") d))
+    (member_of frame_of (codes "frame") d)
 
 -- a frame from a physical network; null, which is no tag, says that there is none
 abbrev pub wire : Option ℕ → Text → Frame → Event
@@ -44,4 +47,5 @@ abbrev pub delivery : Text → ℕ → LabCall
 delivery host number = Deliver host number
 
 abbrev pub deliver_of : Data → Option LabCall
-deliver_of d = applied (option_map delivery (host_of d)) (member_of change_number (codes "number") d)
+deliver_of d =
+    applied (option_map delivery (host_of d)) (member_of change_number (codes "number") d)

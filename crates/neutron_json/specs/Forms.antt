@@ -31,7 +31,8 @@ abbrev pub given_by : {T : Type 0} → (Data → Option T) → Option Data → G
 given_by says None = Absent
 given_by says (Some d) = is_or_null (says d)
 
--- what an object says of an attribute: nothing, its value, or null. Of a value that is allowed and isn't read, null is meant
+-- what an object says of an attribute: nothing, its value, or null. Of a value that is allowed and
+-- isn't read, null is meant
 abbrev pub given : {T : Type 0} → (Data → Option T) → Data → Text → Given T
 given says d name = given_by says (get name d)
 
@@ -94,7 +95,8 @@ group_form d = record {
 
 -- a rule has the protocol `icmp` by that name, and is of version 6
 abbrev pub icmp_named : Data → Bool
-icmp_named d = is_some_so (bytes_eq (codes "icmp")) (option_and_then as_str (get (codes "protocol") d))
+icmp_named d =
+    is_some_so (bytes_eq (codes "icmp")) (option_and_then as_str (get (codes "protocol") d))
 
 abbrev pub version_6_given : Given Ethertype → Bool
 version_6_given Absent = false
@@ -104,7 +106,9 @@ version_6_given (Is Ipv6) = true
 
 -- there the name means ICMPv6; the number 1 stays 1 (Networking API v2.0, security group rules)
 abbrev pub protocol_given : Given Ethertype → Data → Given ℕ
-protocol_given ethertype d = if version_6_given ethertype && icmp_named d then Is 58 else given protocol_of d (codes "protocol")
+protocol_given ethertype d =
+    if version_6_given ethertype && icmp_named d then Is 58
+    else given protocol_of d (codes "protocol")
 
 abbrev pub rule_form : Data → RuleForm
 rule_form d = record {

@@ -1,4 +1,5 @@
--- The attributes that bodies have, kind by kind, in byte order of their names (OpenStack API reference, Networking API v2.0; those of the lab are this server's own).
+-- The attributes that bodies have, kind by kind, in byte order of their names (OpenStack API
+-- reference, Networking API v2.0; those of the lab are this server's own).
 use Rattle.std.specs.Prelude.{List, [], ◌∷◌, codes}
 use Rattle.api_types.specs.declared.kind.Kind.{Kind}
 use Rattle.api_types.specs.declared.kind.Kind.TheVariants as kind

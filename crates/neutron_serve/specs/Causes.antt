@@ -1,4 +1,5 @@
--- By what a request is answered: by the step, or because the store failed or memory was wanting; and whether hosts may have moved.
+-- By what a request is answered: by the step, or because the store failed or memory was wanting;
+-- and whether hosts may have moved.
 use Rattle.std.specs.Prelude.{not, Bool, false, true}
 use Rattle.api_types.specs.Lists.{is_empty}
 use Rattle.api_types.specs.declared.refusal.Refusal.{Refusal}
@@ -14,8 +15,8 @@ use Rattle.plane_types.specs.declared.ask.LabCall.TheVariants as call
 use Rattle.plane_types.specs.declared.ask.Reply.{Reply}
 use Rattle.plane_types.specs.declared.ask.Reply.TheVariants.{Done, LabDone, Refused}
 
--- whether hosts may be others than before, by what was asked of them and what is answered: messages move them, and frames that make
--- entries
+-- whether hosts may be others than before, by what was asked of them and what is answered:
+-- messages move them, and frames that make entries
 abbrev pub tells_entries : LabAnswer → Bool
 tells_entries (Seen verdict) = not (is_empty verdict.fresh)
 tells_entries (Told heard) = false

@@ -13,14 +13,17 @@ use Rattle.neutron_serve.specs.Promises.{Promises}
 use Rattle.neutron_serve.specs.declared.serving.Turn.{Turn}
 use Rattle.neutron_serve.specs.declared.serving.Turn.TheVariants as turn
 
--- a connection: what its two ends told when it came and when it was handed back, and how its session ended
+-- a connection: what its two ends told when it came and when it was handed back, and how its
+-- session ended
 pub record Served : Type 0 where
   pub start : Ended
   pub done : Ended
   pub end : SessionEnd
 
--- one session of at most 2^40 bytes, from a world and a store's count of faults to what they are behind it
-pub record IsServed (old : World) (before : ℕ) (c : Served) (new : World) (behind : ℕ) : Type 0 where
+-- one session of at most 2^40 bytes, from a world and a store's count of faults to what they are
+-- behind it
+pub record IsServed (old : World) (before : ℕ) (c : Served) (new : World) (behind : ℕ)
+    : Type 0 where
   pub buffer : Bytes
   pub taken : ℕ
   pub within : taken ≤ 2 ^ 40
@@ -35,7 +38,9 @@ pub record IsServed (old : World) (before : ℕ) (c : Served) (new : World) (beh
 -- one after the other, the world carried on
 abbrev pub AreServed : List Served → World → ℕ → World → ℕ → Type 0
 AreServed [] old before new behind = (new ≡ old) × (behind ≡ before)
-AreServed (c ∷ cs) old before new behind = (mid : World) × (between : ℕ) × IsServed old before c mid between × AreServed cs mid between new behind
+AreServed (c ∷ cs) old before new behind =
+    (mid : World) × (between : ℕ) × IsServed old before c mid between
+    × AreServed cs mid between new behind
 
 -- what a desk tells of connections: those to come, those that were handed back, and the asks
 pub record Line : Type 0 where
@@ -48,8 +53,11 @@ line to_come returned asks = record { to_come = to_come; returned = returned; as
 
 -- these were taken from those to come and handed back, in their order, and so many were asked for
 pub record Passes (cs : List Served) (asked : ℕ) (old new : Line) : Type 0 where
-  pub came : old.to_come ≡ option_map (λ rest. map (λ (c : Served). c.start) cs ++ rest) new.to_come
-  pub gone : new.returned ≡ option_map (λ (r : Returned). record { ended = r.ended ++ map (λ (c : Served). c.done) cs; out = r.out }) old.returned
+  pub came : old.to_come
+      ≡ option_map (λ rest. map (λ (c : Served). c.start) cs ++ rest) new.to_come
+  pub gone : new.returned
+      ≡ option_map (λ (r : Returned).
+      record { ended = r.ended ++ map (λ (c : Served). c.done) cs; out = r.out }) old.returned
   pub asks : new.asks ≡ option_map (λ asks. asks ++ replicate asked Next) old.asks
 
 -- whether a session ended for want of memory
@@ -62,8 +70,10 @@ abbrev pub AreWhole : List Served → Type 0
 AreWhole [] = ⊤
 AreWhole (c ∷ cs) = (is_wanting c.end ≡ false) × AreWhole cs
 
--- why no further connection is served: as many were as there may be, none is to come, the desk failed, or memory was wanting
-abbrev pub IsOver : (status : ℕ) (most : ℕ) (cs : List Served) (asked : ℕ) (new : Line) (before now : ℕ) → Type 0
+-- why no further connection is served: as many were as there may be, none is to come, the desk
+-- failed, or memory was wanting
+abbrev pub IsOver : (status : ℕ) (most : ℕ) (cs : List Served) (asked : ℕ) (new : Line)
+    (before now : ℕ) → Type 0
 IsOver status most cs asked new before now =
     ((status ≡ 0) × (length cs ≡ most) × (asked ≡ most) × AreWhole cs)
     ⊎ (((status ≡ 0) × IsSpent new.to_come × (asked ≡ length cs + 1) × AreWhole cs)
@@ -71,7 +81,8 @@ IsOver status most cs asked new before now =
     ⊎ ((status ≡ 4) × (asked ≡ length cs))))
 
 -- at most so many connections are served
-pub record ServesAll (status : ℕ) (most : ℕ) (old : World) (before : ℕ) (a : Line) (faults : ℕ) (new : World) (behind : ℕ) (b : Line) (now : ℕ) : Type 0 where
+pub record ServesAll (status : ℕ) (most : ℕ) (old : World) (before : ℕ) (a : Line) (faults : ℕ)
+    (new : World) (behind : ℕ) (b : Line) (now : ℕ) : Type 0 where
   pub served : List Served
   pub asked : ℕ
   pub few : length served ≤ most
@@ -83,17 +94,26 @@ pub record ServesAll (status : ℕ) (most : ℕ) (old : World) (before : ℕ) (a
 abbrev pub TurnsBy : Turn → World → ℕ → Line → ℕ → World → ℕ → Line → ℕ → Type 0
 TurnsBy (turn.Served end) old before a faults new behind b now =
     (c : Served) × (c.end ≡ end) × IsServed old before c new behind × Passes (c ∷ []) 1 a b
-TurnsBy turn.NoneLeft old before a faults new behind b now = (new ≡ old) × (behind ≡ before) × Passes [] 1 a b × IsSpent b.to_come
-TurnsBy turn.Failed old before a faults new behind b now = (new ≡ old) × (behind ≡ before) × Passes [] 1 a b × RoseBy 1 faults now
-TurnsBy turn.OutOfMemory old before a faults new behind b now = (new ≡ old) × (behind ≡ before) × Passes [] 0 a b
+TurnsBy turn.NoneLeft old before a faults new behind b now =
+    (new ≡ old) × (behind ≡ before) × Passes [] 1 a b × IsSpent b.to_come
+TurnsBy turn.Failed old before a faults new behind b now =
+    (new ≡ old) × (behind ≡ before) × Passes [] 1 a b × RoseBy 1 faults now
+TurnsBy turn.OutOfMemory old before a faults new behind b now =
+    (new ≡ old) × (behind ≡ before) × Passes [] 0 a b
 
 -- one more ask
 abbrev pub asked_too : DeskAsk → Line → Line
-asked_too ask a = record { to_come = a.to_come; returned = a.returned; asks = option_map (λ asks. asks ++ ask ∷ []) a.asks }
+asked_too ask a = record {
+  to_come = a.to_come;
+  returned = a.returned;
+  asks = option_map (λ asks. asks ++ ask ∷ []) a.asks;
+}
 
--- the desk listens at the address and connections are served; or it fails, or memory is wanting, and none is
+-- the desk listens at the address and connections are served; or it fails, or memory is wanting,
+-- and none is
 abbrev pub Listens : ℕ → Text → ℕ → World → ℕ → Line → ℕ → World → ℕ → Line → ℕ → Type 0
 Listens status address most old before a faults new behind b now =
     ServesAll status most old before (asked_too (Listen address) a) faults new behind b now
-    ⊎ (((status ≡ 7) × (new ≡ old) × (behind ≡ before) × (b ≡ asked_too (Listen address) a) × RoseBy 1 faults now)
+    ⊎ (((status ≡ 7) × (new ≡ old) × (behind ≡ before) × (b ≡ asked_too (Listen address) a)
+    × RoseBy 1 faults now)
     ⊎ ((status ≡ 4) × (new ≡ old) × (behind ≡ before) × (b ≡ a)))

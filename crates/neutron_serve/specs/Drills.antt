@@ -84,16 +84,20 @@ is_outside other = false
 
 -- ---- a drill's requests
 
--- While all is whole, a request is answered by the step of the API or of the lab, every host holds the version of now behind it, and it is
--- counted by its outcome. So where all is whole at the end, it is so of each request.
+-- While all is whole, a request is answered by the step of the API or of the lab, every host holds
+-- the version of now behind it, and it is counted by its outcome. So where all is whole at the
+-- end, it is so of each request.
 pub record DrillSteps (old : Drill) (asked : Asked) (written : Bytes) (new : Drill) : Type 0 where
   pub whole : new.tally.whole ≡ true → old.tally.whole ≡ true
   pub steps : new.tally.whole ≡ true → Steps old.world asked written new.world
   pub heard : new.tally.whole ≡ true → IsSynced new.world
   pub counts : new.tally.whole ≡ true
-      → new.tally ≡ counted (outcome_code (request_outcome old.world (request_of asked))) (outcome_delivers (request_outcome old.world (request_of asked))) old.tally
+      → new.tally
+      ≡ counted (outcome_code (request_outcome old.world (request_of asked)))
+      (outcome_delivers (request_outcome old.world (request_of asked))) old.tally
 
--- the replies to bytes that are refused are those of every session; in the place of a step's reply there comes none
+-- the replies to bytes that are refused are those of every session; in the place of a step's reply
+-- there comes none
 abbrev pub drill_replies : Fixed Drill
 drill_replies = record {
   store_failed = fixed_replies.store_failed;
@@ -104,14 +108,17 @@ drill_replies = record {
 }
 
 abbrev pub fresh_tally : Tally
-fresh_tally = record { requests = 0; created = 0; fine = 0; conflicts = 0; delivered = 0; whole = true }
+fresh_tally =
+    record { requests = 0; created = 0; fine = 0; conflicts = 0; delivered = 0; whole = true }
 
 -- no rows under the default settings, and each host hears of each change at once
 abbrev pub fresh_drill : Drill
 fresh_drill = record { world = opened default_parts false no_rows; tally = fresh_tally }
 
--- a session over the made requests comes to its end: its replies, what is counted of them, and the version of the rows behind it
-pub record IsDrilled (start size : ℕ) (out : Bytes) (tally : Tally) (version : Version) : Type 0 where
+-- a session over the made requests comes to its end: its replies, what is counted of them, and the
+-- version of the rows behind it
+pub record IsDrilled (start size : ℕ) (out : Bytes) (tally : Tally) (version : Version)
+    : Type 0 where
   pub drill : Drill
   pub buffer : Bytes
   pub left : Option Bytes
@@ -131,7 +138,8 @@ count_line name count = name ++ codes " " ++ decimal count ++ codes "\n"
 
 abbrev pub summary_text : Tally → Version → Bytes
 summary_text t version =
-    count_line (codes "requests") t.requests ++ count_line (codes "201") t.created ++ count_line (codes "200") t.fine ++ count_line (codes "409") t.conflicts
+    count_line (codes "requests") t.requests ++ count_line (codes "201") t.created
+    ++ count_line (codes "200") t.fine ++ count_line (codes "409") t.conflicts
     ++ count_line (codes "delivered") t.delivered ++ count_line (codes "version") version
 
 -- the replies, where they are wanted, and the summary
@@ -146,9 +154,12 @@ pub record IsDrillText (start size : ℕ) (replies : Bool) (text : Bytes) : Type
 abbrev pub IsWrittenOut : ℕ → Bytes → Option Bytes → Option Bytes → Option ℕ → Type 0
 IsWrittenOut status text old new flushed =
     ((status ≡ 0) × Appends old new text × (flushed ≡ option_map length new))
-    ⊎ (((status ≡ 3) ⊎ (status ≡ 4)) × ((front : Bytes) × (back : Bytes) × (text ≡ front ++ back) × Appends old new front))
+    ⊎ (((status ≡ 3) ⊎ (status ≡ 4))
+    × ((front : Bytes) × (back : Bytes) × (text ≡ front ++ back) × Appends old new front))
 
 -- a drill writes nothing for want of memory, or what it is to write
 abbrev pub RunsDrill : ℕ → ℕ → Bool → Option Bytes → Option Bytes → Option ℕ → ℕ → Type 0
 RunsDrill start size replies old new flushed status =
-    ((status ≡ 4) × (new ≡ old)) ⊎ ((text : Bytes) × IsDrillText start size replies text × IsWrittenOut status text old new flushed)
+    ((status ≡ 4) × (new ≡ old))
+    ⊎ ((text : Bytes) × IsDrillText start size replies text
+    × IsWrittenOut status text old new flushed)

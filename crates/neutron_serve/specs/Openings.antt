@@ -1,4 +1,5 @@
--- What a run starts from: settings, and the rows that a store keeps; or why it starts from nothing.
+-- What a run starts from: settings, and the rows that a store keeps; or why it starts from
+-- nothing.
 use Rattle.std.specs.Prelude.{◌≡◌, ◌⊎◌, ℕ, Bool, true, false, List, [], ◌∷◌, ◌++◌, Option, Some, None, Ok, Err, IfSome, is_some, option_map, ⊤}
 use Rattle.net_addr.specs.Words.{Bytes, Text}
 use Rattle.api_check.specs.FirstBroken.{first_broken_of}
@@ -36,9 +37,15 @@ pub record DeskSeen : Type 0 where
   pub faults : ℕ
   pub store_faults : ℕ
 
-abbrev pub desk_seen : Option (List DeskAsk) → Option (List (Named Bytes)) → Option Stores → ℕ → ℕ → DeskSeen
-desk_seen asks files stores faults store_faults =
-    record { asks = asks; files = files; stores = stores; faults = faults; store_faults = store_faults }
+abbrev pub desk_seen : Option (List DeskAsk) → Option (List (Named Bytes)) → Option Stores → ℕ → ℕ
+    → DeskSeen
+desk_seen asks files stores faults store_faults = record {
+  asks = asks;
+  files = files;
+  stores = stores;
+  faults = faults;
+  store_faults = store_faults;
+}
 
 -- ---- what is asked
 
@@ -67,19 +74,22 @@ AreNamed files name bytes = IfSome files (λ told. bytes ≡ file_named name tol
 -- the settings are those that the named bytes spell, and the default ones without a name
 abbrev pub AreSettings : Option (List (Named Bytes)) → Option Text → SettingsParts → Type 0
 AreSettings files None settings = settings ≡ default_parts
-AreSettings files (Some name) settings = (bytes : Bytes) × AreNamed files name bytes × (settings_of bytes ≡ Ok settings)
+AreSettings files (Some name) settings =
+    (bytes : Bytes) × AreNamed files name bytes × (settings_of bytes ≡ Ok settings)
 
 -- the named bytes spell no settings: this is the first key that breaks its rule
 abbrev pub AreBadSettings : Option (List (Named Bytes)) → Option Text → Type 0
 AreBadSettings files None = ⊥
-AreBadSettings files (Some name) = (bytes : Bytes) × (key : Text) × AreNamed files name bytes × (settings_of bytes ≡ Err key)
+AreBadSettings files (Some name) =
+    (bytes : Bytes) × (key : Text) × AreNamed files name bytes × (settings_of bytes ≡ Err key)
 
 -- the rows are those with which the named store opens, where they are told
 abbrev pub AreStored : Option Stores → Option Text → RowLists → Type 0
 AreStored stores name rows = IfSome stores (λ told. rows ≡ opening_rows name told)
 
 -- settings and rows with which a world is opened: they break no clause of consistency
-pub record Opens (old : DeskSeen) (opening : Opening) (settings : SettingsParts) (rows : RowLists) : Type 0 where
+pub record Opens (old : DeskSeen) (opening : Opening) (settings : SettingsParts) (rows : RowLists)
+    : Type 0 where
   pub spelled : AreSettings old.files opening.settings settings
   pub stored : AreStored old.stores opening.store rows
   pub consistent : first_broken_of settings.hosts rows ≡ None
@@ -100,17 +110,20 @@ pub record AreBroken (old : DeskSeen) (opening : Opening) : Type 0 where
 -- ---- why nothing is opened
 
 -- all of these asks are made; where memory is wanting, maybe only the first ones
-abbrev pub AreMade : Unopened → List DeskAsk → Option (List DeskAsk) → Option (List DeskAsk) → Type 0
+abbrev pub AreMade : Unopened → List DeskAsk → Option (List DeskAsk) → Option (List DeskAsk)
+    → Type 0
 AreMade BadSettings all old new = new ≡ option_map (λ asks. asks ++ all) old
 AreMade BrokenRows all old new = new ≡ option_map (λ asks. asks ++ all) old
 AreMade Failed all old new = new ≡ option_map (λ asks. asks ++ all) old
 AreMade OutOfMemory all old new = AsksFirst all old new
 
--- why there are no settings: the named bytes spell none, the desk failed to give them, or memory is wanting
+-- why there are no settings: the named bytes spell none, the desk failed to give them, or memory
+-- is wanting
 abbrev pub IsSettingsCause : Unopened → Opening → DeskSeen → DeskSeen → Type 0
 IsSettingsCause BadSettings opening old new = AreBadSettings old.files opening.settings
 IsSettingsCause BrokenRows opening old new = ⊥
-IsSettingsCause Failed opening old new = (is_some opening.settings ≡ true) × RoseBy 1 old.faults new.faults
+IsSettingsCause Failed opening old new =
+    (is_some opening.settings ≡ true) × RoseBy 1 old.faults new.faults
 IsSettingsCause OutOfMemory opening old new = ⊤
 
 -- it ends with the settings, and the store isn't asked for
@@ -120,16 +133,20 @@ pub record EndsAtSettings (why : Unopened) (opening : Opening) (old new : DeskSe
   pub stores : new.stores ≡ old.stores
   pub store_faults : new.store_faults ≡ old.store_faults
 
--- why there is no world under these settings: the desk or the store failed, the rows break a clause, or memory is wanting
+-- why there is no world under these settings: the desk or the store failed, the rows break a
+-- clause, or memory is wanting
 abbrev pub IsStoreCause : Unopened → SettingsParts → Opening → DeskSeen → DeskSeen → Type 0
 IsStoreCause BadSettings settings opening old new = ⊥
 IsStoreCause BrokenRows settings opening old new = RowsBreak old opening settings
-IsStoreCause Failed settings opening old new = RoseBy 1 old.faults new.faults ⊎ RoseBy 1 old.store_faults new.store_faults
+IsStoreCause Failed settings opening old new =
+    RoseBy 1 old.faults new.faults ⊎ RoseBy 1 old.store_faults new.store_faults
 IsStoreCause OutOfMemory settings opening old new = ⊤
 
 -- the stores are as they were, or the one that was opened is closed with the rows that it had
 abbrev pub StoresStay : Option Text → Option Stores → Option Stores → Type 0
-StoresStay name old new = (new ≡ old) ⊎ (new ≡ option_map (λ s. closed_as (Some name) (opening_rows name s) (opened_as name s)) old)
+StoresStay name old new =
+    (new ≡ old)
+    ⊎ (new ≡ option_map (λ s. closed_as (Some name) (opening_rows name s) (opened_as name s)) old)
 
 -- the settings are those that are named, and it ends with the store or its rows
 pub record EndsAtStore (why : Unopened) (opening : Opening) (old new : DeskSeen) : Type 0 where
@@ -139,7 +156,8 @@ pub record EndsAtStore (why : Unopened) (opening : Opening) (old new : DeskSeen)
   pub asks : AreMade why (opening_asks opening) old.asks new.asks
   pub stores : StoresStay opening.store old.stores new.stores
 
--- nothing is opened. What comes first is looked at first, so a store is asked for only where the settings are good
+-- nothing is opened. What comes first is looked at first, so a store is asked for only where the
+-- settings are good
 pub record IsUnopened (why : Unopened) (opening : Opening) (old new : DeskSeen) : Type 0 where
   pub ends : EndsAtSettings why opening old new ⊎ EndsAtStore why opening old new
 
@@ -147,7 +165,8 @@ pub record IsUnopened (why : Unopened) (opening : Opening) (old new : DeskSeen) 
 abbrev pub IsCause : Unopened → Opening → DeskSeen → DeskSeen → Type 0
 IsCause BadSettings opening old new = AreBadSettings old.files opening.settings
 IsCause BrokenRows opening old new = AreBroken old opening
-IsCause Failed opening old new = RoseBy 1 old.faults new.faults ⊎ RoseBy 1 old.store_faults new.store_faults
+IsCause Failed opening old new =
+    RoseBy 1 old.faults new.faults ⊎ RoseBy 1 old.store_faults new.store_faults
 IsCause OutOfMemory opening old new = ⊤
 
 -- ---- refusals on the way

@@ -78,7 +78,8 @@ pub record FramesTold (world : World) : Type 0 where
 -- and one that holds the current version has the current rows; its tables are those that its rows
 -- give to it, also while it is behind or holds nothing
 pub record HostsFollow (world : World) : Type 0 where
-  pub told : Each (λ (a : Agent). (v : Version) → a.held ≡ Some v → first_kept world.history ≤ v + 1
+  pub told : Each (λ (a : Agent).
+      (v : Version) → a.held ≡ Some v → first_kept world.history ≤ v + 1
       → a.rows ≡ rows_at world.history v) world.agents
   pub now : Each (λ (a : Agent). a.held ≡ Some world.history.version
       → a.rows ≡ world.history.rows) world.agents
@@ -102,7 +103,8 @@ pub record Promised (old : World) (asked : Asked) (reply : Bytes) (new : World) 
   pub hosts : HostsFollow old
   -- a frame that it sends goes by the hosts' tables, and, where they hold the current version,
   -- comes to what the rows say, by the two laws of frames
-  pub frame : (caller : Caller) (event : Event) → request_of asked ≡ Ok (caller, Lab (Frames event))
+  pub frame : (caller : Caller) (event : Event)
+      → request_of asked ≡ Ok (caller, Lab (Frames event))
       → event_refusal old.history.rows caller event ≡ None
       → FrameTold old event (closes asked.head) reply
   pub frames : FramesTold old

@@ -1,4 +1,5 @@
--- The reply to a request (OpenStack API reference, Networking API v2.0: normal response codes and faults; RFC 9110, section 15).
+-- The reply to a request (OpenStack API reference, Networking API v2.0: normal response codes and
+-- faults; RFC 9110, section 15).
 use Rattle.std.specs.Prelude.{ℕ, Bool, Option, Some, None}
 use Rattle.net_addr.specs.Words.{Bytes, Text}
 use Rattle.api_types.specs.Outcome.{Refused, Told, Moved}
@@ -29,10 +30,13 @@ allowed_by (NoMethod allowed) = Some allowed
 allowed_by refusal = None
 
 abbrev pub answer_bytes : Bool → Reply → Bytes
-answer_bytes close reply = reply_bytes (answer_code reply) close None (body_text (answer_tree reply))
+answer_bytes close reply =
+    reply_bytes (answer_code reply) close None (body_text (answer_tree reply))
 
 abbrev pub refusal_bytes : Bool → Refusal → Bytes
-refusal_bytes close refusal = reply_bytes (code_of refusal) close (allowed_by refusal) (body_text (Some (fault_tree refusal)))
+refusal_bytes close refusal =
+    reply_bytes (code_of refusal) close (allowed_by refusal)
+    (body_text (Some (fault_tree refusal)))
 
 abbrev pub lab_bytes : Bool → LabAnswer → Bytes
 lab_bytes close answer = reply_bytes 200 close None (body_text (Some (lab_tree answer)))

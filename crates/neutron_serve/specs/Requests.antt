@@ -1,5 +1,5 @@
--- Who asks, and what, by the parts of a request (OpenStack API reference, Networking API v2.0: requests; RFC 9110; the identity middleware
--- names the caller by `X-Project-Id` and `X-Roles`).
+-- Who asks, and what, by the parts of a request (OpenStack API reference, Networking API v2.0:
+-- requests; RFC 9110; the identity middleware names the caller by `X-Project-Id` and `X-Roles`).
 use Rattle.std.specs.Prelude.{Bool, map, if◌then◌else◌, Option, Some, None, Result, Ok, Err, option_map}
 use Rattle.net_addr.specs.Words.{Bytes, Text}
 use Rattle.api_types.specs.declared.call.Caller.{Caller}
@@ -22,7 +22,8 @@ use Rattle.plane_types.specs.declared.ask.Ask.{Ask}
 
 -- the caller: the project that is named, and whether the roles have `admin`
 abbrev pub caller_named : Text → Bool → Option Caller
-caller_named name admin = if is_project_name name then Some (record { project = name; admin = admin }) else None
+caller_named name admin =
+    if is_project_name name then Some (record { project = name; admin = admin }) else None
 
 -- no project, or a text that is no project's name, names no caller
 abbrev pub caller_of : Option Text → Bool → Option Caller
@@ -57,7 +58,8 @@ abbrev pub by_route : Bytes → Bytes → Routed → Result Ask Refusal
 by_route query body Nowhere = Err NoRoute
 by_route query body (Without path) = Err (NoMethod (allowed_text path))
 by_route query body (To path method parameters) =
-    by_query (record { path = path; method = method; parameters = parameters }) body (query_read path method query)
+    by_query (record { path = path; method = method; parameters = parameters }) body
+    (query_read path method query)
 
 -- what a request asks, or its refusal
 unfoldable pub asked_by : Text → Bytes → Bytes → Bytes → Result Ask Refusal
@@ -76,4 +78,5 @@ by_caller (Some caller) asked = with_caller caller asked
 unfoldable pub request_of : Asked → Result (Caller × Ask) Refusal
 request_of asked =
     by_caller (caller_of (project_of asked.head) (is_admin asked.head))
-    (asked_by asked.head.method (path_of asked.head.target) (query_of asked.head.target) asked.body)
+    (asked_by asked.head.method (path_of asked.head.target) (query_of asked.head.target)
+    asked.body)

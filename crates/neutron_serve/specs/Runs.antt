@@ -58,12 +58,15 @@ abbrev pub ends : Option Bytes → Option Bytes → Option ℕ → Ends
 ends left written flushed = record { left = left; written = written; flushed = flushed }
 
 -- the store that was opened is closed with these rows, and the desk counts its faults
-pub record Closed (opening : Opening) (rows : RowLists) (counted : ℕ) (a b : DeskSeen) : Type 0 where
-  pub stores : b.stores ≡ option_map (λ s. closed_as (Some opening.store) rows (opened_as opening.store s)) a.stores
+pub record Closed (opening : Opening) (rows : RowLists) (counted : ℕ) (a b : DeskSeen)
+    : Type 0 where
+  pub stores : b.stores
+      ≡ option_map (λ s. closed_as (Some opening.store) rows (opened_as opening.store s)) a.stores
   pub store_faults : b.store_faults ≡ min (a.store_faults + counted) (2 ^ 64 - 1)
 
 -- a session over what is opened, of at most 2^40 bytes
-pub record RunsOpened (opening : Opening) (a b : DeskSeen) (x y : Ends) (end : SessionEnd) : Type 0 where
+pub record RunsOpened (opening : Opening) (a b : DeskSeen) (x y : Ends) (end : SessionEnd)
+    : Type 0 where
   pub settings : SettingsParts
   pub rows : RowLists
   pub opens : Opens a opening settings rows
@@ -75,7 +78,8 @@ pub record RunsOpened (opening : Opening) (a b : DeskSeen) (x y : Ends) (end : S
   pub taken : ℕ
   pub within : taken ≤ 2 ^ 40
   pub promises : Promises (2 ^ 40)
-      (moment (opened settings (is_manual opening.delivery) rows) [] x.left x.written x.flushed before 0)
+      (moment (opened settings (is_manual opening.delivery) rows) [] x.left x.written x.flushed
+      before 0)
       (moment world buffer y.left y.written y.flushed behind taken) end
   pub closed : Closed opening world.history.rows behind a b
   pub asks : b.asks ≡ option_map (λ asks. asks ++ opening_asks opening) a.asks
@@ -89,21 +93,26 @@ RunsSession opening a b x y status =
 -- ---- connections
 
 -- what is opened listens, and connections are served over it
-pub record ServesOpened (opening : Opening) (address : Text) (most : ℕ) (a b : DeskSeen) (x y : Connections) (status : ℕ) : Type 0 where
+pub record ServesOpened (opening : Opening) (address : Text) (most : ℕ) (a b : DeskSeen)
+    (x y : Connections) (status : ℕ) : Type 0 where
   pub settings : SettingsParts
   pub rows : RowLists
   pub opens : Opens a opening settings rows
   pub before : ℕ
   pub behind : ℕ
   pub world : World
-  pub listens : Listens status address most (opened settings (is_manual opening.delivery) rows) before
-      (line x.to_come x.returned (option_map (λ asks. asks ++ opening_asks opening) a.asks)) a.faults world behind y b.faults
+  pub listens : Listens status address most (opened settings (is_manual opening.delivery) rows)
+      before
+      (line x.to_come x.returned (option_map (λ asks. asks ++ opening_asks opening) a.asks))
+      a.faults world behind y b.faults
   pub closed : Closed opening world.history.rows behind a b
 
 -- nothing is opened and no connection is asked for, or connections are served
-abbrev pub RunsServe : Opening → Text → ℕ → DeskSeen → DeskSeen → Connections → Connections → ℕ → Type 0
+abbrev pub RunsServe : Opening → Text → ℕ → DeskSeen → DeskSeen → Connections → Connections → ℕ
+    → Type 0
 RunsServe opening address most a b x y status =
-    ((why : Unopened) × (status ≡ unopened_status why) × IsUnopened why opening a b × (y.to_come ≡ x.to_come) × (y.returned ≡ x.returned))
+    ((why : Unopened) × (status ≡ unopened_status why) × IsUnopened why opening a b
+    × (y.to_come ≡ x.to_come) × (y.returned ≡ x.returned))
     ⊎ ServesOpened opening address most a b x y status
 
 -- ---- what a status tells
@@ -120,7 +129,8 @@ HasBrokenRows (Some opening) old = AreBroken old opening
 
 -- memory was wanting before anything was asked for
 abbrev pub IsUnasked : {D I O : Type 0} → ℕ → D → D → I → I → O → O → Type 0
-IsUnasked status desk desk_new input input_new output output_new = (status ≡ 4) × (desk_new ≡ desk) × (input_new ≡ input) × (output_new ≡ output)
+IsUnasked status desk desk_new input input_new output output_new =
+    (status ≡ 4) × (desk_new ≡ desk) × (input_new ≡ input) × (output_new ≡ output)
 
 abbrev pub is_session_in : Line → Bool
 is_session_in (Session opening) = true

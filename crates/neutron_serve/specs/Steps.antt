@@ -27,7 +27,9 @@ pub record Steps (old : World) (asked : Asked) (reply : Bytes) (new : World) : T
 
 -- the refusals of bytes by their numbers
 abbrev pub byte_refusal : ℕ → Refusal
-byte_refusal n = if n == 1 then Malformed else (if n == 2 then HeadLarge else (if n == 3 then BodyLarge else NoLength))
+byte_refusal n =
+    if n == 1 then Malformed
+    else (if n == 2 then HeadLarge else (if n == 3 then BodyLarge else NoLength))
 
 -- the replies that are none of a step, and the requests that come to a change
 abbrev pub fixed_replies : Fixed World

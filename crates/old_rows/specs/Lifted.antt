@@ -1,4 +1,5 @@
--- Old rows as rows of today: each address is of version 4, no subnet has a mode, and all else is what it was.
+-- Old rows as rows of today: each address is of version 4, no subnet has a mode, and all else is
+-- what it was.
 use Rattle.std.specs.Prelude.{ℕ, map, Option, Some, None, option_map}
 use Rattle.net_addr.specs.Prefixes.{Prefix, Span}
 use Rattle.net_addr.specs.declared.address.Addr.{Addr}

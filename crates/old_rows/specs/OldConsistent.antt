@@ -1,5 +1,6 @@
--- Old rows are consistent: what a store of that time met. The fourteen clauses are those of rows today, over rows with addresses of
--- version 4 alone; a clause that speaks of no such row is today's.
+-- Old rows are consistent: what a store of that time met. The fourteen clauses are those of rows
+-- today, over rows with addresses of version 4 alone; a clause that speaks of no such row is
+-- today's.
 pub mod Numbered
 pub mod Named
 pub mod InForm

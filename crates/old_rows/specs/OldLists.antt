@@ -23,7 +23,17 @@ pub record OldLists : Type 0 where
   pub policies : List PolicyRow
 
 abbrev pub no_old_rows : OldLists
-no_old_rows = record { projects = []; networks = []; subnets = []; ports = []; groups = []; rules = []; routers = []; floatings = []; policies = [] }
+no_old_rows = record {
+  projects = [];
+  networks = [];
+  subnets = [];
+  ports = [];
+  groups = [];
+  rules = [];
+  routers = [];
+  floatings = [];
+  policies = [];
+}
 
 -- no rows but those of kinds that are what they were
 pub record HasNoOther (rows : RowLists) : Type 0 where

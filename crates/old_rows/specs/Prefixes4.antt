@@ -23,7 +23,8 @@ contains p x = (x / 2 ^ (32 - p.len)) == (p.base / 2 ^ (32 - p.len))
 abbrev pub last_address : Prefix → ℕ
 last_address p = p.base + (2 ^ (32 - p.len) - 1)
 
--- whether x is a host address: the prefix contains it, and it is neither the least nor the greatest
+-- whether x is a host address: the prefix contains it, and it is neither the least nor the
+-- greatest
 abbrev pub is_host_of : Prefix → ℕ → Bool
 is_host_of p x = contains p x && not (x == p.base) && not (x == last_address p)
 

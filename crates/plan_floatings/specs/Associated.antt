@@ -21,25 +21,36 @@ led_by aim None = Err (NoRouterForFloating aim.fixed.subnet)
 led_by aim (Some r) = Ok (target_by aim r)
 
 -- unless this floating address leads there already
-abbrev pub led_alone : RowLists → Ident → Text → Aim → Option FloatingRow → Result Target FloatingRefusal
+abbrev pub led_alone : RowLists → Ident → Text → Aim → Option FloatingRow
+    → Result Target FloatingRefusal
 led_alone rows network project aim (Some f) = Err (FixedTaken f.id)
-led_alone rows network project aim None = led_by aim (router_for rows project network aim.fixed.subnet)
+led_alone rows network project aim None =
+    led_by aim (router_for rows project network aim.fixed.subnet)
 
 -- the floating address that is changed isn't counted
 abbrev pub led_from : RowLists → Ident → Text → Option Ident → Aim → Result Target FloatingRefusal
-led_from rows network project own aim = led_alone rows network project aim (already_leads (other_floatings own rows.floatings) network aim)
+led_from rows network project own aim =
+    led_alone rows network project aim
+    (already_leads (other_floatings own rows.floatings) network aim)
 
-abbrev pub led_if : RowLists → Ident → Text → Option Ident → Option Aim → Result Target FloatingRefusal
+abbrev pub led_if : RowLists → Ident → Text → Option Ident → Option Aim
+    → Result Target FloatingRefusal
 led_if rows network project own None = Err BadFixed
 led_if rows network project own (Some aim) = led_from rows network project own aim
 
-abbrev pub associated_at : RowLists → Ident → Text → Option Ident → Option ℕ → PortRow → Result Target FloatingRefusal
+abbrev pub associated_at : RowLists → Ident → Text → Option Ident → Option ℕ → PortRow
+    → Result Target FloatingRefusal
 associated_at rows network project own fixed p =
-    if not (bytes_eq p.project project) || is_service p.owner then Err BadPort else led_if rows network project own (aim_at fixed p)
+    if not (bytes_eq p.project project) || is_service p.owner then Err BadPort
+    else led_if rows network project own (aim_at fixed p)
 
-abbrev pub associated_if : RowLists → Ident → Text → Option Ident → Option ℕ → Option PortRow → Result Target FloatingRefusal
+abbrev pub associated_if : RowLists → Ident → Text → Option Ident → Option ℕ → Option PortRow
+    → Result Target FloatingRefusal
 associated_if rows network project own fixed None = Err BadPort
-associated_if rows network project own fixed (Some p) = associated_at rows network project own fixed p
+associated_if rows network project own fixed (Some p) =
+    associated_at rows network project own fixed p
 
-abbrev pub associated : RowLists → Ident → Text → Option Ident → Ident → Option ℕ → Result Target FloatingRefusal
-associated rows network project own port fixed = associated_if rows network project own fixed (row_of (λ (p : PortRow). p.id) port rows.ports)
+abbrev pub associated : RowLists → Ident → Text → Option Ident → Ident → Option ℕ
+    → Result Target FloatingRefusal
+associated rows network project own port fixed =
+    associated_if rows network project own fixed (row_of (λ (p : PortRow). p.id) port rows.ports)

@@ -46,7 +46,8 @@ use Rattle.net_addr.specs.Words.{MacAddress, Text}
 use Rattle.api_policy.specs.Reserved.{floating_for_admin}
 
 abbrev pub floating_shown : RowLists → Caller → FloatingRow → List Text → ShownRow
-floating_shown rows caller f fields = shown_as FloatingKind caller.admin fields (floating_members f)
+floating_shown rows caller f fields =
+    shown_as FloatingKind caller.admin fields (floating_members f)
 
 -- `fixed_ip_address` stands beside a port alone
 abbrev pub lacks_port : FloatingForm → Bool
@@ -57,22 +58,27 @@ abbrev pub port_asked : RowLists → Caller → FloatingForm → Option PortRow
 port_asked rows caller form = port_seen rows caller (value_of form.port_id)
 
 abbrev pub aim_asked : RowLists → Caller → FloatingForm → Option Aim
-aim_asked rows caller form = option_and_then (aim_at (value_of form.fixed_ip_address)) (port_asked rows caller form)
+aim_asked rows caller form =
+    option_and_then (aim_at (value_of form.fixed_ip_address)) (port_asked rows caller form)
 
 -- making a floating address
 
-abbrev pub body_refusal : RowLists → Caller → FloatingForm → Text → Option NetworkRow → Option Refusal
+abbrev pub body_refusal : RowLists → Caller → FloatingForm → Text → Option NetworkRow
+    → Option Refusal
 body_refusal rows caller form owner n = first_refusal (
     when (lacks_port form) (Invalid (codes "fixed_ip_address"))
     ∷ when (are_unlike form.project_id form.tenant_id) (Invalid (codes "tenant_id"))
-    ∷ (if not caller.admin && is_for_other caller form.project_id form.tenant_id then None else option_and_then (bad_outside rows owner) n)
+    ∷ (if not caller.admin && is_for_other caller form.project_id form.tenant_id then None
+    else option_and_then (bad_outside rows owner) n)
     ∷ option_and_then (bad_address rows (value_of form.floating_ip_address)) n
-    ∷ option_and_then (bad_aim owner (value_of form.fixed_ip_address)) (port_asked rows caller form)
+    ∷ option_and_then (bad_aim owner (value_of form.fixed_ip_address))
+    (port_asked rows caller form)
     ∷ [])
 
 abbrev pub address_held : RowLists → Ident → Option ℕ → Option Refusal
 address_held rows network None = None
-address_held rows network (Some x) = when (is_address_held rows.ports network (V4 x)) (Taken (AddressValue (V4 x)) network)
+address_held rows network (Some x) =
+    when (is_address_held rows.ports network (V4 x)) (Taken (AddressValue (V4 x)) network)
 
 abbrev pub creation_refusal : RowLists → Caller → FloatingForm → NetworkRow → Option Refusal
 creation_refusal rows caller form n = first_refusal (
@@ -82,12 +88,17 @@ creation_refusal rows caller form n = first_refusal (
     ∷ address_held rows n.id (value_of form.floating_ip_address)
     ∷ [])
 
--- the address that is named, or the least free pool address of the first subnet of version 4 that has one
+-- the address that is named, or the least free pool address of the first subnet of version 4 that
+-- has one
 abbrev pub outer_address : RowLists → Ident → Option ℕ → Option Fixed
-outer_address rows network None = floating_address (λ x. not (is_address_held rows.ports network x)) (subnets_on rows.subnets network)
-outer_address rows network (Some x) = option_map (λ (s : SubnetRow). fixed_at s.id (V4 x)) (subnet_with rows network (V4 x))
+outer_address rows network None =
+    floating_address (λ x. not (is_address_held rows.ports network x))
+    (subnets_on rows.subnets network)
+outer_address rows network (Some x) =
+    option_map (λ (s : SubnetRow). fixed_at s.id (V4 x)) (subnet_with rows network (V4 x))
 
-abbrev pub new_floating : FloatingForm → Text → NetworkRow → Ident → Ident → ℕ → Option Target → FloatingRow
+abbrev pub new_floating : FloatingForm → Text → NetworkRow → Ident → Ident → ℕ → Option Target
+    → FloatingRow
 new_floating form owner n i own x target = record {
   id = i;
   project = owner;
@@ -100,39 +111,51 @@ new_floating form owner n i own x target = record {
 
 -- the port that holds it, on no host
 abbrev pub own_port : SettingsParts → NetworkRow → FloatingRow → MacAddress → Fixed → PortRow
-own_port settings n f mac outer = service_port settings n f.own_port [] mac (outer ∷ []) floating_owner (ident_text f.id) []
+own_port settings n f mac outer =
+    service_port settings n f.own_port [] mac (outer ∷ []) floating_owner (ident_text f.id) []
 
 abbrev pub floating_added : Caller → RowLists → FloatingRow → PortRow → Outcome
-floating_added caller rows f p = accepted rows (Add (Floating f) ∷ Add (Port p) ∷ []) (λ after. NewRow (floating_shown after caller f []))
+floating_added caller rows f p =
+    accepted rows (Add (Floating f) ∷ Add (Port p) ∷ []) (λ after.
+    NewRow (floating_shown after caller f []))
 
-abbrev pub floating_with : SettingsParts → State → Caller → FloatingForm → Text → NetworkRow → Option Target → Outcome
+abbrev pub floating_with : SettingsParts → State → Caller → FloatingForm → Text → NetworkRow
+    → Option Target → Outcome
 floating_with settings state caller form owner n target =
     unless (over_quota settings state.rows owner FloatingKind)
-    (needing (PoolsSpent n.id) (outer_address state.rows n.id (value_of form.floating_ip_address)) (λ outer.
+    (needing (PoolsSpent n.id) (outer_address state.rows n.id (value_of form.floating_ip_address))
+    (λ outer.
     needing CountersSpent (free_mac state.rows.ports n.id) (λ mac.
     needing CountersSpent (drawing_at state owner 2) (λ drawing.
-    let f : FloatingRow = new_floating form owner n (drawn_id drawing 0) (drawn_id drawing 1) (number outer.address) target in
+    let f : FloatingRow = new_floating form owner n (drawn_id drawing 0) (drawn_id drawing 1)
+    (number outer.address) target in
     floating_added caller drawing.rows f (own_port settings n f mac outer)))))
 
-abbrev pub floating_made : SettingsParts → State → Caller → FloatingForm → Text → Option NetworkRow → Outcome
+abbrev pub floating_made : SettingsParts → State → Caller → FloatingForm → Text → Option NetworkRow
+    → Outcome
 floating_made settings state caller form owner network =
     unless (body_refusal state.rows caller form owner network)
     (needing (not_found NetworkKind (text_of (value_of form.floating_network_id))) network (λ n.
     unless (creation_refusal state.rows caller form n)
-    (with_target state.rows owner n.id (aim_asked state.rows caller form) (floating_with settings state caller form owner n))))
+    (with_target state.rows owner n.id (aim_asked state.rows caller form)
+    (floating_with settings state caller form owner n))))
 
 abbrev pub floating_created : SettingsParts → State → Caller → FloatingForm → Outcome
 floating_created settings state caller form =
-    floating_made settings state caller form (owner_of caller form.project_id form.tenant_id) (network_seen state.rows caller (value_of form.floating_network_id))
+    floating_made settings state caller form (owner_of caller form.project_id form.tenant_id)
+    (network_seen state.rows caller (value_of form.floating_network_id))
 
 -- changing a floating address
 
 abbrev pub update_refusal : State → Caller → FloatingForm → FloatingRow → Option Refusal
 update_refusal state caller form f = first_refusal (
-    option_and_then (bad_aim f.project (value_of form.fixed_ip_address)) (port_asked state.rows caller form)
+    option_and_then (bad_aim f.project (value_of form.fixed_ip_address))
+    (port_asked state.rows caller form)
     ∷ unless_found PortKind (value_of form.port_id) (port_asked state.rows caller form)
     ∷ owner_only caller f.project
-    ∷ option_and_then (aim_in_use state.rows caller (gone_from (λ g. g.id) f.id state.rows.floatings) f.network) (aim_asked state.rows caller form)
+    ∷ option_and_then
+    (aim_in_use state.rows caller (gone_from (λ g. g.id) f.id state.rows.floatings) f.network)
+    (aim_asked state.rows caller form)
     ∷ [])
 
 -- the target stays where no port is named, and null takes it off
@@ -142,22 +165,28 @@ target_after Null old new = new
 target_after (Is i) old new = new
 
 abbrev pub changed_floating : FloatingForm → FloatingRow → Option Target → FloatingRow
-changed_floating form f target = record f { description = value_or f.description form.description; target = target_after form.port_id f.target target }
+changed_floating form f target = record f {
+  description = value_or f.description form.description;
+  target = target_after form.port_id f.target target;
+}
 
 abbrev pub floating_replaced : State → Caller → FloatingRow → Outcome
 floating_replaced state caller f =
     unless (when (is_last state) CountersSpent)
-    (accepted state.rows (Put (Floating f) ∷ []) (λ after. OneRow (floating_shown after caller f [])))
+    (accepted state.rows (Put (Floating f) ∷ []) (λ after.
+    OneRow (floating_shown after caller f [])))
 
 abbrev pub floating_changed : State → Caller → FloatingForm → FloatingRow → Outcome
 floating_changed state caller form f =
     unless (update_refusal state caller form f)
-    (with_target state.rows f.project f.network (aim_asked state.rows caller form) (λ target. floating_replaced state caller (changed_floating form f target)))
+    (with_target state.rows f.project f.network (aim_asked state.rows caller form) (λ target.
+    floating_replaced state caller (changed_floating form f target)))
 
 abbrev pub floating_updated : State → Caller → IdText → FloatingForm → Outcome
 floating_updated state caller name form =
     unless (when (lacks_port form) (Invalid (codes "fixed_ip_address")))
-    (needing (not_found FloatingKind name.text) (floating_seen state.rows caller name.id) (floating_changed state caller form))
+    (needing (not_found FloatingKind name.text) (floating_seen state.rows caller name.id)
+    (floating_changed state caller form))
 
 -- taking a floating address out, with the port that holds it
 
@@ -170,4 +199,5 @@ deletion_refusal state caller f = first_refusal (
 abbrev pub floating_deleted : State → Caller → IdText → Outcome
 floating_deleted state caller name =
     needing (not_found FloatingKind name.text) (floating_seen state.rows caller name.id) (λ f.
-    unless (deletion_refusal state caller f) (accepted state.rows (Drop PortKind f.own_port ∷ Drop FloatingKind f.id ∷ []) (λ rows. NoRow)))
+    unless (deletion_refusal state caller f)
+    (accepted state.rows (Drop PortKind f.own_port ∷ Drop FloatingKind f.id ∷ []) (λ rows. NoRow)))

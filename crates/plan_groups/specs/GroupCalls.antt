@@ -69,10 +69,13 @@ egress_rule g ethertype i = record {
 
 abbrev pub group_added : Caller → Drawing → GroupRow → Outcome
 group_added caller drawing g =
-    accepted drawing.rows (Add (Group g) ∷ Add (Rule (egress_rule g Ipv4 (drawn_id drawing 1))) ∷ Add (Rule (egress_rule g Ipv6 (drawn_id drawing 2))) ∷ [])
+    accepted drawing.rows
+    (Add (Group g) ∷ Add (Rule (egress_rule g Ipv4 (drawn_id drawing 1)))
+    ∷ Add (Rule (egress_rule g Ipv6 (drawn_id drawing 2))) ∷ [])
     (λ rows. NewRow (group_shown rows caller g []))
 
-abbrev pub group_creation_refusal : SettingsParts → RowLists → Caller → GroupForm → Text → Option Refusal
+abbrev pub group_creation_refusal : SettingsParts → RowLists → Caller → GroupForm → Text
+    → Option Refusal
 group_creation_refusal settings rows caller form owner = first_refusal (
     when (are_unlike form.project_id form.tenant_id) (Invalid (codes "tenant_id"))
     ∷ admin_only caller (is_for_other caller form.project_id form.tenant_id)
@@ -82,15 +85,20 @@ group_creation_refusal settings rows caller form owner = first_refusal (
 abbrev pub group_made : SettingsParts → State → Caller → GroupForm → Text → Outcome
 group_made settings state caller form owner =
     unless (group_creation_refusal settings state.rows caller form owner)
-    (needing CountersSpent (drawing_at state owner 3) (λ drawing. group_added caller drawing (new_group form owner (drawn_id drawing 0))))
+    (needing CountersSpent (drawing_at state owner 3) (λ drawing.
+    group_added caller drawing (new_group form owner (drawn_id drawing 0))))
 
 abbrev pub group_created : SettingsParts → State → Caller → GroupForm → Outcome
-group_created settings state caller form = group_made settings state caller form (owner_of caller form.project_id form.tenant_id)
+group_created settings state caller form =
+    group_made settings state caller form (owner_of caller form.project_id form.tenant_id)
 
 -- changing a group; the default group keeps its name
 
 abbrev pub changed_group : GroupForm → GroupRow → GroupRow
-changed_group form g = record g { name = value_or g.name form.name; description = value_or g.description form.description }
+changed_group form g = record g {
+  name = value_or g.name form.name;
+  description = value_or g.description form.description;
+}
 
 abbrev pub group_update_refusal : State → Caller → GroupForm → GroupRow → Option Refusal
 group_update_refusal state caller form g = first_refusal (
@@ -100,12 +108,14 @@ group_update_refusal state caller form g = first_refusal (
     ∷ [])
 
 abbrev pub group_replaced : Caller → RowLists → GroupRow → Outcome
-group_replaced caller rows g = accepted rows (Put (Group g) ∷ []) (λ after. OneRow (group_shown after caller g []))
+group_replaced caller rows g =
+    accepted rows (Put (Group g) ∷ []) (λ after. OneRow (group_shown after caller g []))
 
 abbrev pub group_updated : State → Caller → IdText → GroupForm → Outcome
 group_updated state caller name form =
     needing (not_found GroupKind name.text) (group_seen state.rows caller name.id) (λ g.
-    unless (group_update_refusal state caller form g) (group_replaced caller state.rows (changed_group form g)))
+    unless (group_update_refusal state caller form g)
+    (group_replaced caller state.rows (changed_group form g)))
 
 -- taking a group out, with its rules and those that name it as remote group
 
@@ -118,12 +128,14 @@ group_deletion_refusal state caller g = first_refusal (
     ∷ [])
 
 abbrev pub group_gone : RowLists → Ident → List Edit
-group_gone rows i = dropped RuleKind (λ r. r.id) (filter (names_group i) rows.rules) ++ Drop GroupKind i ∷ []
+group_gone rows i =
+    dropped RuleKind (λ r. r.id) (filter (names_group i) rows.rules) ++ Drop GroupKind i ∷ []
 
 abbrev pub group_deleted : State → Caller → IdText → Outcome
 group_deleted state caller name =
     needing (not_found GroupKind name.text) (group_seen state.rows caller name.id) (λ g.
-    unless (group_deletion_refusal state caller g) (accepted state.rows (group_gone state.rows g.id) (λ rows. NoRow)))
+    unless (group_deletion_refusal state caller g)
+    (accepted state.rows (group_gone state.rows g.id) (λ rows. NoRow)))
 
 -- making a rule, of its group's project
 
@@ -133,18 +145,21 @@ is_remote_for caller None remote = true
 is_remote_for caller (Some g) remote = bytes_eq remote.project g.project
 
 abbrev pub is_remote_seen : RowLists → Caller → Option GroupRow → Ident → Bool
-is_remote_seen rows caller g i = is_some_so (is_remote_for caller g) (group_seen rows caller (Some i))
+is_remote_seen rows caller g i =
+    is_some_so (is_remote_for caller g) (group_seen rows caller (Some i))
 
 abbrev pub rule_body_refusal : RowLists → Caller → RuleForm → Option GroupRow → Option Refusal
 rule_body_refusal rows caller form g = first_refusal (
     bad_part form
-    ∷ unless_all GroupKind (is_remote_seen rows caller g) (option_to_list (value_of form.remote_group_id))
+    ∷ unless_all GroupKind (is_remote_seen rows caller g)
+    (option_to_list (value_of form.remote_group_id))
     ∷ [])
 
 abbrev pub rule_exists : RuleRow → Refusal
 rule_exists r = Exists RuleKind r.id
 
-abbrev pub rule_creation_refusal : SettingsParts → RowLists → Caller → GroupRow → RuleRow → Option Refusal
+abbrev pub rule_creation_refusal : SettingsParts → RowLists → Caller → GroupRow → RuleRow
+    → Option Refusal
 rule_creation_refusal settings rows caller g r = first_refusal (
     owner_only caller g.project
     ∷ option_map rule_exists (equal_rule rows.rules r)
@@ -152,7 +167,8 @@ rule_creation_refusal settings rows caller g r = first_refusal (
     ∷ [])
 
 abbrev pub rule_added : Caller → RowLists → RuleRow → Outcome
-rule_added caller rows r = accepted rows (Add (Rule r) ∷ []) (λ after. NewRow (rule_shown after caller r []))
+rule_added caller rows r =
+    accepted rows (Add (Rule r) ∷ []) (λ after. NewRow (rule_shown after caller r []))
 
 abbrev pub rule_created : SettingsParts → State → Caller → RuleForm → Outcome
 rule_created settings state caller form =
@@ -160,7 +176,8 @@ rule_created settings state caller form =
     unless (rule_body_refusal state.rows caller form group)
     (needing (not_found GroupKind (text_of (value_of form.security_group_id))) group (λ g.
     unless (rule_creation_refusal settings state.rows caller g (new_rule form g no_id))
-    (needing CountersSpent (drawing_at state g.project 1) (λ drawing. rule_added caller drawing.rows (new_rule form g (drawn_id drawing 0))))))
+    (needing CountersSpent (drawing_at state g.project 1) (λ drawing.
+    rule_added caller drawing.rows (new_rule form g (drawn_id drawing 0))))))
 
 -- taking a rule out
 
@@ -173,4 +190,5 @@ rule_deletion_refusal state caller r = first_refusal (
 abbrev pub rule_deleted : State → Caller → IdText → Outcome
 rule_deleted state caller name =
     needing (not_found RuleKind name.text) (rule_seen state.rows caller name.id) (λ r.
-    unless (rule_deletion_refusal state caller r) (accepted state.rows (Drop RuleKind r.id ∷ []) (λ rows. NoRow)))
+    unless (rule_deletion_refusal state caller r)
+    (accepted state.rows (Drop RuleKind r.id ∷ []) (λ rows. NoRow)))

@@ -9,7 +9,8 @@ use Rattle.plan_groups.specs.GroupCalls.{egress_rule}
 use Rattle.std.specs.Prelude.{List, [], ◌∷◌}
 
 abbrev pub rule_edits : GroupRow → Ident → Ident → List Edit
-rule_edits g four six = Add (Rule (egress_rule g Ipv4 four)) ∷ Add (Rule (egress_rule g Ipv6 six)) ∷ []
+rule_edits g four six =
+    Add (Rule (egress_rule g Ipv4 four)) ∷ Add (Rule (egress_rule g Ipv6 six)) ∷ []
 
 abbrev pub group_edits : GroupRow → Drawing → List Edit
 group_edits g drawing = Add (Group g) ∷ rule_edits g (drawn_id drawing 1) (drawn_id drawing 2)

@@ -11,7 +11,8 @@ use Rattle.plan_groups.specs.GroupCalls.{rule_body_refusal, rule_creation_refusa
 use Rattle.plan_groups.specs.RuleParts.{new_rule}
 use Rattle.std.specs.Prelude.{None, Some, ◌≡◌}
 
-pub record IsOpen (settings : SettingsParts) (rows : RowLists) (caller : Caller) (form : RuleForm) (g : GroupRow) : Type 0 where
+pub record IsOpen (settings : SettingsParts) (rows : RowLists) (caller : Caller) (form : RuleForm)
+    (g : GroupRow) : Type 0 where
   pub seen : group_seen rows caller (value_of form.security_group_id) ≡ Some g
   pub body : rule_body_refusal rows caller form (Some g) ≡ None
   pub free : rule_creation_refusal settings rows caller g (new_rule form g no_id) ≡ None

@@ -68,6 +68,7 @@ bad_in parts = first_refusal (
     when (is_bad_max parts.protocol parts.low parts.high) (Invalid (codes "port_range_max"))
     ∷ when (is_bad_min parts.protocol parts.low parts.high) (Invalid (codes "port_range_min"))
     ∷ when (is_bad_protocol parts.protocol parts.ethertype) (Invalid (codes "protocol"))
-    ∷ when (is_some parts.remote_group && is_some parts.remote_prefix) (Invalid (codes "remote_group_id"))
+    ∷ when (is_some parts.remote_group && is_some parts.remote_prefix)
+    (Invalid (codes "remote_group_id"))
     ∷ when (is_bad_remote parts.remote_prefix parts.ethertype) (Invalid (codes "remote_ip_prefix"))
     ∷ [])

@@ -1,4 +1,5 @@
--- The parts of a security group rule and the rules on them (Networking API v2.0, security group rules).
+-- The parts of a security group rule and the rules on them (Networking API v2.0, security group
+-- rules).
 use Rattle.api_types.specs.Given.{value_of, value_or}
 use Rattle.api_types.specs.Refusing.{first_refusal, when}
 use Rattle.api_types.specs.Consistent.Groups.{is_ethertype, same_rule}
@@ -46,15 +47,18 @@ is_bad_type (Some kind) code = nat_lt 255 kind
 -- other protocols, or none, have neither
 abbrev pub is_bad_max : Option ℕ → Option ℕ → Option ℕ → Bool
 is_bad_max protocol low high =
-    cond (has_ports protocol) (is_bad_last_port low high) (cond (is_icmp protocol) (is_bad_code low high) (is_some high))
+    cond (has_ports protocol) (is_bad_last_port low high)
+    (cond (is_icmp protocol) (is_bad_code low high) (is_some high))
 
 abbrev pub is_bad_min : Option ℕ → Option ℕ → Option ℕ → Bool
 is_bad_min protocol low high =
-    cond (has_ports protocol) (is_bad_first_port low high) (cond (is_icmp protocol) (is_bad_type low high) (is_some low))
+    cond (has_ports protocol) (is_bad_first_port low high)
+    (cond (is_icmp protocol) (is_bad_type low high) (is_some low))
 
 -- ipv6-icmp is of version 6
 abbrev pub is_bad_protocol : Option ℕ → Ethertype → Bool
-is_bad_protocol protocol ethertype = is_some_so (λ n. n == 58) protocol && not (is_ethertype Ipv6 ethertype)
+is_bad_protocol protocol ethertype =
+    is_some_so (λ n. n == 58) protocol && not (is_ethertype Ipv6 ethertype)
 
 -- a prefix is of the version of the rule
 abbrev pub is_bad_remote : Option Prefix → Ethertype → Bool
@@ -64,11 +68,18 @@ is_bad_remote prefix Ipv6 = is_some_so (λ (p : Prefix). is_v4 p.base) prefix
 -- in byte order of the attributes
 abbrev pub bad_part : RuleForm → Option Refusal
 bad_part form = first_refusal (
-    when (is_bad_max (value_of form.protocol) (value_of form.port_range_min) (value_of form.port_range_max)) (Invalid (codes "port_range_max"))
-    ∷ when (is_bad_min (value_of form.protocol) (value_of form.port_range_min) (value_of form.port_range_max)) (Invalid (codes "port_range_min"))
-    ∷ when (is_bad_protocol (value_of form.protocol) (value_or Ipv4 form.ethertype)) (Invalid (codes "protocol"))
-    ∷ when (is_some (value_of form.remote_group_id) && is_some (value_of form.remote_ip_prefix)) (Invalid (codes "remote_group_id"))
-    ∷ when (is_bad_remote (value_of form.remote_ip_prefix) (value_or Ipv4 form.ethertype)) (Invalid (codes "remote_ip_prefix"))
+    when
+    (is_bad_max (value_of form.protocol) (value_of form.port_range_min)
+    (value_of form.port_range_max)) (Invalid (codes "port_range_max"))
+    ∷ when
+    (is_bad_min (value_of form.protocol) (value_of form.port_range_min)
+    (value_of form.port_range_max)) (Invalid (codes "port_range_min"))
+    ∷ when (is_bad_protocol (value_of form.protocol) (value_or Ipv4 form.ethertype))
+    (Invalid (codes "protocol"))
+    ∷ when (is_some (value_of form.remote_group_id) && is_some (value_of form.remote_ip_prefix))
+    (Invalid (codes "remote_group_id"))
+    ∷ when (is_bad_remote (value_of form.remote_ip_prefix) (value_or Ipv4 form.ethertype))
+    (Invalid (codes "remote_ip_prefix"))
     ∷ [])
 
 -- the row that a form makes, of a group and its project

@@ -38,14 +38,17 @@ use Rattle.net_addr.specs.Words.{Text}
 use Rattle.api_policy.specs.Reserved.{network_for_admin}
 
 abbrev pub network_shown : RowLists → Caller → NetworkRow → List Text → ShownRow
-network_shown rows caller n fields = shown_as NetworkKind caller.admin fields (network_members rows caller n)
+network_shown rows caller n fields =
+    shown_as NetworkKind caller.admin fields (network_members rows caller n)
 
 -- `shared` and `router:external` are policies with target `*`, of the network's project
 
 abbrev pub new_open_policy : NetworkRow → Action → Ident → PolicyRow
-new_open_policy n action i = record { id = i; project = n.project; object = n.id; action = action; target = everyone }
+new_open_policy n action i =
+    record { id = i; project = n.project; object = n.id; action = action; target = everyone }
 
--- whether such a policy is made: it is asked for, and there is none; and which one goes, where it is cleared
+-- whether such a policy is made: it is asked for, and there is none; and which one goes, where it
+-- is cleared
 abbrev pub is_opened : Given Bool → Option PolicyRow → Bool
 is_opened asked old = value_or false asked && is_none old
 
@@ -69,7 +72,8 @@ one_if false = 0
 -- `shared` comes first, then `router:external`
 abbrev pub openings : NetworkRow → Drawing → ℕ → Bool → Bool → List Edit
 openings n drawing first shared external =
-    opening n Shared (drawn_id drawing first) shared ++ opening n External (drawn_id drawing (first + one_if shared)) external
+    opening n Shared (drawn_id drawing first) shared
+    ++ opening n External (drawn_id drawing (first + one_if shared)) external
 
 -- making a network
 
@@ -85,10 +89,13 @@ new_network owner form i segment = record {
 
 abbrev pub network_added : Caller → Drawing → NetworkForm → NetworkRow → Outcome
 network_added caller drawing form n =
-    accepted drawing.rows (Add (Network n) ∷ openings n drawing 1 (value_or false form.shared) (value_or false form.router_external))
+    accepted drawing.rows
+    (Add (Network n)
+    ∷ openings n drawing 1 (value_or false form.shared) (value_or false form.router_external))
     (λ rows. NewRow (network_shown rows caller n []))
 
-abbrev pub creation_refusal : SettingsParts → RowLists → Caller → NetworkForm → Text → Option Refusal
+abbrev pub creation_refusal : SettingsParts → RowLists → Caller → NetworkForm → Text
+    → Option Refusal
 creation_refusal settings rows caller form owner = first_refusal (
     when (is_bad_physical form) (Invalid (codes "provider:physical_network"))
     ∷ when (is_bad_number form) (Invalid (codes "provider:segmentation_id"))
@@ -101,17 +108,20 @@ creation_refusal settings rows caller form owner = first_refusal (
 
 -- how many ids the policies of a new network take
 abbrev pub openings_count : NetworkForm → ℕ
-openings_count form = one_if (value_or false form.shared) + one_if (value_or false form.router_external)
+openings_count form =
+    one_if (value_or false form.shared) + one_if (value_or false form.router_external)
 
 abbrev pub network_made : SettingsParts → State → Caller → NetworkForm → Text → Outcome
 network_made settings state caller form owner =
     unless (creation_refusal settings state.rows caller form owner)
-    (needing NoNetwork (chosen_segment settings state.rows.networks (asked_segment form)) (λ segment.
+    (needing NoNetwork (chosen_segment settings state.rows.networks (asked_segment form))
+    (λ segment.
     needing CountersSpent (drawing_at state owner (1 + openings_count form)) (λ drawing.
     network_added caller drawing form (new_network owner form (drawn_id drawing 0) segment))))
 
 abbrev pub network_created : SettingsParts → State → Caller → NetworkForm → Outcome
-network_created settings state caller form = network_made settings state caller form (owner_of caller form.project_id form.tenant_id)
+network_created settings state caller form =
+    network_made settings state caller form (owner_of caller form.project_id form.tenant_id)
 
 -- changing a network
 
@@ -124,19 +134,24 @@ changed_network form n = record n {
 
 -- the policies without those that the form clears
 abbrev pub is_kept : NetworkForm → Ident → PolicyRow → Bool
-is_kept form i l = not ((is_cleared form.shared && permits_all i Shared l) || (is_cleared form.router_external && permits_all i External l))
+is_kept form i l =
+    not ((is_cleared form.shared && permits_all i Shared l)
+    || (is_cleared form.router_external && permits_all i External l))
 
 abbrev pub update_refusal : State → Caller → NetworkForm → NetworkRow → Option Refusal
 update_refusal state caller form n = first_refusal (
     admin_only caller (network_for_admin caller form)
     ∷ owner_only caller n.project
-    ∷ (if is_cleared form.shared || is_cleared form.router_external then open_in_use state.rows caller (filter (is_kept form n.id) state.rows.policies) n else None)
+    ∷ (if is_cleared form.shared || is_cleared form.router_external
+    then open_in_use state.rows caller (filter (is_kept form n.id) state.rows.policies) n
+    else None)
     ∷ [])
 
 -- what a form does to the policy of one action
 abbrev pub reopening : NetworkRow → List PolicyRow → Action → Given Bool → Ident → List Edit
 reopening n policies action asked i =
-    opening n action i (is_opened asked (open_policy policies n.id action)) ++ closing (open_policy policies n.id action) (is_cleared asked)
+    opening n action i (is_opened asked (open_policy policies n.id action))
+    ++ closing (open_policy policies n.id action) (is_cleared asked)
 
 abbrev pub opens : RowLists → NetworkRow → Action → Given Bool → ℕ
 opens rows n action asked = one_if (is_opened asked (open_policy rows.policies n.id action))
@@ -145,17 +160,23 @@ abbrev pub network_edits : RowLists → NetworkForm → NetworkRow → Drawing �
 network_edits rows form n drawing =
     Put (Network (changed_network form n))
     ∷ reopening n rows.policies Shared form.shared (drawn_id drawing 0)
-    ++ reopening n rows.policies External form.router_external (drawn_id drawing (opens rows n Shared form.shared))
+    ++ reopening n rows.policies External form.router_external
+    (drawn_id drawing (opens rows n Shared form.shared))
 
 abbrev pub network_changed : State → Caller → NetworkForm → NetworkRow → Outcome
 network_changed state caller form n =
     unless (update_refusal state caller form n)
-    (needing CountersSpent (drawing_at state n.project (opens state.rows n Shared form.shared + opens state.rows n External form.router_external)) (λ drawing.
-    accepted drawing.rows (network_edits state.rows form n drawing) (λ rows. OneRow (network_shown rows caller (changed_network form n) []))))
+    (needing CountersSpent
+    (drawing_at state n.project
+    (opens state.rows n Shared form.shared + opens state.rows n External form.router_external))
+    (λ drawing.
+    accepted drawing.rows (network_edits state.rows form n drawing) (λ rows.
+    OneRow (network_shown rows caller (changed_network form n) []))))
 
 abbrev pub network_updated : State → Caller → IdText → NetworkForm → Outcome
 network_updated state caller name form =
-    needing (not_found NetworkKind name.text) (network_seen state.rows caller name.id) (network_changed state caller form)
+    needing (not_found NetworkKind name.text) (network_seen state.rows caller name.id)
+    (network_changed state caller form)
 
 -- taking a network out, with its subnets, its DHCP port and its policies
 
@@ -170,10 +191,12 @@ abbrev pub network_gone : RowLists → Ident → List Edit
 network_gone rows i =
     dropped SubnetKind (λ s. s.id) (subnets_on rows.subnets i)
     ++ dropped PortKind (λ p. p.id) (ports_on rows.ports i)
-    ++ dropped PolicyKind (λ l. l.id) (filter (λ (l : PolicyRow). ident_eq i l.object) rows.policies)
+    ++ dropped PolicyKind (λ l. l.id)
+    (filter (λ (l : PolicyRow). ident_eq i l.object) rows.policies)
     ++ Drop NetworkKind i ∷ []
 
 abbrev pub network_deleted : State → Caller → IdText → Outcome
 network_deleted state caller name =
     needing (not_found NetworkKind name.text) (network_seen state.rows caller name.id) (λ n.
-    unless (deletion_refusal state caller n) (accepted state.rows (network_gone state.rows n.id) (λ rows. NoRow)))
+    unless (deletion_refusal state caller n)
+    (accepted state.rows (network_gone state.rows n.id) (λ rows. NoRow)))

@@ -41,6 +41,8 @@ abbrev pub rows_refusal : SettingsParts → RowLists → NetworkForm → Text �
 rows_refusal settings rows form owner = first_refusal (rows_refusals settings rows form owner)
 
 -- and then there has to be a segment
-abbrev pub segment_refusal : SettingsParts → RowLists → Caller → NetworkForm → Text → Option Refusal
+abbrev pub segment_refusal : SettingsParts → RowLists → Caller → NetworkForm → Text
+    → Option Refusal
 segment_refusal settings rows caller form owner =
-    option_or (creation_refusal settings rows caller form owner) (when (is_none (chosen_segment settings rows.networks (asked_segment form))) NoNetwork)
+    option_or (creation_refusal settings rows caller form owner)
+    (when (is_none (chosen_segment settings rows.networks (asked_segment form))) NoNetwork)

@@ -9,7 +9,9 @@ use Rattle.net_settings.specs.Settings.{SettingsParts}
 use Rattle.plan_policies.specs.PolicyCalls.{creation_refusal}
 use Rattle.std.specs.Prelude.{None, Some, false, ◌≡◌}
 
-pub record IsOpen (settings : SettingsParts) (rows : RowLists) (caller : Caller) (form : PolicyForm) (n : NetworkRow) : Type 0 where
+pub record IsOpen (settings : SettingsParts) (rows : RowLists) (caller : Caller)
+    (form : PolicyForm) (n : NetworkRow) : Type 0 where
   pub alike : are_unlike form.project_id form.tenant_id ≡ false
   pub seen : network_seen rows caller (value_of form.object_id) ≡ Some n
-  pub free : creation_refusal settings rows caller form (owner_of caller form.project_id form.tenant_id) n ≡ None
+  pub free : creation_refusal settings rows caller form
+      (owner_of caller form.project_id form.tenant_id) n ≡ None

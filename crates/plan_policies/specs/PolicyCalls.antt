@@ -53,7 +53,8 @@ new_policy form owner network i = record {
   target = value_or [] form.target_tenant;
 }
 
-abbrev pub creation_refusal : SettingsParts → RowLists → Caller → PolicyForm → Text → NetworkRow → Option Refusal
+abbrev pub creation_refusal : SettingsParts → RowLists → Caller → PolicyForm → Text → NetworkRow
+    → Option Refusal
 creation_refusal settings rows caller form owner n = first_refusal (
     admin_only caller (policy_for_admin caller form)
     ∷ network_owner rows caller true n.id
@@ -62,11 +63,13 @@ creation_refusal settings rows caller form owner n = first_refusal (
     ∷ [])
 
 abbrev pub policy_added : Caller → RowLists → PolicyRow → Outcome
-policy_added caller rows l = accepted rows (Add (Policy l) ∷ []) (λ after. NewRow (policy_shown after caller l []))
+policy_added caller rows l =
+    accepted rows (Add (Policy l) ∷ []) (λ after. NewRow (policy_shown after caller l []))
 
 abbrev pub policy_made : SettingsParts → State → Caller → PolicyForm → Text → Outcome
 policy_made settings state caller form owner =
-    needing (not_found NetworkKind (text_of (value_of form.object_id))) (network_seen state.rows caller (value_of form.object_id)) (λ n.
+    needing (not_found NetworkKind (text_of (value_of form.object_id)))
+    (network_seen state.rows caller (value_of form.object_id)) (λ n.
     unless (creation_refusal settings state.rows caller form owner n)
     (needing CountersSpent (drawing_at state owner 1) (λ drawing.
     policy_added caller drawing.rows (new_policy form owner n.id (drawn_id drawing 0)))))
@@ -86,17 +89,20 @@ update_refusal state caller form old new = first_refusal (
     admin_only caller (policy_for_admin caller form)
     ∷ owner_only caller old.project
     ∷ policy_in_use state.rows caller (put_in (λ q. q.id) new state.rows.policies) old
-    ∷ option_map policy_exists (equal_policy (gone_from (λ q. q.id) old.id state.rows.policies) new)
+    ∷ option_map policy_exists
+    (equal_policy (gone_from (λ q. q.id) old.id state.rows.policies) new)
     ∷ when (is_last state) CountersSpent
     ∷ [])
 
 abbrev pub policy_replaced : Caller → RowLists → PolicyRow → Outcome
-policy_replaced caller rows l = accepted rows (Put (Policy l) ∷ []) (λ after. OneRow (policy_shown after caller l []))
+policy_replaced caller rows l =
+    accepted rows (Put (Policy l) ∷ []) (λ after. OneRow (policy_shown after caller l []))
 
 abbrev pub policy_updated : State → Caller → IdText → PolicyForm → Outcome
 policy_updated state caller name form =
     needing (not_found PolicyKind name.text) (policy_seen state.rows caller name.id) (λ l.
-    unless (update_refusal state caller form l (changed_policy form l)) (policy_replaced caller state.rows (changed_policy form l)))
+    unless (update_refusal state caller form l (changed_policy form l))
+    (policy_replaced caller state.rows (changed_policy form l)))
 
 -- taking a policy out
 
@@ -110,4 +116,5 @@ deletion_refusal state caller l = first_refusal (
 abbrev pub policy_deleted : State → Caller → IdText → Outcome
 policy_deleted state caller name =
     needing (not_found PolicyKind name.text) (policy_seen state.rows caller name.id) (λ l.
-    unless (deletion_refusal state caller l) (accepted state.rows (Drop PolicyKind l.id ∷ []) (λ rows. NoRow)))
+    unless (deletion_refusal state caller l)
+    (accepted state.rows (Drop PolicyKind l.id ∷ []) (λ rows. NoRow)))

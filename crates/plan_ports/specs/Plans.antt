@@ -52,9 +52,12 @@ standing_refusal rows caller form n owner = first_refusal (
 
 -- a value of it that is held, by what its addresses are chosen
 abbrev pub first_taken : RowLists → PortForm → Ident → Supply → Option Refusal
-first_taken rows form network s = values_taken (is_in s.held) (is_mac_held rows.ports network) network (first_known s.subnets s.mac form.fixed_ips) form
+first_taken rows form network s =
+    values_taken (is_in s.held) (is_mac_held rows.ports network) network
+    (first_known s.subnets s.mac form.fixed_ips) form
 
-abbrev pub first_refused : SettingsParts → RowLists → Caller → PortForm → NetworkRow → Text → Supply → Option Refusal
+abbrev pub first_refused : SettingsParts → RowLists → Caller → PortForm → NetworkRow → Text
+    → Supply → Option Refusal
 first_refused settings rows caller form n owner s = first_refusal (
     standing_refusal rows caller form n owner
     ∷ first_taken rows form n.id s
@@ -65,15 +68,19 @@ abbrev pub first_fixed : PortForm → Supply → Option (List Fixed)
 first_fixed form s = first_addresses (λ x. not (is_in s.held x)) s.subnets s.mac form.fixed_ips
 
 -- where it goes on once its MAC address and its addresses are chosen
-abbrev pub ids_drawn : SettingsParts → State → Caller → PortForm → NetworkRow → Text → MacAddress → List Fixed → Outcome
+abbrev pub ids_drawn : SettingsParts → State → Caller → PortForm → NetworkRow → Text → MacAddress
+    → List Fixed → Outcome
 ids_drawn settings state caller form n owner mac fixed =
-    needing CountersSpent (drawing_at state owner 1) (λ d. port_added caller d.rows (new_port settings d.rows caller form n owner (drawn_id d 0) mac fixed))
+    needing CountersSpent (drawing_at state owner 1) (λ d.
+    port_added caller d.rows
+    (new_port settings d.rows caller form n owner (drawn_id d 0) mac fixed))
 
 -- changing a port
 
 -- the rules of its attributes, and the rows that it names
 abbrev pub next_bad : RowLists → Caller → PortForm → PortRow → Supply → Option Refusal
-next_bad rows caller form p s = bad_fixed rows caller s.subnets s.mac (old_renewed s.subnets p s.mac) (items_of form)
+next_bad rows caller form p s =
+    bad_fixed rows caller s.subnets s.mac (old_renewed s.subnets p s.mac) (items_of form)
 
 abbrev pub change_refusal : RowLists → Caller → PortForm → PortRow → Supply → Option Refusal
 change_refusal rows caller form p s = first_refusal (
@@ -94,7 +101,9 @@ holder_refusal rows caller form p = first_refusal (
 
 -- a value of it that another port holds
 abbrev pub next_taken : RowLists → PortForm → PortRow → Supply → Option Refusal
-next_taken rows form p s = values_taken (is_in s.held) (is_mac_of_other rows.ports p) p.network (next_known s.subnets p s.mac form.fixed_ips) form
+next_taken rows form p s =
+    values_taken (is_in s.held) (is_mac_of_other rows.ports p) p.network
+    (next_known s.subnets p s.mac form.fixed_ips) form
 
 abbrev pub next_refused : RowLists → Caller → PortForm → PortRow → Supply → Option Refusal
 next_refused rows caller form p s = first_refusal (
@@ -106,8 +115,10 @@ next_refused rows caller form p s = first_refusal (
 abbrev pub next_fixed : PortForm → PortRow → Supply → Option (List Fixed)
 next_fixed form p s = next_addresses (λ x. not (is_in s.held x)) s.subnets p s.mac form.fixed_ips
 
--- by what addresses are chosen: these subnets, in which addresses of MAC addresses fit, the addresses that others hold, and the MAC address
-pub record IsSupply (subnets : List SubnetRow) (is_held : Addr → Bool) (mac : MacAddress) (s : Supply) : Type 0 where
+-- by what addresses are chosen: these subnets, in which addresses of MAC addresses fit, the
+-- addresses that others hold, and the MAC address
+pub record IsSupply (subnets : List SubnetRow) (is_held : Addr → Bool) (mac : MacAddress)
+    (s : Supply) : Type 0 where
   pub on_network : s.subnets ≡ subnets
   pub holds : (x : Addr) → is_in s.held x ≡ is_held x
   pub has : s.mac ≡ mac
@@ -115,8 +126,11 @@ pub record IsSupply (subnets : List SubnetRow) (is_held : Addr → Bool) (mac : 
 
 -- of a new port with this MAC address
 abbrev pub IsFirstSupply : RowLists → Ident → MacAddress → Supply → Type 0
-IsFirstSupply rows network mac s = IsSupply (subnets_on rows.subnets network) (is_address_held rows.ports network) mac s
+IsFirstSupply rows network mac s =
+    IsSupply (subnets_on rows.subnets network) (is_address_held rows.ports network) mac s
 
 -- of a port that is changed
 abbrev pub IsNextSupply : RowLists → PortForm → PortRow → Supply → Type 0
-IsNextSupply rows form p s = IsSupply (subnets_on rows.subnets p.network) (is_held_by_other rows.ports p) (mac_after form p) s
+IsNextSupply rows form p s =
+    IsSupply (subnets_on rows.subnets p.network) (is_held_by_other rows.ports p) (mac_after form p)
+    s

@@ -1,4 +1,5 @@
--- What calls on ports come to (Networking API v2.0, ports; extended attributes of bindings and port security).
+-- What calls on ports come to (Networking API v2.0, ports; extended attributes of bindings and
+-- port security).
 use Rattle.api_policy.specs.Marked.{is_marked}
 use Rattle.call_parts.specs.BodyNames.{text_of, unless_all}
 use Rattle.call_parts.specs.Edits.{Add, Drop, Edit, Put, accepted}
@@ -61,14 +62,16 @@ items_of form = value_or [] form.fixed_ips
 
 -- the group is there, is seen, and is of the port's project
 abbrev pub is_group_for : RowLists → Caller → Text → Ident → Bool
-is_group_for rows caller project i = is_some_so (λ (g : GroupRow). bytes_eq g.project project) (group_seen rows caller (Some i))
+is_group_for rows caller project i =
+    is_some_so (λ (g : GroupRow). bytes_eq g.project project) (group_seen rows caller (Some i))
 
 -- a named MAC address is held, or before it an address that is known, by which are held
 abbrev pub mac_taken : (MacAddress → Bool) → Ident → Option MacAddress → Option Refusal
 mac_taken held network None = None
 mac_taken held network (Some mac) = when (held mac) (Taken (MacValue mac) network)
 
-abbrev pub values_taken : (Addr → Bool) → (MacAddress → Bool) → Ident → List Addr → PortForm → Option Refusal
+abbrev pub values_taken : (Addr → Bool) → (MacAddress → Bool) → Ident → List Addr → PortForm
+    → Option Refusal
 values_taken held mac_held network known form = first_refusal (
     address_taken held network known
     ∷ mac_taken mac_held network (value_of form.mac_address)
@@ -90,7 +93,8 @@ groups_at_first groups project secured (Is named) = named
 groups_at_first groups project false _ = []
 groups_at_first groups project true _ = ids_of (find (is_default_of project) groups)
 
-abbrev pub new_port : SettingsParts → RowLists → Caller → PortForm → NetworkRow → Text → Ident → MacAddress → List Fixed → PortRow
+abbrev pub new_port : SettingsParts → RowLists → Caller → PortForm → NetworkRow → Text → Ident
+    → MacAddress → List Fixed → PortRow
 new_port settings rows caller form n owner i mac fixed = record {
   id = i;
   project = owner;
@@ -102,7 +106,8 @@ new_port settings rows caller form n owner i mac fixed = record {
   fixed = fixed;
   pairs = map (pair_of mac) (value_or [] form.allowed_address_pairs);
   secured = value_or true form.port_security_enabled;
-  groups = groups_at_first rows.groups owner (value_or true form.port_security_enabled) form.security_groups;
+  groups = groups_at_first rows.groups owner (value_or true form.port_security_enabled)
+      form.security_groups;
   device = value_or [] form.device_id;
   owner = value_or [] form.device_owner;
   host = value_or [] form.binding_host_id;
@@ -116,33 +121,42 @@ mac_at_first ports form network = expected_mac (mac_for ports network form.mac_a
 
 -- the rule of `fixed_ips` of a new port
 abbrev pub bad_first_fixed : RowLists → Caller → PortForm → NetworkRow → Option Refusal
-bad_first_fixed rows caller form n = bad_fixed rows caller (subnets_on rows.subnets n.id) (mac_at_first rows.ports form n.id) [] (items_of form)
+bad_first_fixed rows caller form n =
+    bad_fixed rows caller (subnets_on rows.subnets n.id) (mac_at_first rows.ports form n.id) []
+    (items_of form)
 
 -- what is refused of a body before its network is looked for
 abbrev pub body_refusal : RowLists → Caller → PortForm → Option Refusal
 body_refusal rows caller form = first_refusal (
     when (are_unlike form.project_id form.tenant_id) (Invalid (codes "tenant_id"))
-    ∷ option_and_then (bad_first_fixed rows caller form) (network_seen rows caller (value_of form.network_id))
-    ∷ bad_bare (value_or true form.port_security_enabled) (value_or [] form.security_groups) (value_or [] form.allowed_address_pairs)
+    ∷ option_and_then (bad_first_fixed rows caller form)
+    (network_seen rows caller (value_of form.network_id))
+    ∷ bad_bare (value_or true form.port_security_enabled) (value_or [] form.security_groups)
+    (value_or [] form.allowed_address_pairs)
     ∷ unless_all SubnetKind (is_subnet_seen rows caller) (named_subnets (items_of form))
     ∷ [])
 
-abbrev pub creation_refusal : SettingsParts → RowLists → Caller → PortForm → NetworkRow → Text → Option Refusal
+abbrev pub creation_refusal : SettingsParts → RowLists → Caller → PortForm → NetworkRow → Text
+    → Option Refusal
 creation_refusal settings rows caller form n owner = first_refusal (
     unless_all GroupKind (is_group_for rows caller owner) (value_or [] form.security_groups)
     ∷ admin_only caller (port_for_admin caller form)
     ∷ network_owner rows caller (port_for_owner form) n.id
     ∷ network_access rows caller n.id
-    ∷ values_taken (is_address_held rows.ports n.id) (is_mac_held rows.ports n.id) n.id (first_known (subnets_on rows.subnets n.id) (mac_at_first rows.ports form n.id) form.fixed_ips) form
+    ∷ values_taken (is_address_held rows.ports n.id) (is_mac_held rows.ports n.id) n.id
+    (first_known (subnets_on rows.subnets n.id) (mac_at_first rows.ports form n.id) form.fixed_ips)
+    form
     ∷ over_quota settings rows owner PortKind
     ∷ [])
 
 abbrev pub port_added : Caller → RowLists → PortRow → Outcome
-port_added caller rows p = accepted rows (Add (Port p) ∷ []) (λ after. NewRow (port_shown after caller p []))
+port_added caller rows p =
+    accepted rows (Add (Port p) ∷ []) (λ after. NewRow (port_shown after caller p []))
 
 abbrev pub addresses_at_first : RowLists → PortForm → Ident → Option (List Fixed)
 addresses_at_first rows form network =
-    first_addresses (λ x. not (is_address_held rows.ports network x)) (subnets_on rows.subnets network) (mac_at_first rows.ports form network) form.fixed_ips
+    first_addresses (λ x. not (is_address_held rows.ports network x))
+    (subnets_on rows.subnets network) (mac_at_first rows.ports form network) form.fixed_ips
 
 abbrev pub port_made : SettingsParts → State → Caller → PortForm → NetworkRow → Text → Outcome
 port_made settings state caller form n owner =
@@ -150,12 +164,14 @@ port_made settings state caller form n owner =
     (needing (PoolsSpent n.id) (addresses_at_first state.rows form n.id) (λ fixed.
     needing CountersSpent (mac_for state.rows.ports n.id form.mac_address) (λ mac.
     needing CountersSpent (drawing_at state owner 1) (λ drawing.
-    port_added caller drawing.rows (new_port settings drawing.rows caller form n owner (drawn_id drawing 0) mac fixed)))))
+    port_added caller drawing.rows
+    (new_port settings drawing.rows caller form n owner (drawn_id drawing 0) mac fixed)))))
 
 abbrev pub port_created : SettingsParts → State → Caller → PortForm → Outcome
 port_created settings state caller form =
     unless (body_refusal state.rows caller form)
-    (needing (not_found NetworkKind (text_of (value_of form.network_id))) (network_seen state.rows caller (value_of form.network_id)) (λ n.
+    (needing (not_found NetworkKind (text_of (value_of form.network_id)))
+    (network_seen state.rows caller (value_of form.network_id)) (λ n.
     port_made settings state caller form n (owner_of caller form.project_id form.tenant_id)))
 
 -- changing a port
@@ -163,8 +179,10 @@ port_created settings state caller form =
 -- a service's port is changed in name and description alone
 abbrev pub changes_service : PortForm → Bool
 changes_service form =
-    is_given form.admin_state_up || is_given form.mac_address || is_given form.fixed_ips || is_given form.allowed_address_pairs
-    || is_given form.port_security_enabled || is_given form.security_groups || is_given form.device_id || is_given form.device_owner
+    is_given form.admin_state_up || is_given form.mac_address || is_given form.fixed_ips
+    || is_given form.allowed_address_pairs
+    || is_given form.port_security_enabled || is_given form.security_groups
+    || is_given form.device_id || is_given form.device_owner
     || is_given form.binding_host_id || is_given form.binding_vnic_type
 
 -- the MAC address that a changed port will have
@@ -200,14 +218,20 @@ changed_port settings form n p fixed = record p {
 -- `security_groups` and the pairs as they would stand; only whether there are any matters
 abbrev pub bad_bare_after : PortForm → PortRow → Option Refusal
 bad_bare_after form p =
-    bad_bare (value_or p.secured form.port_security_enabled) (value_or p.groups form.security_groups) (pairs_after p.mac form.allowed_address_pairs p.pairs)
+    bad_bare (value_or p.secured form.port_security_enabled)
+    (value_or p.groups form.security_groups) (pairs_after p.mac form.allowed_address_pairs p.pairs)
 
 -- its addresses
 abbrev pub addresses_after : RowLists → PortForm → PortRow → Option (List Fixed)
-addresses_after rows form p = next_addresses (λ x. not (is_held_by_other rows.ports p x)) (subnets_on rows.subnets p.network) p (mac_after form p) form.fixed_ips
+addresses_after rows form p =
+    next_addresses (λ x. not (is_held_by_other rows.ports p x)) (subnets_on rows.subnets p.network)
+    p (mac_after form p) form.fixed_ips
 
-abbrev pub bad_next_fixed : RowLists → Caller → PortForm → PortRow → List SubnetRow → Option Refusal
-bad_next_fixed rows caller form p subnets = bad_fixed rows caller subnets (mac_after form p) (old_renewed subnets p (mac_after form p)) (items_of form)
+abbrev pub bad_next_fixed : RowLists → Caller → PortForm → PortRow → List SubnetRow
+    → Option Refusal
+bad_next_fixed rows caller form p subnets =
+    bad_fixed rows caller subnets (mac_after form p) (old_renewed subnets p (mac_after form p))
+    (items_of form)
 
 abbrev pub update_refusal : RowLists → Caller → PortForm → PortRow → Option Refusal
 update_refusal rows caller form p = first_refusal (
@@ -219,7 +243,8 @@ update_refusal rows caller form p = first_refusal (
     ∷ owner_only caller p.project
     ∷ network_owner rows caller (port_for_owner form) p.network
     ∷ service_in_use rows caller (changes_service form) p
-    ∷ values_taken (is_held_by_other rows.ports p) (is_mac_of_other rows.ports p) p.network (next_known (subnets_on rows.subnets p.network) p (mac_after form p) form.fixed_ips) form
+    ∷ values_taken (is_held_by_other rows.ports p) (is_mac_of_other rows.ports p) p.network
+    (next_known (subnets_on rows.subnets p.network) p (mac_after form p) form.fixed_ips) form
     ∷ [])
 
 -- floating addresses of addresses that it holds no more are disassociated
@@ -227,9 +252,11 @@ abbrev pub port_edits : List FloatingRow → PortRow → List Edit
 port_edits floatings p = Put (Port p) ∷ disassociations floatings p.id p.fixed
 
 abbrev pub port_replaced : Caller → RowLists → PortRow → Outcome
-port_replaced caller rows p = accepted rows (port_edits rows.floatings p) (λ after. OneRow (port_shown after caller p []))
+port_replaced caller rows p =
+    accepted rows (port_edits rows.floatings p) (λ after. OneRow (port_shown after caller p []))
 
-abbrev pub port_changed : SettingsParts → State → Caller → PortForm → NetworkRow → PortRow → Outcome
+abbrev pub port_changed : SettingsParts → State → Caller → PortForm → NetworkRow → PortRow
+    → Outcome
 port_changed settings state caller form n p =
     unless (update_refusal state.rows caller form p)
     (needing (PoolsSpent p.network) (addresses_after state.rows form p) (λ fixed.
@@ -257,4 +284,5 @@ port_gone floatings i = disassociations floatings i [] ++ Drop PortKind i ∷ []
 abbrev pub port_deleted : State → Caller → IdText → Outcome
 port_deleted state caller name =
     needing (not_found PortKind name.text) (port_seen state.rows caller name.id) (λ p.
-    unless (deletion_refusal state caller p) (accepted state.rows (port_gone state.rows.floatings p.id) (λ rows. NoRow)))
+    unless (deletion_refusal state caller p)
+    (accepted state.rows (port_gone state.rows.floatings p.id) (λ rows. NoRow)))

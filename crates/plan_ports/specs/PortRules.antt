@@ -1,5 +1,5 @@
--- The rules of a port's attributes that speak of rows, in the order in which they are tried. Each is looked at where the rows of which it
--- speaks are there and seen, and names its attribute.
+-- The rules of a port's attributes that speak of rows, in the order in which they are tried. Each
+-- is looked at where the rows of which it speaks are there and seen, and names its attribute.
 use Rattle.api_ipam.specs.FixedChoice.{are_placed, named_subnets}
 use Rattle.api_policy.specs.Seen.{subnet_seen}
 use Rattle.api_types.specs.Refusing.{first_refusal, when}
@@ -20,9 +20,12 @@ use Rattle.net_addr.specs.Words.{MacAddress}
 abbrev pub is_subnet_seen : RowLists → Caller → Ident → Bool
 is_subnet_seen rows caller i = is_some (subnet_seen rows caller (Some i))
 
-abbrev pub bad_fixed : RowLists → Caller → List SubnetRow → MacAddress → List Fixed → List FixedAsked → Option Refusal
+abbrev pub bad_fixed : RowLists → Caller → List SubnetRow → MacAddress → List Fixed
+    → List FixedAsked → Option Refusal
 bad_fixed rows caller subnets mac old asked =
-    when (list_all (is_subnet_seen rows caller) (named_subnets asked) && not (are_placed subnets mac old asked)) (Invalid (codes "fixed_ips"))
+    when
+    (list_all (is_subnet_seen rows caller) (named_subnets asked)
+    && not (are_placed subnets mac old asked)) (Invalid (codes "fixed_ips"))
 
 -- a port without port security has no groups and no pairs
 abbrev pub bad_bare : {G P : Type 0} → Bool → List G → List P → Option Refusal

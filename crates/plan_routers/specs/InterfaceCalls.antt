@@ -1,4 +1,5 @@
--- What adding and removing interfaces of routers comes to (Networking API v2.0, add and remove interface).
+-- What adding and removing interfaces of routers comes to (Networking API v2.0, add and remove
+-- interface).
 use Rattle.call_parts.specs.BodyNames.{no_id}
 use Rattle.call_parts.specs.Edits.{Add, Drop, Edit, Put, accepted}
 use Rattle.api_types.specs.HeldAddresses.{fixed_at, is_address_held}
@@ -69,20 +70,26 @@ subnet_refusal rows caller r s x = first_refusal (
     ∷ when (is_address_held rows.ports s.network x) (Taken (AddressValue x) s.network)
     ∷ [])
 
-abbrev pub interface_port : SettingsParts → RowLists → Caller → RouterRow → NetworkRow → Ident → MacAddress → Fixed → PortRow
+abbrev pub interface_port : SettingsParts → RowLists → Caller → RouterRow → NetworkRow → Ident
+    → MacAddress → Fixed → PortRow
 interface_port settings rows caller r n i mac f =
-    let p : PortRow = service_port settings n i r.project mac (f ∷ []) interface_owner (ident_text r.id) (host_or_none r.host) in
+    let p : PortRow = service_port settings n i r.project mac (f ∷ []) interface_owner
+    (ident_text r.id) (host_or_none r.host) in
     record p { by_admin = is_marked rows caller r.project n }
 
 abbrev pub interface_made : RowLists → RouterRow → PortRow → Ident → Outcome
-interface_made rows r p subnet = accepted rows (Add (Port p) ∷ []) (λ after. InterfaceRow (interface_shown r p subnet))
+interface_made rows r p subnet =
+    accepted rows (Add (Port p) ∷ []) (λ after. InterfaceRow (interface_shown r p subnet))
 
-abbrev pub added_by_subnet : SettingsParts → State → Caller → RouterRow → SubnetRow → NetworkRow → Addr → Outcome
+abbrev pub added_by_subnet : SettingsParts → State → Caller → RouterRow → SubnetRow → NetworkRow
+    → Addr → Outcome
 added_by_subnet settings state caller r s n x =
     unless (subnet_refusal state.rows caller r s x)
     (needing CountersSpent (free_mac state.rows.ports n.id) (λ mac.
     needing CountersSpent (drawing_at state r.project 1) (λ drawing.
-    interface_made drawing.rows r (interface_port settings drawing.rows caller r n (drawn_id drawing 0) mac (fixed_at s.id x)) s.id)))
+    interface_made drawing.rows r
+    (interface_port settings drawing.rows caller r n (drawn_id drawing 0) mac (fixed_at s.id x))
+    s.id)))
 
 -- an interface by port: the port becomes the router's
 
@@ -111,25 +118,30 @@ abbrev pub first_subnet : List Fixed → Ident
 first_subnet [] = no_id
 first_subnet (f ∷ fixed) = f.subnet
 
-abbrev pub added_by_port : SettingsParts → State → Caller → RouterRow → PortRow → NetworkRow → Outcome
+abbrev pub added_by_port : SettingsParts → State → Caller → RouterRow → PortRow → NetworkRow
+    → Outcome
 added_by_port settings state caller r p n =
     unless (port_refusal state caller r p)
-    (accepted state.rows (Put (Port (taken_over settings r n p)) ∷ []) (λ after. InterfaceRow (interface_shown r p (first_subnet p.fixed))))
+    (accepted state.rows (Put (Port (taken_over settings r n p)) ∷ []) (λ after.
+    InterfaceRow (interface_shown r p (first_subnet p.fixed))))
 
 abbrev pub interface_by : SettingsParts → State → Caller → RouterRow → InterfaceBy → Outcome
 interface_by settings state caller r (BySubnet i) =
     needing (not_found SubnetKind (ident_text i)) (subnet_seen state.rows caller (Some i)) (λ s.
     needing (Invalid (codes "subnet_id")) s.gateway (λ x.
-    needing (not_found SubnetKind (ident_text i)) (row_of (λ n. n.id) s.network state.rows.networks) (λ n.
+    needing (not_found SubnetKind (ident_text i))
+    (row_of (λ n. n.id) s.network state.rows.networks) (λ n.
     added_by_subnet settings state caller r s n x)))
 interface_by settings state caller r (ByPort i) =
     needing (not_found PortKind (ident_text i)) (port_seen state.rows caller (Some i)) (λ p.
-    needing (not_found PortKind (ident_text i)) (row_of (λ n. n.id) p.network state.rows.networks) (λ n.
+    needing (not_found PortKind (ident_text i)) (row_of (λ n. n.id) p.network state.rows.networks)
+    (λ n.
     added_by_port settings state caller r p n))
 
 abbrev pub interface_added : SettingsParts → State → Caller → IdText → InterfaceBy → Outcome
 interface_added settings state caller name by =
-    needing (not_found RouterKind name.text) (router_seen state.rows caller name.id) (λ r. interface_by settings state caller r by)
+    needing (not_found RouterKind name.text) (router_seen state.rows caller name.id) (λ r.
+    interface_by settings state caller r by)
 
 -- removing an interface, whose port goes
 
@@ -152,7 +164,8 @@ removal_refusal state caller r p owner = first_refusal (
 abbrev pub port_removed : State → Caller → RouterRow → Option Refusal → PortRow → Outcome
 port_removed state caller r owner p =
     unless (removal_refusal state caller r p owner)
-    (accepted state.rows (interface_gone state.rows.floatings p) (λ after. InterfaceRow (interface_shown r p (first_subnet p.fixed))))
+    (accepted state.rows (interface_gone state.rows.floatings p) (λ after.
+    InterfaceRow (interface_shown r p (first_subnet p.fixed))))
 
 abbrev pub removed_by : State → Caller → RouterRow → InterfaceBy → Outcome
 removed_by state caller r (BySubnet i) =
@@ -166,4 +179,5 @@ removed_by state caller r (ByPort i) =
 
 abbrev pub interface_removed : State → Caller → IdText → InterfaceBy → Outcome
 interface_removed state caller name by =
-    needing (not_found RouterKind name.text) (router_seen state.rows caller name.id) (λ r. removed_by state caller r by)
+    needing (not_found RouterKind name.text) (router_seen state.rows caller name.id) (λ r.
+    removed_by state caller r by)

@@ -33,7 +33,8 @@ first_body_refusal rows caller form owner = first_refusal (
     ∷ [])
 
 -- what the policy, the addresses that are held and the quota forbid of it
-abbrev pub first_standing_refusal : SettingsParts → RowLists → Caller → RouterForm → Text → Option Refusal
+abbrev pub first_standing_refusal : SettingsParts → RowLists → Caller → RouterForm → Text
+    → Option Refusal
 first_standing_refusal settings rows caller form owner = first_refusal (
     admin_only caller (router_for_admin caller form)
     ∷ option_and_then (outer_taken rows) (gateway_network rows caller form)
@@ -50,18 +51,21 @@ outer_refusal rows n = first_refusal (
 -- of a router that is changed: what the body asks for
 abbrev pub body_refusal : RowLists → Caller → RouterForm → RouterRow → Option Refusal
 body_refusal rows caller form old = first_refusal (
-    option_and_then (bad_gateway rows old.project (interfaces_of rows.ports old)) (gateway_network rows caller form)
+    option_and_then (bad_gateway rows old.project (interfaces_of rows.ports old))
+    (gateway_network rows caller form)
     ∷ bad_routes rows old form.routes
     ∷ unless_found NetworkKind (gateway_name form) (gateway_network rows caller form)
     ∷ [])
 
 -- what the policy, the uses of a gateway that goes and the addresses that are held forbid of it
-abbrev pub standing_refusal : RowLists → Caller → RouterForm → RouterRow → RouterRow → Option Refusal
+abbrev pub standing_refusal : RowLists → Caller → RouterForm → RouterRow → RouterRow
+    → Option Refusal
 standing_refusal rows caller form old new = first_refusal (
     admin_only caller (is_some (snat_asked form))
     ∷ owner_only caller old.project
     ∷ gateway_use rows caller old new.routes (lost_gateway old.gateway new.gateway)
-    ∷ option_and_then (outer_taken rows) (new_gateway (gateway_network rows caller form) new.gateway)
+    ∷ option_and_then (outer_taken rows)
+    (new_gateway (gateway_network rows caller form) new.gateway)
     ∷ [])
 
 -- of an interface that goes: its uses

@@ -1,4 +1,5 @@
--- What calls on routers come to (Networking API v2.0, routers; extended attributes of gateways and extra routes).
+-- What calls on routers come to (Networking API v2.0, routers; extended attributes of gateways and
+-- extra routes).
 use Rattle.call_parts.specs.BodyNames.{unless_found}
 use Rattle.call_parts.specs.Edits.{Add, Drop, Edit, Put, accepted}
 use Rattle.api_ipam.specs.FixedChoice.{addresses_of, gateway_addresses, gateway_euis}
@@ -49,27 +50,36 @@ router_shown rows caller r fields = shown_as RouterKind caller.admin fields (rou
 -- the gateway that a body asks for
 
 abbrev pub gateway_name : RouterForm → Option Ident
-gateway_name form = option_map (λ (a : GatewayAsked). a.network) (value_of form.external_gateway_info)
+gateway_name form =
+    option_map (λ (a : GatewayAsked). a.network) (value_of form.external_gateway_info)
 
 abbrev pub gateway_network : RowLists → Caller → RouterForm → Option NetworkRow
 gateway_network rows caller form = network_seen rows caller (gateway_name form)
 
--- the addresses of the port on the external network, and the first of them that its MAC address gives and another port holds
+-- the addresses of the port on the external network, and the first of them that its MAC address
+-- gives and another port holds
 abbrev pub outer_mac : RowLists → NetworkRow → MacAddress
 outer_mac rows n = expected_mac (free_mac rows.ports n.id)
 
 abbrev pub outer_addresses : RowLists → NetworkRow → Option (List Fixed)
-outer_addresses rows n = gateway_addresses (λ x. not (is_address_held rows.ports n.id x)) (subnets_on rows.subnets n.id) (outer_mac rows n)
+outer_addresses rows n =
+    gateway_addresses (λ x. not (is_address_held rows.ports n.id x)) (subnets_on rows.subnets n.id)
+    (outer_mac rows n)
 
 abbrev pub outer_taken : RowLists → NetworkRow → Option Refusal
-outer_taken rows n = address_taken (is_address_held rows.ports n.id) n.id (addresses_of (gateway_euis (outer_mac rows n) (subnets_on rows.subnets n.id)))
+outer_taken rows n =
+    address_taken (is_address_held rows.ports n.id) n.id
+    (addresses_of (gateway_euis (outer_mac rows n) (subnets_on rows.subnets n.id)))
 
 -- the port, and the router with it
-abbrev pub gateway_port : SettingsParts → RouterRow → NetworkRow → Ident → MacAddress → List Fixed → PortRow
-gateway_port settings r n i mac fixed = service_port settings n i [] mac fixed gateway_owner (ident_text r.id) (host_or_none r.host)
+abbrev pub gateway_port : SettingsParts → RouterRow → NetworkRow → Ident → MacAddress → List Fixed
+    → PortRow
+gateway_port settings r n i mac fixed =
+    service_port settings n i [] mac fixed gateway_owner (ident_text r.id) (host_or_none r.host)
 
 abbrev pub with_gateway : RouterRow → Ident → Ident → Bool → RouterRow
-with_gateway r network port snat = record r { gateway = Some (record { network = network; port = port; snat = snat }) }
+with_gateway r network port snat =
+    record r { gateway = Some (record { network = network; port = port; snat = snat }) }
 
 abbrev pub gateway_edits : RouterRow → PortRow → Bool → List Edit
 gateway_edits r p snat = Add (Port p) ∷ Put (Router (with_gateway r p.network p.id snat)) ∷ []
@@ -94,7 +104,8 @@ bad_first_gateway rows caller form owner =
     if not caller.admin && is_for_other caller form.project_id form.tenant_id then None
     else option_and_then (bad_gateway rows owner []) (gateway_network rows caller form)
 
-abbrev pub creation_refusal : SettingsParts → RowLists → Caller → RouterForm → Text → Option Refusal
+abbrev pub creation_refusal : SettingsParts → RowLists → Caller → RouterForm → Text
+    → Option Refusal
 creation_refusal settings rows caller form owner = first_refusal (
     when (are_unlike form.project_id form.tenant_id) (Invalid (codes "tenant_id"))
     ∷ bad_first_gateway rows caller form owner
@@ -105,22 +116,27 @@ creation_refusal settings rows caller form owner = first_refusal (
     ∷ [])
 
 abbrev pub router_added : Caller → RowLists → RouterRow → RouterRow → List Edit → Outcome
-router_added caller rows r last edits = accepted rows (Add (Router r) ∷ edits) (λ after. NewRow (router_shown after caller last []))
+router_added caller rows r last edits =
+    accepted rows (Add (Router r) ∷ edits) (λ after. NewRow (router_shown after caller last []))
 
 abbrev pub gateway_added : Caller → RowLists → RouterRow → PortRow → Bool → Outcome
-gateway_added caller rows r p snat = router_added caller rows r (with_gateway r p.network p.id snat) (gateway_edits r p snat)
+gateway_added caller rows r p snat =
+    router_added caller rows r (with_gateway r p.network p.id snat) (gateway_edits r p snat)
 
 -- without a gateway, or with one on a network
-abbrev pub router_with : SettingsParts → State → Caller → RouterForm → Text → Option NetworkRow → Outcome
+abbrev pub router_with : SettingsParts → State → Caller → RouterForm → Text → Option NetworkRow
+    → Outcome
 router_with settings state caller form owner None =
     needing CountersSpent (drawing_at state owner 1) (λ drawing.
-    router_added caller drawing.rows (new_router settings form owner (drawn_id drawing 0)) (new_router settings form owner (drawn_id drawing 0)) [])
+    router_added caller drawing.rows (new_router settings form owner (drawn_id drawing 0))
+    (new_router settings form owner (drawn_id drawing 0)) [])
 router_with settings state caller form owner (Some n) =
     needing (PoolsSpent n.id) (outer_addresses state.rows n) (λ fixed.
     needing CountersSpent (free_mac state.rows.ports n.id) (λ mac.
     needing CountersSpent (drawing_at state owner 2) (λ drawing.
     let r : RouterRow = new_router settings form owner (drawn_id drawing 0) in
-    gateway_added caller drawing.rows r (gateway_port settings r n (drawn_id drawing 1) mac fixed) (unwrap_or (snat_asked form) true))))
+    gateway_added caller drawing.rows r (gateway_port settings r n (drawn_id drawing 1) mac fixed)
+    (unwrap_or (snat_asked form) true))))
 
 abbrev pub router_made : SettingsParts → State → Caller → RouterForm → Text → Outcome
 router_made settings state caller form owner =
@@ -128,13 +144,16 @@ router_made settings state caller form owner =
     (router_with settings state caller form owner (gateway_network state.rows caller form))
 
 abbrev pub router_created : SettingsParts → State → Caller → RouterForm → Outcome
-router_created settings state caller form = router_made settings state caller form (owner_of caller form.project_id form.tenant_id)
+router_created settings state caller form =
+    router_made settings state caller form (owner_of caller form.project_id form.tenant_id)
 
 -- changing a router
 
 -- the gateway that stays, where none is asked for or one on the same network
 abbrev pub gateway_on : Gateway → GatewayAsked → Option Gateway
-gateway_on g a = if ident_eq g.network a.network then Some (record g { snat = unwrap_or a.snat g.snat }) else None
+gateway_on g a =
+    if ident_eq g.network a.network then Some (record g { snat = unwrap_or a.snat g.snat })
+    else None
 
 abbrev pub kept_gateway : Option Gateway → Given GatewayAsked → Option Gateway
 kept_gateway old Absent = old
@@ -166,13 +185,15 @@ changed_router form r = record r {
 
 abbrev pub update_refusal : RowLists → Caller → RouterForm → RouterRow → RouterRow → Option Refusal
 update_refusal rows caller form old new = first_refusal (
-    option_and_then (bad_gateway rows old.project (interfaces_of rows.ports old)) (gateway_network rows caller form)
+    option_and_then (bad_gateway rows old.project (interfaces_of rows.ports old))
+    (gateway_network rows caller form)
     ∷ bad_routes rows old form.routes
     ∷ unless_found NetworkKind (gateway_name form) (gateway_network rows caller form)
     ∷ admin_only caller (is_some (snat_asked form))
     ∷ owner_only caller old.project
     ∷ gateway_use rows caller old new.routes (lost_gateway old.gateway new.gateway)
-    ∷ option_and_then (outer_taken rows) (new_gateway (gateway_network rows caller form) new.gateway)
+    ∷ option_and_then (outer_taken rows)
+    (new_gateway (gateway_network rows caller form) new.gateway)
     ∷ [])
 
 abbrev pub gateway_gone : Option Gateway → List Edit
@@ -180,26 +201,35 @@ gateway_gone None = []
 gateway_gone (Some g) = Drop PortKind g.port ∷ []
 
 -- the router with what stays of its gateway, then the port that goes, then a new one
-abbrev pub router_replaced : Caller → RowLists → RouterRow → RouterRow → RouterRow → List Edit → Outcome
+abbrev pub router_replaced : Caller → RowLists → RouterRow → RouterRow → RouterRow → List Edit
+    → Outcome
 router_replaced caller rows old new last edits =
-    accepted rows (Put (Router new) ∷ gateway_gone (lost_gateway old.gateway new.gateway) ++ edits) (λ after. OneRow (router_shown after caller last []))
+    accepted rows (Put (Router new) ∷ gateway_gone (lost_gateway old.gateway new.gateway) ++ edits)
+    (λ after. OneRow (router_shown after caller last []))
 
 abbrev pub gateway_replaced : Caller → RowLists → RouterRow → RouterRow → PortRow → Bool → Outcome
-gateway_replaced caller rows old new p snat = router_replaced caller rows old new (with_gateway new p.network p.id snat) (gateway_edits new p snat)
+gateway_replaced caller rows old new p snat =
+    router_replaced caller rows old new (with_gateway new p.network p.id snat)
+    (gateway_edits new p snat)
 
-abbrev pub router_moved : SettingsParts → State → Caller → RouterForm → RouterRow → RouterRow → Option NetworkRow → Outcome
+abbrev pub router_moved : SettingsParts → State → Caller → RouterForm → RouterRow → RouterRow
+    → Option NetworkRow → Outcome
 router_moved settings state caller form old new None =
     unless (when (is_last state) CountersSpent) (router_replaced caller state.rows old new new [])
 router_moved settings state caller form old new (Some n) =
     needing (PoolsSpent n.id) (outer_addresses state.rows n) (λ fixed.
     needing CountersSpent (free_mac state.rows.ports n.id) (λ mac.
     needing CountersSpent (drawing_at state old.project 1) (λ drawing.
-    gateway_replaced caller drawing.rows old new (gateway_port settings old n (drawn_id drawing 0) mac fixed) (unwrap_or (snat_asked form) (old_snat old.gateway)))))
+    gateway_replaced caller drawing.rows old new
+    (gateway_port settings old n (drawn_id drawing 0) mac fixed)
+    (unwrap_or (snat_asked form) (old_snat old.gateway)))))
 
-abbrev pub router_changed : SettingsParts → State → Caller → RouterForm → RouterRow → RouterRow → Outcome
+abbrev pub router_changed : SettingsParts → State → Caller → RouterForm → RouterRow → RouterRow
+    → Outcome
 router_changed settings state caller form old new =
     unless (update_refusal state.rows caller form old new)
-    (router_moved settings state caller form old new (new_gateway (gateway_network state.rows caller form) new.gateway))
+    (router_moved settings state caller form old new
+    (new_gateway (gateway_network state.rows caller form) new.gateway))
 
 abbrev pub router_updated : SettingsParts → State → Caller → IdText → RouterForm → Outcome
 router_updated settings state caller name form =
@@ -218,4 +248,5 @@ deletion_refusal state caller r = first_refusal (
 abbrev pub router_deleted : State → Caller → IdText → Outcome
 router_deleted state caller name =
     needing (not_found RouterKind name.text) (router_seen state.rows caller name.id) (λ r.
-    unless (deletion_refusal state caller r) (accepted state.rows (gateway_gone r.gateway ++ Drop RouterKind r.id ∷ []) (λ rows. NoRow)))
+    unless (deletion_refusal state caller r)
+    (accepted state.rows (gateway_gone r.gateway ++ Drop RouterKind r.id ∷ []) (λ rows. NoRow)))

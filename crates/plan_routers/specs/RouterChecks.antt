@@ -1,5 +1,6 @@
--- What forbids calls on a router by its rows alone, whoever asks: the first rule of its attributes that is broken, or the first use, with the
--- row that uses it. Of a router, or another named row, that isn't there nothing is said but that it has no such interface.
+-- What forbids calls on a router by its rows alone, whoever asks: the first rule of its attributes
+-- that is broken, or the first use, with the row that uses it. Of a router, or another named row,
+-- that isn't there nothing is said but that it has no such interface.
 use Rattle.api_policy.specs.Uses.{leads_by, leads_through, named_by_device}
 use Rattle.api_types.specs.Ident.{Ident}
 use Rattle.api_types.specs.Lists.{is_empty, is_some_so}
@@ -38,7 +39,8 @@ IsTold refusal (Err e) = refusal ≡ Some e
 abbrev pub told_of : RowLists → Ident → (RouterRow → Option RouterRefusal) → Option RouterRefusal
 told_of rows router told = option_and_then told (row_of (λ r. r.id) router rows.routers)
 
--- a new interface: by a subnet with a gateway that overlaps none of the router's ports, or by a port of one address, without a device
+-- a new interface: by a subnet with a gateway that overlaps none of the router's ports, or by a
+-- port of one address, without a device
 abbrev pub bad_subnet : RowLists → RouterRow → SubnetRow → Option RouterRefusal
 bad_subnet rows r s = told_if (is_none s.gateway || overlaps_leg rows r s) BadSubnet
 
@@ -46,22 +48,31 @@ abbrev pub device_user : RowLists → PortRow → Option (Kind × Ident)
 device_user rows p = if is_service p.owner then named_by_device rows p.device else None
 
 abbrev pub bad_port : RowLists → RouterRow → PortRow → Option RouterRefusal
-bad_port rows r p = option_or (told_if (is_bad_leg rows r p) BadPort) (told_if (is_service p.owner || not (is_empty p.device)) (PortInUse (device_user rows p)))
+bad_port rows r p =
+    option_or (told_if (is_bad_leg rows r p) BadPort)
+    (told_if (is_service p.owner || not (is_empty p.device)) (PortInUse (device_user rows p)))
 
 abbrev pub bad_interface : RowLists → InterfaceBy → RouterRow → Option RouterRefusal
-bad_interface rows (BySubnet i) r = option_and_then (bad_subnet rows r) (row_of (λ s. s.id) i rows.subnets)
-bad_interface rows (ByPort i) r = option_and_then (bad_port rows r) (row_of (λ p. p.id) i rows.ports)
+bad_interface rows (BySubnet i) r =
+    option_and_then (bad_subnet rows r) (row_of (λ s. s.id) i rows.subnets)
+bad_interface rows (ByPort i) r =
+    option_and_then (bad_port rows r) (row_of (λ p. p.id) i rows.ports)
 
 abbrev pub interface_told : RowLists → Ident → InterfaceBy → Option RouterRefusal
 interface_told rows router by = told_of rows router (bad_interface rows by)
 
--- a port of the router that goes: the router uses it where it leaves a next hop unreached, by these routes
+-- a port of the router that goes: the router uses it where it leaves a next hop unreached, by
+-- these routes
 abbrev pub route_user : RowLists → RouterRow → List Hop → PortRow → Option RouterRefusal
 route_user rows r routes p =
-    told_if (list_any (is_lost_hop rows.subnets (other_ports p.id (router_ports rows.ports r)) p) routes) (RouteInUse (Some (RouterKind, r.id)))
+    told_if
+    (list_any (is_lost_hop rows.subnets (other_ports p.id (router_ports rows.ports r)) p) routes)
+    (RouteInUse (Some (RouterKind, r.id)))
 
 abbrev pub through_user : RowLists → RouterRow → PortRow → Option RouterRefusal
-through_user rows r p = option_map (λ (f : FloatingRow). FloatingInUse (Some (FloatingKind, f.id))) (find (leads_through rows.subnets r.id p) rows.floatings)
+through_user rows r p =
+    option_map (λ (f : FloatingRow). FloatingInUse (Some (FloatingKind, f.id)))
+    (find (leads_through rows.subnets r.id p) rows.floatings)
 
 -- the interface that a body names, and what uses it
 abbrev pub interface_named : RowLists → InterfaceBy → RouterRow → Option PortRow
@@ -74,7 +85,8 @@ port_or port (Some refusal) = Err refusal
 
 abbrev pub removed_port : RowLists → RouterRow → Option PortRow → Result Ident RouterRefusal
 removed_port rows r None = Err NoInterface
-removed_port rows r (Some p) = port_or p.id (option_or (route_user rows r r.routes p) (through_user rows r p))
+removed_port rows r (Some p) =
+    port_or p.id (option_or (route_user rows r r.routes p) (through_user rows r p))
 
 abbrev pub removal_of : RowLists → InterfaceBy → Option RouterRow → Result Ident RouterRefusal
 removal_of rows by None = Err NoInterface
@@ -83,28 +95,42 @@ removal_of rows by (Some r) = removed_port rows r (interface_named rows by r)
 abbrev pub removal_told : RowLists → Ident → InterfaceBy → Result Ident RouterRefusal
 removal_told rows router by = removal_of rows by (row_of (λ r. r.id) router rows.routers)
 
--- a gateway on a network, or none, and the uses of the old one, which goes where the network is another one
+-- a gateway on a network, or none, and the uses of the old one, which goes where the network is
+-- another one
 abbrev pub is_bad_gateway : RowLists → RouterRow → NetworkRow → Bool
-is_bad_gateway rows r n = not (is_external_to rows.policies n.id r.project) || overlaps_interface rows (interfaces_of rows.ports r) n
+is_bad_gateway rows r n =
+    not (is_external_to rows.policies n.id r.project)
+    || overlaps_interface rows (interfaces_of rows.ports r) n
 
 abbrev pub bad_gateway_on : RowLists → RouterRow → Option Ident → Option RouterRefusal
 bad_gateway_on rows r None = None
-bad_gateway_on rows r (Some i) = option_and_then (λ n. told_if (is_bad_gateway rows r n) BadGateway) (row_of (λ n. n.id) i rows.networks)
+bad_gateway_on rows r (Some i) =
+    option_and_then (λ n. told_if (is_bad_gateway rows r n) BadGateway)
+    (row_of (λ n. n.id) i rows.networks)
 
 abbrev pub gateway_user : RowLists → RouterRow → Option RouterRefusal
-gateway_user rows r = option_map (λ (f : FloatingRow). GatewayInUse (Some (FloatingKind, f.id))) (find (leads_by r.id) rows.floatings)
+gateway_user rows r =
+    option_map (λ (f : FloatingRow). GatewayInUse (Some (FloatingKind, f.id)))
+    (find (leads_by r.id) rows.floatings)
 
-abbrev pub lost_use : RowLists → RouterRow → List Hop → Option Ident → Gateway → Option RouterRefusal
+abbrev pub lost_use : RowLists → RouterRow → List Hop → Option Ident → Gateway
+    → Option RouterRefusal
 lost_use rows r routes network g =
     if is_some_so (ident_eq g.network) network then None
-    else option_or (option_and_then (route_user rows r routes) (row_of (λ p. p.id) g.port rows.ports)) (gateway_user rows r)
+    else option_or
+    (option_and_then (route_user rows r routes) (row_of (λ p. p.id) g.port rows.ports))
+    (gateway_user rows r)
 
 abbrev pub bad_gateway : RowLists → Option Ident → List Hop → RouterRow → Option RouterRefusal
-bad_gateway rows network routes r = option_or (bad_gateway_on rows r network) (option_and_then (lost_use rows r routes network) r.gateway)
+bad_gateway rows network routes r =
+    option_or (bad_gateway_on rows r network)
+    (option_and_then (lost_use rows r routes network) r.gateway)
 
 abbrev pub gateway_told : RowLists → Ident → Option Ident → List Hop → Option RouterRefusal
 gateway_told rows router network routes = told_of rows router (bad_gateway rows network routes)
 
 -- routes: each next hop is reached by the ports that the router has
 abbrev pub routes_told : RowLists → Ident → List Hop → Option RouterRefusal
-routes_told rows router routes = told_of rows router (λ r. told_if (list_any (is_bad_hop rows.subnets (router_ports rows.ports r)) routes) BadRoutes)
+routes_told rows router routes =
+    told_of rows router (λ r.
+    told_if (list_any (is_bad_hop rows.subnets (router_ports rows.ports r)) routes) BadRoutes)

@@ -1,5 +1,5 @@
--- The rules of a router's attributes that speak of rows, in the order in which they are tried. Each is looked at where the rows of which it
--- speaks are there and seen, and names its attribute.
+-- The rules of a router's attributes that speak of rows, in the order in which they are tried.
+-- Each is looked at where the rows of which it speaks are there and seen, and names its attribute.
 use Rattle.api_types.specs.HeldAddresses.{subnets_on}
 use Rattle.api_types.specs.RouterWays.{is_bad_hop, router_ports, touches}
 use Rattle.api_types.specs.Given.{value_or}
@@ -23,16 +23,21 @@ use Rattle.net_addr.specs.Words.{Text}
 
 -- a subnet of the network overlaps one of an interface
 abbrev pub overlaps_interface : RowLists → List PortRow → NetworkRow → Bool
-overlaps_interface rows interfaces n = list_any (λ (s : SubnetRow). list_any (touches rows.subnets s.prefix) interfaces) (subnets_on rows.subnets n.id)
+overlaps_interface rows interfaces n =
+    list_any (λ (s : SubnetRow). list_any (touches rows.subnets s.prefix) interfaces)
+    (subnets_on rows.subnets n.id)
 
 -- the rule of `external_gateway_info`, by the router's project and its interfaces
 abbrev pub bad_gateway : RowLists → Text → List PortRow → NetworkRow → Option Refusal
 bad_gateway rows project interfaces n =
-    when (not (is_external_to rows.policies n.id project) || overlaps_interface rows interfaces n) (Invalid (codes "external_gateway_info"))
+    when (not (is_external_to rows.policies n.id project) || overlaps_interface rows interfaces n)
+    (Invalid (codes "external_gateway_info"))
 
 -- `routes`: each next hop is reached by the ports that the router has
 abbrev pub bad_routes : RowLists → RouterRow → Given (List Hop) → Option Refusal
-bad_routes rows r routes = when (list_any (is_bad_hop rows.subnets (router_ports rows.ports r)) (value_or [] routes)) (Invalid (codes "routes"))
+bad_routes rows r routes =
+    when (list_any (is_bad_hop rows.subnets (router_ports rows.ports r)) (value_or [] routes))
+    (Invalid (codes "routes"))
 
 -- `subnet_id` and `port_id` of an interface: its subnet overlaps none of the router's ports
 abbrev pub overlaps_leg : RowLists → RouterRow → SubnetRow → Bool
@@ -43,7 +48,9 @@ bad_interface_subnet rows r s = when (overlaps_leg rows r s) (Invalid (codes "su
 
 -- the port has exactly one address, and its subnet overlaps none of the router's ports
 abbrev pub is_bad_leg : RowLists → RouterRow → PortRow → Bool
-is_bad_leg rows r p = not (is_one p.fixed) || list_any (λ (s : SubnetRow). holds_in s.id p && overlaps_leg rows r s) rows.subnets
+is_bad_leg rows r p =
+    not (is_one p.fixed)
+    || list_any (λ (s : SubnetRow). holds_in s.id p && overlaps_leg rows r s) rows.subnets
 
 abbrev pub bad_interface_port : RowLists → RouterRow → PortRow → Option Refusal
 bad_interface_port rows r p = when (is_bad_leg rows r p) (Invalid (codes "port_id"))

@@ -8,4 +8,5 @@ use Rattle.api_types.specs.declared.port.PortRow.{PortRow}
 use Rattle.api_types.specs.declared.subnet.SubnetRow.{SubnetRow}
 
 abbrev pub meets_network : List SubnetRow → Ident → PortRow → Bool
-meets_network subnets network p = list_any (λ (s : SubnetRow). touches subnets s.prefix p) (subnets_on subnets network)
+meets_network subnets network p =
+    list_any (λ (s : SubnetRow). touches subnets s.prefix p) (subnets_on subnets network)

@@ -1,4 +1,5 @@
--- A network's DHCP port holds an address of each subnet that is leased by DHCP, and is there exactly where there is such a subnet.
+-- A network's DHCP port holds an address of each subnet that is leased by DHCP, and is there
+-- exactly where there is such a subnet.
 use Rattle.api_ipam.specs.Addresses.{least_free_address}
 use Rattle.call_parts.specs.Edits.{Add, Drop, Edit, Put}
 use Rattle.api_types.specs.HeldAddresses.{is_address_held}
@@ -36,10 +37,13 @@ abbrev pub dhcp_mac : List PortRow → Ident → Option PortRow → MacAddress
 dhcp_mac ports network None = expected_mac (free_mac ports network)
 dhcp_mac ports network (Some p) = p.mac
 
--- the address that it is to hold: the one that its MAC address gives, or the least free one of the pools
+-- the address that it is to hold: the one that its MAC address gives, or the least free one of the
+-- pools
 abbrev pub served_address : List PortRow → Ident → SubnetRow → Bool → Option Addr
-served_address ports network s false = least_free_address (λ x. not (is_address_held ports network x)) s.pools
-served_address ports network s true = Some (eui s.prefix (dhcp_mac ports network (dhcp_port_on ports network)))
+served_address ports network s false =
+    least_free_address (λ x. not (is_address_held ports network x)) s.pools
+served_address ports network s true =
+    Some (eui s.prefix (dhcp_mac ports network (dhcp_port_on ports network)))
 
 -- where none is to be held, none is needed
 abbrev pub dhcp_address : List PortRow → Ident → Bool → SubnetRow → Option Addr
@@ -48,16 +52,20 @@ dhcp_address ports network true s = served_address ports network s (is_eui s)
 
 abbrev pub new_dhcp_port : SettingsParts → NetworkRow → Ident → MacAddress → Fixed → PortRow
 new_dhcp_port settings n i mac f =
-    service_port settings n i n.project mac (f ∷ []) dhcp_owner [] (host_or_none (dhcp_host settings n.segment))
+    service_port settings n i n.project mac (f ∷ []) dhcp_owner []
+    (host_or_none (dhcp_host settings n.segment))
 
 -- a new address is held last
-abbrev pub serving : SettingsParts → NetworkRow → Option PortRow → Ident → MacAddress → Fixed → List Edit
+abbrev pub serving : SettingsParts → NetworkRow → Option PortRow → Ident → MacAddress → Fixed
+    → List Edit
 serving settings n None i mac f = Add (Port (new_dhcp_port settings n i mac f)) ∷ []
 serving settings n (Some p) i mac f = Put (Port (record p { fixed = p.fixed ++ f ∷ [] })) ∷ []
 
-abbrev pub begin_serving : SettingsParts → RowLists → NetworkRow → Bool → Ident → MacAddress → Fixed → List Edit
+abbrev pub begin_serving : SettingsParts → RowLists → NetworkRow → Bool → Ident → MacAddress
+    → Fixed → List Edit
 begin_serving settings rows n false i mac f = []
-begin_serving settings rows n true i mac f = serving settings n (dhcp_port_on rows.ports n.id) i mac f
+begin_serving settings rows n true i mac f =
+    serving settings n (dhcp_port_on rows.ports n.id) i mac f
 
 -- a DHCP port that would hold no address goes
 abbrev pub port_left : PortRow → List Fixed → Edit

@@ -22,11 +22,13 @@ use Rattle.std.specs.Prelude.{Bool, List, Option, [], is_none, option_and_then, 
 abbrev pub body_refusal : RowLists → Caller → SubnetForm → Option Refusal
 body_refusal rows caller form = first_refusal (
     bad_parts form
-    ∷ option_and_then (bad_cidr rows (prefix_asked form)) (network_seen rows caller (value_of form.network_id))
+    ∷ option_and_then (bad_cidr rows (prefix_asked form))
+    (network_seen rows caller (value_of form.network_id))
     ∷ bad_subnet (prefix_asked form) (gateway_asked form) (pools_asked form)
     ∷ [])
 
--- of a subnet that begins to be leased: there has to be an address for the DHCP port, and a MAC address where that is made
+-- of a subnet that begins to be leased: there has to be an address for the DHCP port, and a MAC
+-- address where that is made
 abbrev pub lease_refusal : List PortRow → Ident → Bool → SubnetRow → Option Refusal
 lease_refusal ports network begins s = first_refusal (
     when (is_none (dhcp_address ports network begins s)) (PoolsSpent network)
@@ -43,4 +45,6 @@ change_refusal form old new = first_refusal (
 
 -- what the policy and the use of the gateway forbid of it
 abbrev pub standing_refusal : RowLists → Caller → SubnetRow → SubnetRow → Option Refusal
-standing_refusal rows caller old new = first_refusal (network_owner rows caller true old.network ∷ old_gateway_in_use rows caller old new ∷ [])
+standing_refusal rows caller old new =
+    first_refusal
+    (network_owner rows caller true old.network ∷ old_gateway_in_use rows caller old new ∷ [])

@@ -61,7 +61,8 @@ gateway_asked form = gateway_or (Some (default_gateway (prefix_asked form))) for
 
 -- the default pools leave out the gateway
 abbrev pub pools_asked : SubnetForm → List Span
-pools_asked form = value_or (default_pools (prefix_asked form) (gateway_asked form)) form.allocation_pools
+pools_asked form =
+    value_or (default_pools (prefix_asked form) (gateway_asked form)) form.allocation_pools
 
 abbrev pub dhcp_asked : SubnetForm → Bool
 dhcp_asked form = value_or true form.enable_dhcp
@@ -90,16 +91,20 @@ creation_refusal settings rows caller n = first_refusal (
     ∷ [])
 
 -- the DHCP port holds the address; its id is drawn after the subnet's
-abbrev pub subnet_added : SettingsParts → Caller → Drawing → NetworkRow → SubnetRow → Addr → MacAddress → Outcome
+abbrev pub subnet_added : SettingsParts → Caller → Drawing → NetworkRow → SubnetRow → Addr
+    → MacAddress → Outcome
 subnet_added settings caller drawing n s x mac =
-    accepted drawing.rows (Add (Subnet s) ∷ begin_serving settings drawing.rows n s.dhcp (drawn_id drawing 1) mac (fixed_at s.id x))
+    accepted drawing.rows
+    (Add (Subnet s)
+    ∷ begin_serving settings drawing.rows n s.dhcp (drawn_id drawing 1) mac (fixed_at s.id x))
     (λ rows. NewRow (subnet_shown rows caller s []))
 
 -- `makes` tells whether a DHCP port comes along
 abbrev pub subnet_made : SettingsParts → State → Caller → SubnetForm → NetworkRow → Bool → Outcome
 subnet_made settings state caller form n makes =
     unless (creation_refusal settings state.rows caller n)
-    (needing (PoolsSpent n.id) (dhcp_address state.rows.ports n.id (dhcp_asked form) (new_subnet form n no_id)) (λ x.
+    (needing (PoolsSpent n.id)
+    (dhcp_address state.rows.ports n.id (dhcp_asked form) (new_subnet form n no_id)) (λ x.
     needing CountersSpent (mac_if makes state.rows.ports n.id) (λ mac.
     needing CountersSpent (drawing_at state n.project (if makes then 2 else 1)) (λ drawing.
     subnet_added settings caller drawing n (new_subnet form n (drawn_id drawing 0)) x mac))))
@@ -107,10 +112,13 @@ subnet_made settings state caller form n makes =
 abbrev pub subnet_created : SettingsParts → State → Caller → SubnetForm → Outcome
 subnet_created settings state caller form =
     unless (bad_parts form)
-    (unless (option_and_then (bad_cidr state.rows (prefix_asked form)) (network_seen state.rows caller (value_of form.network_id)))
+    (unless (option_and_then (bad_cidr state.rows (prefix_asked form))
+    (network_seen state.rows caller (value_of form.network_id)))
     (unless (bad_subnet (prefix_asked form) (gateway_asked form) (pools_asked form))
-    (needing (not_found NetworkKind (text_of (value_of form.network_id))) (network_seen state.rows caller (value_of form.network_id)) (λ n.
-    subnet_made settings state caller form n (makes_dhcp_port state.rows.ports n.id (dhcp_asked form))))))
+    (needing (not_found NetworkKind (text_of (value_of form.network_id)))
+    (network_seen state.rows caller (value_of form.network_id)) (λ n.
+    subnet_made settings state caller form n
+    (makes_dhcp_port state.rows.ports n.id (dhcp_asked form))))))
 
 -- changing a subnet
 
@@ -134,30 +142,37 @@ update_refusal rows caller form old new = first_refusal (
     ∷ old_gateway_in_use rows caller old new
     ∷ [])
 
-abbrev pub subnet_edits : SettingsParts → RowLists → NetworkRow → SubnetRow → SubnetRow → Ident → MacAddress → Fixed → List Edit
+abbrev pub subnet_edits : SettingsParts → RowLists → NetworkRow → SubnetRow → SubnetRow → Ident
+    → MacAddress → Fixed → List Edit
 subnet_edits settings rows n old new i mac f =
     Put (Subnet new)
     ∷ begin_serving settings rows n (new.dhcp && not old.dhcp) i mac f
     ++ end_serving rows n.id (old.dhcp && not new.dhcp) old.id
 
-abbrev pub subnet_replaced : SettingsParts → State → Caller → SubnetForm → NetworkRow → SubnetRow → SubnetRow → Bool → Outcome
+abbrev pub subnet_replaced : SettingsParts → State → Caller → SubnetForm → NetworkRow → SubnetRow
+    → SubnetRow → Bool → Outcome
 subnet_replaced settings state caller form n old new makes =
     unless (update_refusal state.rows caller form old new)
-    (needing (PoolsSpent n.id) (dhcp_address state.rows.ports n.id (new.dhcp && not old.dhcp) new) (λ x.
+    (needing (PoolsSpent n.id) (dhcp_address state.rows.ports n.id (new.dhcp && not old.dhcp) new)
+    (λ x.
     needing CountersSpent (mac_if makes state.rows.ports n.id) (λ mac.
     needing CountersSpent (drawing_at state n.project (if makes then 1 else 0)) (λ drawing.
-    accepted drawing.rows (subnet_edits settings drawing.rows n old new (drawn_id drawing 0) mac (fixed_at new.id x))
+    accepted drawing.rows
+    (subnet_edits settings drawing.rows n old new (drawn_id drawing 0) mac (fixed_at new.id x))
     (λ rows. OneRow (subnet_shown rows caller new []))))))
 
-abbrev pub subnet_changed : SettingsParts → State → Caller → SubnetForm → NetworkRow → SubnetRow → SubnetRow → Outcome
+abbrev pub subnet_changed : SettingsParts → State → Caller → SubnetForm → NetworkRow → SubnetRow
+    → SubnetRow → Outcome
 subnet_changed settings state caller form n old new =
-    subnet_replaced settings state caller form n old new (makes_dhcp_port state.rows.ports n.id (new.dhcp && not old.dhcp))
+    subnet_replaced settings state caller form n old new
+    (makes_dhcp_port state.rows.ports n.id (new.dhcp && not old.dhcp))
 
 -- the subnet that the caller sees, and its network, which is there
 abbrev pub subnet_updated : SettingsParts → State → Caller → IdText → SubnetForm → Outcome
 subnet_updated settings state caller name form =
     needing (not_found SubnetKind name.text) (subnet_seen state.rows caller name.id) (λ s.
-    needing (not_found SubnetKind name.text) (row_of (λ n. n.id) s.network state.rows.networks) (λ n.
+    needing (not_found SubnetKind name.text) (row_of (λ n. n.id) s.network state.rows.networks)
+    (λ n.
     subnet_changed settings state caller form n s (changed_subnet form s)))
 
 -- taking a subnet out
@@ -175,4 +190,5 @@ subnet_gone rows s = end_serving rows s.network s.dhcp s.id ++ Drop SubnetKind s
 abbrev pub subnet_deleted : State → Caller → IdText → Outcome
 subnet_deleted state caller name =
     needing (not_found SubnetKind name.text) (subnet_seen state.rows caller name.id) (λ s.
-    unless (deletion_refusal state caller s) (accepted state.rows (subnet_gone state.rows s) (λ rows. NoRow)))
+    unless (deletion_refusal state caller s)
+    (accepted state.rows (subnet_gone state.rows s) (λ rows. NoRow)))

@@ -50,7 +50,8 @@ in_range low high ends ReplyKey port = same_or_none low (reply_type ends) && sam
 in_range low high ends TcpKey port = at_least low port && at_most high port
 in_range low high ends UdpKey port = at_least low port && at_most high port
 in_range low high ends (ProtoKey n) port =
-    if has_type n then is_none_of low && is_none_of high else at_least low port && at_most high port
+    if has_type n then is_none_of low && is_none_of high
+    else at_least low port && at_most high port
 
 -- the far address is the source for ingress, the destination for egress
 abbrev pub far_of : Direction → Key → Addr

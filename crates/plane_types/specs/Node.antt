@@ -1,4 +1,5 @@
--- One host's agents: the rows that they were last given, the tables wired from these, and the host's tracked entries.
+-- One host's agents: the rows that they were last given, the tables wired from these, and the
+-- host's tracked entries.
 use Rattle.std.specs.Prelude.{◌≡◌, ℕ, ◌+◌, ◌==◌, nat_lt, Bool, false, true, List, [], Option, None, Some, if◌then◌else◌}
 use Rattle.std.specs.List.{filter}
 use Rattle.net_addr.specs.Words.{Text}
@@ -43,15 +44,32 @@ pub record Stands (n : Node) : Type 0 where
 
 -- a host that was given its first rows
 abbrev pub first_node : Text → ℕ → RowLists → ℕ → Node
-first_node name version rows spare = record { name = name; held = Some version; version = version; rows = rows; tables = tables_of_rows rows name []; entries = []; spare = spare }
+first_node name version rows spare = record {
+  name = name;
+  held = Some version;
+  version = version;
+  rows = rows;
+  tables = tables_of_rows rows name [];
+  entries = [];
+  spare = spare;
+}
 
 -- given rows and tables: entries without a tap or router in these go
 abbrev pub node_with : Node → ℕ → RowLists → TableLists → ℕ → Node
-node_with n version rows tables spare = record { name = n.name; held = Some version; version = version; rows = rows; tables = tables; entries = filter (is_attached tables) n.entries; spare = spare }
+node_with n version rows tables spare = record {
+  name = n.name;
+  held = Some version;
+  version = version;
+  rows = rows;
+  tables = tables;
+  entries = filter (is_attached tables) n.entries;
+  spare = spare;
+}
 
 -- given rows anew: networks keep their tags
 abbrev pub after_resync : Node → ℕ → RowLists → ℕ → Node
-after_resync n version rows spare = node_with n version rows (tables_of_rows rows n.name n.tables.tags) spare
+after_resync n version rows spare =
+    node_with n version rows (tables_of_rows rows n.name n.tables.tags) spare
 
 -- whether a number is the next one behind what is held
 abbrev pub follows : ℕ → Option ℕ → Bool
@@ -65,14 +83,25 @@ hearing n (Some v) = if n == v + 1 then Applied n else (if nat_lt v n then Gap v
 
 -- told the change with a number: it is put into the wired rows where it is the next one
 abbrev pub after_change : Node → ℕ → List Item → ℕ → Node
-after_change n number change spare = if follows number n.held then after_resync n number (after n.rows change) spare else record n { spare = spare }
+after_change n number change spare =
+    if follows number n.held then after_resync n number (after n.rows change) spare
+    else record n { spare = spare }
 
 -- a change that is the next one fits the wired rows and leaves consistent ones
 abbrev pub CanFollow : Node → ℕ → List Item → Type 0
-CanFollow n number change = follows number n.held ≡ true → Fits n.rows change × IsConsistent (after n.rows change)
+CanFollow n number change =
+    follows number n.held ≡ true → Fits n.rows change × IsConsistent (after n.rows change)
 
 abbrev pub with_entries : Node → List Entry → ℕ → Node
-with_entries n entries spare = record { name = n.name; held = n.held; version = n.version; rows = n.rows; tables = n.tables; entries = entries; spare = spare }
+with_entries n entries spare = record {
+  name = n.name;
+  held = n.held;
+  version = n.version;
+  rows = n.rows;
+  tables = n.tables;
+  entries = entries;
+  spare = spare;
+}
 
 -- what a host would be given: rows, and the tables that it makes of them where its tags were these
 pub record Ready : Type 0 where

@@ -27,7 +27,7 @@ abbrev pub is_allowed : RowLists → PortRow → Direction → Packet → Bool
 is_allowed rows q direction p =
     not q.secured
     || (rules_allow rows q direction (key_of p)
-        || rules_allow rows q (opposite direction) (answer_key (key_of p)))
+    || rules_allow rows q (opposite direction) (answer_key (key_of p)))
 
 -- nothing but packets is delivered to ports
 abbrev pub is_allowed_in : RowLists → PortRow → Option Packet → Bool

@@ -145,7 +145,8 @@ new_port uses k =
 -- the source becomes the gateway address with the port of the valid entry that has the same key,
 -- else with a new one
 abbrev pub sourced_at : Packet → ℕ → ℕ → Packet
-sourced_at p outer port = record p { ends = with_source p.ends outer; part = part_from p.part port }
+sourced_at p outer port =
+    record p { ends = with_source p.ends outer; part = part_from p.part port }
 
 abbrev pub sourced_new : Ident → Packet → ℕ → Option ℕ → Option Sourced
 sourced_new r p outer None = None

@@ -278,7 +278,8 @@ float_rows rows host =
     filter_map (λ (f : FloatingRow). float_row_by rows host f f.target) rows.floatings
 
 -- leases
-abbrev pub lease_row_by : RowLists → Text → List TagRow → PortRow → Option PortRow → Option LeaseRow
+abbrev pub lease_row_by : RowLists → Text → List TagRow → PortRow → Option PortRow
+    → Option LeaseRow
 lease_row_by rows host tags q None = None
 lease_row_by rows host tags q (Some d) =
     if is_at host d

@@ -168,7 +168,8 @@ target_step true tag frame (ToHost host number) = drops Unknown
 
 abbrev pub bridged_by : Bool → TagRow → Toward → Frame → DropCause → Option BridgeRow → Step
 bridged_by inner row toward frame cause (Some r) = target_step inner row.tag frame r.to
-bridged_by inner row toward frame cause None = wire_or inner row.network row.wire toward frame cause
+bridged_by inner row toward frame cause None =
+    wire_or inner row.network row.wire toward frame cause
 
 abbrev pub asked_at : Bool → TagRow → AddressAsk → Option NeighbourRow → Step
 asked_at inner row a (Some r) = stops (Answered (ArpAnswer r.address r.mac))

@@ -9,7 +9,8 @@ use Rattle.api_types.specs.Consistent.{IsConsistent}
 use Rattle.api_types.specs.Consistent.Numbered.{times_in, is_drawn}
 use Rattle.api_types.specs.Consistent.Named.{is_registered}
 
--- the rows are consistent, the ids are new and drawn, the project is registered, and rows of other kinds than projects, groups and rules are as before
+-- the rows are consistent, the ids are new and drawn, the project is registered, and rows of other
+-- kinds than projects, groups and rules are as before
 pub record IsDrawing (rows : RowLists) (name : Text) (many : ℕ) (d : Drawing) : Type 0 where
   pub consistent : IsConsistent d.rows
   pub fresh : (k : ℕ) → k < many → times_in d.rows (drawn_id d k) ≡ 0

@@ -16,17 +16,24 @@ use Rattle.api_types.specs.RouterWays.{other_ports}
 
 -- the router with its gateway by a port, and without one
 abbrev pub led_by : RouterRow → PortRow → Bool → RouterRow
-led_by r p snat = record r { gateway = Some (record { network = p.network; port = p.id; snat = snat }) }
+led_by r p snat =
+    record r { gateway = Some (record { network = p.network; port = p.id; snat = snat }) }
 
 abbrev pub unled : RouterRow → RouterRow
 unled r = record r { gateway = None }
 
 -- the rows with a gateway's port and the router at a place put with that gateway, and without both
 abbrev pub with_gateway_on : RowLists → ℕ → RouterRow → PortRow → Bool → RowLists
-with_gateway_on rows place r p snat = record rows { ports = rows.ports ++ p ∷ []; routers = slice_set rows.routers place (led_by r p snat) }
+with_gateway_on rows place r p snat = record rows {
+  ports = rows.ports ++ p ∷ [];
+  routers = slice_set rows.routers place (led_by r p snat);
+}
 
 abbrev pub with_gateway_off : RowLists → ℕ → RouterRow → Gateway → RowLists
-with_gateway_off rows place r g = record rows { ports = other_ports g.port rows.ports; routers = slice_set rows.routers place (unled r) }
+with_gateway_off rows place r g = record rows {
+  ports = other_ports g.port rows.ports;
+  routers = slice_set rows.routers place (unled r);
+}
 
 -- a new port, of no project, by which a router without gateway gets one, on a network that is
 -- external to the router's project
@@ -42,8 +49,10 @@ pub record IsNewGateway (rows : RowLists) (r : RouterRow) (p : PortRow) : Type 0
 -- no floating address leads by the router, and its routes lead by its other ports
 pub record IsFreeGateway (rows : RowLists) (r : RouterRow) (g : Gateway) : Type 0 where
   pub gateway : r.gateway ≡ Some g
-  pub unled : list_any (λ f. is_some_so (λ (t : Target). ident_eq r.id t.router) f.target) rows.floatings ≡ false
-  pub reached : list_all (is_reached rows.subnets (other_ports g.port rows.ports) r) r.routes ≡ true
+  pub unled : list_any (λ f. is_some_so (λ (t : Target). ident_eq r.id t.router) f.target)
+      rows.floatings ≡ false
+  pub reached : list_all (is_reached rows.subnets (other_ports g.port rows.ports) r) r.routes
+      ≡ true
 
 -- the rows without a router and its gateway's port, where it has one
 abbrev pub ports_without : Option Gateway → List PortRow → List PortRow
@@ -51,7 +60,10 @@ ports_without None ports = ports
 ports_without (Some g) ports = other_ports g.port ports
 
 abbrev pub without_router : RowLists → RouterRow → RowLists
-without_router rows r = record rows { ports = ports_without r.gateway rows.ports; routers = filter (λ q. not (ident_eq r.id q.id)) rows.routers }
+without_router rows r = record rows {
+  ports = ports_without r.gateway rows.ports;
+  routers = filter (λ q. not (ident_eq r.id q.id)) rows.routers;
+}
 
 -- no port is the router's interface
 abbrev pub HasNoInterface : List PortRow → RouterRow → Type 0

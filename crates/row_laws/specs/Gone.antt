@@ -44,7 +44,8 @@ pub record IsOfNoUse (floatings : List FloatingRow) (p : PortRow) : Type 0 where
   pub no_gateway : is_gateway p.owner ≡ false
   pub no_dhcp : is_dhcp p.owner ≡ false
   pub no_own_port : is_own_port floatings p.id ≡ false
-  pub no_target : list_any (λ f. is_some_so (λ (t : Target). ident_eq p.id t.port) f.target) floatings ≡ false
+  pub no_target : list_any (λ f. is_some_so (λ (t : Target). ident_eq p.id t.port) f.target)
+      floatings ≡ false
 
 -- the rows without a network, its subnets, its policies and the ports on it
 abbrev pub without_network : RowLists → Ident → RowLists
@@ -80,12 +81,21 @@ pub record IsUnusedSubnet (ports : List PortRow) (s : SubnetRow) : Type 0 where
   pub unheld : Each (λ p. holds_in s.id p ≡ false) ports
 
 -- a router that no port names, and by which no floating address leads
-pub record IsUnusedRouter (ports : List PortRow) (floatings : List FloatingRow) (r : RouterRow) : Type 0 where
+pub record IsUnusedRouter (ports : List PortRow) (floatings : List FloatingRow) (r : RouterRow)
+    : Type 0 where
   pub unnamed : Each (λ p. is_port_of r p ≡ false) ports
-  pub unled : list_any (λ f. is_some_so (λ (t : Target). ident_eq r.id t.router) f.target) floatings ≡ false
+  pub unled : list_any (λ f. is_some_so (λ (t : Target). ident_eq r.id t.router) f.target)
+      floatings ≡ false
 
--- by other policies, ports may still be on their networks, and what was permitted to the gateways and the floating addresses that stand still is
+-- by other policies, ports may still be on their networks, and what was permitted to the gateways
+-- and the floating addresses that stand still is
 pub record ArePermittedStill (rows : RowLists) (policies : List PolicyRow) : Type 0 where
-  pub ports : Each (λ p. may_be_there rows.networks rows.policies p ≡ true → may_be_there rows.networks policies p ≡ true) rows.ports
-  pub gateways : Each (λ r. (g : Gateway) → r.gateway ≡ Some g → is_external_to rows.policies g.network r.project ≡ true → is_external_to policies g.network r.project ≡ true) rows.routers
-  pub addresses : Each (λ f. is_external_to rows.policies f.network f.project ≡ true → is_external_to policies f.network f.project ≡ true) rows.floatings
+  pub ports : Each (λ p.
+      may_be_there rows.networks rows.policies p ≡ true
+      → may_be_there rows.networks policies p ≡ true) rows.ports
+  pub gateways : Each (λ r.
+      (g : Gateway) → r.gateway ≡ Some g → is_external_to rows.policies g.network r.project ≡ true
+      → is_external_to policies g.network r.project ≡ true) rows.routers
+  pub addresses : Each (λ f.
+      is_external_to rows.policies f.network f.project ≡ true
+      → is_external_to policies f.network f.project ≡ true) rows.floatings

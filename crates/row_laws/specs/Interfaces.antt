@@ -50,12 +50,15 @@ pub record IsTakenOver (rows : RowLists) (r : RouterRow) (old new : PortRow) : T
 -- a floating address leads by a router, to an address in a subnet of a port
 abbrev pub is_led_through : List SubnetRow → Ident → PortRow → FloatingRow → Bool
 is_led_through subnets router p f =
-    is_some_so (λ (t : Target). ident_eq router t.router && list_any (λ s. holds_in s.id p && contains s.prefix (V4 t.fixed)) subnets) f.target
+    is_some_so (λ (t : Target).
+    ident_eq router t.router
+    && list_any (λ s. holds_in s.id p && contains s.prefix (V4 t.fixed)) subnets) f.target
 
 -- a router's interface that no route needs, and that no floating address leads to or through
 pub record IsFreeInterface (rows : RowLists) (r : RouterRow) (p : PortRow) : Type 0 where
   pub owner : is_interface p.owner ≡ true
   pub mine : is_port_of r p ≡ true
-  pub no_target : list_any (λ f. is_some_so (λ (t : Target). ident_eq p.id t.port) f.target) rows.floatings ≡ false
+  pub no_target : list_any (λ f. is_some_so (λ (t : Target). ident_eq p.id t.port) f.target)
+      rows.floatings ≡ false
   pub unled : list_any (is_led_through rows.subnets r.id p) rows.floatings ≡ false
   pub reached : list_all (is_reached rows.subnets (other_ports p.id rows.ports) r) r.routes ≡ true

@@ -1,4 +1,5 @@
--- A subnet that begins or ends to be leased by DHCP, together with what its network's DHCP port takes or gives back.
+-- A subnet that begins or ends to be leased by DHCP, together with what its network's DHCP port
+-- takes or gives back.
 use Rattle.std.specs.Prelude.{◌≡◌, ◌&&◌, ◌||◌, ◌++◌, ◌∷◌, ℕ, [], Bool, List, true, false, not, filter, slice_set, count_by}
 use Rattle.std.specs.List.{list_any}
 use Rattle.net_addr.specs.Addresses.{addr_eq, is_four}
@@ -23,14 +24,19 @@ use Rattle.row_laws.specs.Replaced.{with_port_at, with_subnet_at, IsReplacedSubn
 
 -- whether a port of the network holds the address
 abbrev pub is_held : List PortRow → Ident → Addr → Bool
-is_held ports network x = list_any (λ p. ident_eq network p.network && list_any (λ (f : Fixed). addr_eq f.address x) p.fixed) ports
+is_held ports network x =
+    list_any
+    (λ p. ident_eq network p.network && list_any (λ (f : Fixed). addr_eq f.address x) p.fixed)
+    ports
 
 -- an address in a subnet
 abbrev pub held_in : SubnetRow → Addr → Fixed
 held_in s x = record { subnet = s.id; address = x }
 
--- a subnet that wasn't leased in place of one that is, and a free address of it for a DHCP port of its network
-pub record BeginsLeased (rows : RowLists) (old new : SubnetRow) (p : PortRow) (x : Addr) : Type 0 where
+-- a subnet that wasn't leased in place of one that is, and a free address of it for a DHCP port of
+-- its network
+pub record BeginsLeased (rows : RowLists) (old new : SubnetRow) (p : PortRow) (x : Addr)
+    : Type 0 where
   pub same : IsReplacedSubnet rows.ports old new
   pub form : is_subnet_form new ≡ true
   pub before : old.dhcp ≡ false
@@ -59,7 +65,8 @@ holding p f = record p { fixed = p.fixed ++ f ∷ [] }
 
 -- the rows with the subnet leased by the DHCP port at a place, or by a new one
 abbrev pub leased_at : RowLists → ℕ → SubnetRow → ℕ → PortRow → Addr → RowLists
-leased_at rows place s k p x = with_port_at (with_subnet_at rows place s) k (holding p (held_in s x))
+leased_at rows place s k p x =
+    with_port_at (with_subnet_at rows place s) k (holding p (held_in s x))
 
 abbrev pub leased_by_new : RowLists → ℕ → SubnetRow → PortRow → Addr → RowLists
 leased_by_new rows place s p x = with_port (with_subnet_at rows place s) (holding p (held_in s x))
@@ -70,16 +77,19 @@ outside subnet fixed = filter (λ (f : Fixed). not (ident_eq subnet f.subnet)) f
 
 -- a floating address that leads to the port leads to an address that is kept
 abbrev pub leads_to_kept : Ident → List Fixed → Target → Bool
-leads_to_kept port kept t = not (ident_eq t.port port) || list_any (λ (f : Fixed). is_four f.address t.fixed) kept
+leads_to_kept port kept t =
+    not (ident_eq t.port port) || list_any (λ (f : Fixed). is_four f.address t.fixed) kept
 
--- a subnet that was leased in place of one that isn't, and its network's DHCP port, to whose addresses there nothing leads
+-- a subnet that was leased in place of one that isn't, and its network's DHCP port, to whose
+-- addresses there nothing leads
 pub record EndsLeased (rows : RowLists) (old new : SubnetRow) (p : PortRow) : Type 0 where
   pub same : IsReplacedSubnet rows.ports old new
   pub form : is_subnet_form new ≡ true
   pub before : old.dhcp ≡ true
   pub after : new.dhcp ≡ false
   pub service : is_dhcp_of old.network p ≡ true
-  pub targets : Each (λ f. if_some (leads_to_kept p.id (outside old.id p.fixed)) f.target ≡ true) rows.floatings
+  pub targets : Each (λ f. if_some (leads_to_kept p.id (outside old.id p.fixed)) f.target ≡ true)
+      rows.floatings
 
 -- the ports with the one at a place keeping these addresses, or without it where there is none
 abbrev pub ports_left : List PortRow → ℕ → PortRow → List Fixed → List PortRow
@@ -87,4 +97,5 @@ ports_left ports k p [] = filter (λ q. not (ident_eq p.id q.id)) ports
 ports_left ports k p (f ∷ left) = slice_set ports k (record p { fixed = f ∷ left })
 
 abbrev pub unleased_at : RowLists → ℕ → SubnetRow → ℕ → PortRow → List Fixed → RowLists
-unleased_at rows place s k p left = record (with_subnet_at rows place s) { ports = ports_left rows.ports k p left }
+unleased_at rows place s k p left =
+    record (with_subnet_at rows place s) { ports = ports_left rows.ports k p left }

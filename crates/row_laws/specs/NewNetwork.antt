@@ -9,7 +9,8 @@ use Rattle.api_types.specs.declared.network.NetworkRow.{NetworkRow}
 use Rattle.row_laws.specs.NewRows.{IsAlone}
 
 -- a network of the project that has the first id that was drawn, and a segment that no network has
-pub record IsMadeNetwork (rows : RowLists) (name : Text) (d : Drawing) (n : NetworkRow) : Type 0 where
+pub record IsMadeNetwork (rows : RowLists) (name : Text) (d : Drawing) (n : NetworkRow)
+    : Type 0 where
   pub id : n.id ≡ drawn_id d 0
   pub project : n.project ≡ name
   pub segment : is_segment n.segment ≡ true

@@ -52,7 +52,9 @@ with_policy rows r = record rows { policies = rows.policies ++ r ∷ [] }
 
 -- a segment that no network has
 abbrev pub IsAlone : List NetworkRow → Segment → Type 0
-IsAlone networks own = (segment : Segment) → same_segment segment own ≡ true → count_by (λ n. same_segment segment n.segment) networks ≡ 0
+IsAlone networks own =
+    (segment : Segment) → same_segment segment own ≡ true
+    → count_by (λ n. same_segment segment n.segment) networks ≡ 0
 
 pub record IsNewNetwork (rows : RowLists) (n : NetworkRow) : Type 0 where
   pub fresh : times_in rows n.id ≡ 0
@@ -81,7 +83,8 @@ pub record IsNewPort (rows : RowLists) (p : PortRow) : Type 0 where
   pub no_dhcp : is_dhcp p.owner ≡ false
   pub form : is_port_form p ≡ true
   pub mac : count_by (has_mac p.network p.mac) rows.ports ≡ 0
-  pub addresses : (x : Addr) → sum_by (holds_times p.network x) rows.ports + holds_times p.network x p ≤ 1
+  pub addresses : (x : Addr)
+      → sum_by (holds_times p.network x) rows.ports + holds_times p.network x p ≤ 1
   pub subnets : list_all (names_subnet rows.subnets p) p.fixed ≡ true
   pub hosts : list_all (is_host_in rows.subnets p) p.fixed ≡ true
   pub groups : list_all (is_group_of rows.groups p.project) p.groups ≡ true

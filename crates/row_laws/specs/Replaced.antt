@@ -61,7 +61,9 @@ pub record IsRenamedNetwork (old new : NetworkRow) : Type 0 where
 
 -- where the address is the floating address's target, the port still holds it in the same subnet
 abbrev pub is_held_still : PortRow → Target → Fixed → Bool
-is_held_still new t x = not (is_four x.address t.fixed) || list_any (λ (y : Fixed). is_four y.address t.fixed && ident_eq x.subnet y.subnet) new.fixed
+is_held_still new t x =
+    not (is_four x.address t.fixed)
+    || list_any (λ (y : Fixed). is_four y.address t.fixed && ident_eq x.subnet y.subnet) new.fixed
 
 -- an owner that is no service's
 pub record ServesNothing (owner : Text) : Type 0 where
@@ -70,7 +72,8 @@ pub record ServesNothing (owner : Text) : Type 0 where
   pub no_dhcp : is_dhcp owner ≡ false
   pub no_floating : is_floating owner ≡ false
 
--- the port of no service in place of an old one: what never changes, and what has to hold of what does
+-- the port of no service in place of an old one: what never changes, and what has to hold of what
+-- does
 pub record IsReplacedPort (rows : RowLists) (place : ℕ) (old new : PortRow) : Type 0 where
   pub id : new.id ≡ old.id
   pub network : new.network ≡ old.network
@@ -84,7 +87,10 @@ pub record IsReplacedPort (rows : RowLists) (place : ℕ) (old new : PortRow) : 
   pub hosts : list_all (is_host_in rows.subnets new) new.fixed ≡ true
   pub groups : list_all (is_group_of rows.groups new.project) new.groups ≡ true
   pub bare : new.secured || (is_empty new.groups && is_empty new.pairs) ≡ true
-  pub targets : Each (λ f. if_some (λ (t : Target). not (ident_eq t.port old.id) || list_all (is_held_still new t) old.fixed) f.target ≡ true) rows.floatings
+  pub targets : Each (λ f.
+      if_some
+      (λ (t : Target). not (ident_eq t.port old.id) || list_all (is_held_still new t) old.fixed)
+      f.target ≡ true) rows.floatings
 
 -- two ports, of any owner, that differ in name and description alone
 pub record IsRenamedPort (old new : PortRow) : Type 0 where
@@ -103,10 +109,12 @@ pub record IsRenamedPort (old new : PortRow) : Type 0 where
   pub vif : new.vif ≡ old.vif
   pub by_admin : new.by_admin ≡ old.by_admin
 
--- an address that the port holds in the old subnet is one that it may hold in the new one: where ports make their addresses of their MACs,
--- a gateway that a router's interface holds stays
+-- an address that the port holds in the old subnet is one that it may hold in the new one: where
+-- ports make their addresses of their MACs, a gateway that a router's interface holds stays
 abbrev pub is_owned_still : SubnetRow → SubnetRow → PortRow → Fixed → Bool
-is_owned_still old new p x = not (ident_eq x.subnet old.id) || (not (is_own_address p x.address old) || is_own_address p x.address new)
+is_owned_still old new p x =
+    not (ident_eq x.subnet old.id)
+    || (not (is_own_address p x.address old) || is_own_address p x.address new)
 
 -- two subnets of one network that differ in name, description, gateway, pools and what DHCP tells
 pub record IsReplacedSubnet (ports : List PortRow) (old new : SubnetRow) : Type 0 where
@@ -152,9 +160,11 @@ pub record IsReplacedFloating (old new : FloatingRow) : Type 0 where
 -- a floating address that leads in order or nowhere, and alone
 pub record IsRedirected (rows : RowLists) (place : ℕ) (new : FloatingRow) : Type 0 where
   pub leads : if_some (leads_to rows.ports rows.routers new) new.target ≡ true
-  pub once : (network port : Ident) (x : ℕ) → count_by (stands_for network port x) (slice_set rows.floatings place new) ≤ 1
+  pub once : (network port : Ident) (x : ℕ)
+      → count_by (stands_for network port x) (slice_set rows.floatings place new) ≤ 1
 
--- a policy of the same project and network in place of an old one, by which what was permitted to rows that stand still is
+-- a policy of the same project and network in place of an old one, by which what was permitted to
+-- rows that stand still is
 pub record IsRetargetedPolicy (rows : RowLists) (place : ℕ) (old new : PolicyRow) : Type 0 where
   pub id : new.id ≡ old.id
   pub project : new.project ≡ old.project
@@ -162,7 +172,8 @@ pub record IsRetargetedPolicy (rows : RowLists) (place : ℕ) (old new : PolicyR
   pub once : (p : PolicyRow) → count_by (same_policy p) (slice_set rows.policies place new) ≤ 1
   pub permitted : ArePermittedStill rows (slice_set rows.policies place new)
 
--- a gateway on the same network by the same port, whatever its address translation, or none as before
+-- a gateway on the same network by the same port, whatever its address translation, or none as
+-- before
 abbrev pub gateways_agree : Option Gateway → Option Gateway → Bool
 gateways_agree None None = true
 gateways_agree (Some g) (Some h) = ident_eq g.network h.network && ident_eq g.port h.port

@@ -25,16 +25,19 @@ pub record IsServicePort (rows : RowLists) (p : PortRow) : Type 0 where
   pub network : is_network rows.networks p.network ≡ true
   pub form : is_port_form p ≡ true
   pub mac : count_by (has_mac p.network p.mac) rows.ports ≡ 0
-  pub addresses : (x : Addr) → sum_by (holds_times p.network x) rows.ports + holds_times p.network x p ≤ 1
+  pub addresses : (x : Addr)
+      → sum_by (holds_times p.network x) rows.ports + holds_times p.network x p ≤ 1
   pub subnets : list_all (names_subnet rows.subnets p) p.fixed ≡ true
   pub hosts : list_all (is_host_in rows.subnets p) p.fixed ≡ true
   pub unsecured : p.secured ≡ false
   pub ungrouped : p.groups ≡ []
   pub unpaired : p.pairs ≡ []
 
--- a port stands at a router: it names it, is bound on its host, and reaches no subnet that overlaps
--- one of another port there
+-- a port stands at a router: it names it, is bound on its host, and reaches no subnet that
+-- overlaps one of another port there
 pub record IsPortAt (rows : RowLists) (r : RouterRow) (p : PortRow) : Type 0 where
   pub device : p.device ≡ ident_text r.id
   pub host : not (is_bound p.vif) || is_some_so (bytes_eq p.host) r.host ≡ true
-  pub apart : Each (λ q. is_port_of r q ≡ true → (reach_alike rows.subnets q p ≡ false) × (reach_alike rows.subnets p q ≡ false)) rows.ports
+  pub apart : Each (λ q.
+      is_port_of r q ≡ true
+      → (reach_alike rows.subnets q p ≡ false) × (reach_alike rows.subnets p q ≡ false)) rows.ports

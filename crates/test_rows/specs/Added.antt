@@ -6,4 +6,5 @@ use Rattle.api_types.specs.declared.kind.Kind.{Kind}
 use Rattle.api_types.specs.declared.kind.Row.{Row}
 
 abbrev pub CanBeAdded : RowLists → Row → Kind → ℕ → Type 0
-CanBeAdded rows row kind place = FitsItem rows (record { kind = kind; place = place; before = None; after = Some row })
+CanBeAdded rows row kind place =
+    FitsItem rows (record { kind = kind; place = place; before = None; after = Some row })

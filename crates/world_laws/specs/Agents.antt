@@ -22,7 +22,14 @@ pub record Agent : Type 0 where
   pub entries : List Entry
 
 abbrev pub agent_of : Node → Agent
-agent_of n = record { name = n.name; held = n.held; version = n.version; rows = n.rows; tables = n.tables; entries = n.entries }
+agent_of n = record {
+  name = n.name;
+  held = n.held;
+  version = n.version;
+  rows = n.rows;
+  tables = n.tables;
+  entries = n.entries;
+}
 
 -- as frames see it
 abbrev pub seat : Agent → Host
@@ -30,9 +37,17 @@ seat a = record { name = a.name; tables = a.tables; entries = a.entries }
 
 -- given its first rows, at a version that it then holds
 abbrev pub first_agent : RowLists → ℕ → List ℕ → Agent
-first_agent rows version name = record { name = name; held = Some version; version = version; rows = rows; tables = tables_of_rows rows name []; entries = [] }
+first_agent rows version name = record {
+  name = name;
+  held = Some version;
+  version = version;
+  rows = rows;
+  tables = tables_of_rows rows name [];
+  entries = [];
+}
 
--- given the rows of a version: networks keep their tags, and entries without a tap or router in the new tables go
+-- given the rows of a version: networks keep their tags, and entries without a tap or router in
+-- the new tables go
 abbrev pub rewired : ℕ → RowLists → Agent → Agent
 rewired version rows a = record {
   name = a.name;

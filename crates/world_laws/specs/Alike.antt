@@ -1,4 +1,5 @@
--- Worlds with the same settings, hosts and rows, now and at each version that can be told, whatever changes led there.
+-- Worlds with the same settings, hosts and rows, now and at each version that can be told,
+-- whatever changes led there.
 use Rattle.std.specs.Prelude.{◌≡◌, ℕ, ◌+◌, ◌≤◌, Bool, true, false, length}
 use Rattle.bus_core.specs.History.{first_kept, rows_at}
 use Rattle.world_laws.specs.Steps.{Accept, Deliver, Forget, Resync, Restart, Send, Settle, Step}
@@ -10,7 +11,8 @@ pub record AreAlike (w v : World) : Type 0 where
   pub rows : w.history.rows ≡ v.history.rows
   pub version : w.history.version ≡ v.history.version
   pub kept : length w.history.kept ≡ length v.history.kept
-  pub told : (k : ℕ) → first_kept w.history ≤ k + 1 → k ≤ w.history.version → rows_at w.history k ≡ rows_at v.history k
+  pub told : (k : ℕ) → first_kept w.history ≤ k + 1 → k ≤ w.history.version
+      → rows_at w.history k ≡ rows_at v.history k
   pub agents : w.agents ≡ v.agents
 
 abbrev pub accepts : Step → Bool

@@ -10,7 +10,8 @@ use Rattle.bus_core.specs.History.{History, IsHistory, first_kept, rows_at}
 use Rattle.world_laws.specs.Agents.{Agent, seat}
 use Rattle.world_laws.specs.World.{AreSound, World}
 
--- the wired rows are sound, and are those of their version while these can be told; what is held is their version
+-- the wired rows are sound, and are those of their version while these can be told; what is held
+-- is their version
 pub record IsLed (settings : SettingsParts) (h : History) (a : Agent) : Type 0 where
   pub held : (v : ℕ) → a.held ≡ Some v → v ≡ a.version
   pub version : a.version ≤ h.version

@@ -13,7 +13,8 @@ use Rattle.bus_core.specs.History.{History, accepted, change_at}
 use Rattle.world_laws.specs.World.{AreSound, World, seats}
 
 pub data Step : Type 0 where
-  -- a change is accepted; in automatic delivery each host is told it but those of these names, which found no memory
+  -- a change is accepted; in automatic delivery each host is told it but those of these names,
+  -- which found no memory
   Accept : List (List ℕ) → List Item → Step
   -- a host is told the change with a number
   Deliver : List ℕ → ℕ → Step
@@ -32,14 +33,18 @@ at_host name f agents = map (λ (a : Agent). if bytes_eq name a.name then f a el
 
 -- each host but those that are left out, in order
 abbrev pub tell_all : List (List ℕ) → ℕ → List Item → List Agent → List Agent
-tell_all left_out n c agents = map (λ (a : Agent). if is_among left_out a.name then a else told n c a) agents
+tell_all left_out n c agents =
+    map (λ (a : Agent). if is_among left_out a.name then a else told n c a) agents
 
 abbrev pub deliver_by : Bool → List (List ℕ) → ℕ → List Item → List Agent → List Agent
 deliver_by true left_out n c agents = agents
 deliver_by false left_out n c agents = tell_all left_out n c agents
 
 abbrev pub accept : World → List (List ℕ) → List Item → World
-accept w left_out c = record w { history = accepted w.history c; agents = deliver_by w.manual left_out (w.history.version + 1) c w.agents }
+accept w left_out c = record w {
+  history = accepted w.history c;
+  agents = deliver_by w.manual left_out (w.history.version + 1) c w.agents;
+}
 
 -- a change that is no longer kept, or not yet, reaches nobody
 abbrev pub deliver_kept : World → List ℕ → ℕ → Option (List Item) → World
@@ -56,16 +61,20 @@ settled h a = if holds h.version a.held then a else rewired h.version h.rows a
 -- each entry that an event made is added at the host that made it
 abbrev pub add_from : ℕ → List Agent → List Made → List Agent
 add_from place [] fresh = []
-add_from place (a ∷ rest) fresh = record a { entries = a.entries ++ filter_map (made_at place) fresh } ∷ add_from (suc place) rest fresh
+add_from place (a ∷ rest) fresh =
+    record a { entries = a.entries ++ filter_map (made_at place) fresh }
+    ∷ add_from (suc place) rest fresh
 
 abbrev pub step : World → Step → World
 step w (Accept left_out c) = accept w left_out c
 step w (Deliver name n) = deliver_kept w name n (change_at w.history n)
-step w (Resync name) = record w { agents = at_host name (rewired w.history.version w.history.rows) w.agents }
+step w (Resync name) =
+    record w { agents = at_host name (rewired w.history.version w.history.rows) w.agents }
 step w (Restart name) = record w { agents = at_host name restarted w.agents }
 step w (Forget name) = record w { agents = at_host name forgotten w.agents }
 step w Settle = record w { agents = map (settled w.history) w.agents }
-step w (Send event) = record w { agents = add_from 0 w.agents (fabric_verdict (seats w) event).fresh }
+step w (Send event) =
+    record w { agents = add_from 0 w.agents (fabric_verdict (seats w) event).fresh }
 
 -- an accepted change fits the rows and leads to sound ones; the other steps are free
 abbrev pub May : World → Step → Type 0

@@ -1,4 +1,5 @@
--- The world: the settings and the delivery, the rows with the last changes that led to them, and each host's agents.
+-- The world: the settings and the delivery, the rows with the last changes that led to them, and
+-- each host's agents.
 use Rattle.std.specs.Prelude.{◌≡◌, Bool, List, Some, map}
 use Rattle.api_types.specs.Consistent.{IsConsistent}
 use Rattle.api_types.specs.Consistent.Carried.{AreCarried}
@@ -23,7 +24,8 @@ pub record World : Type 0 where
 abbrev pub seats : World → List Host
 seats w = map seat w.agents
 
--- consistent rows, as the types of their values have them, each bound port of which is on a host that can carry its network
+-- consistent rows, as the types of their values have them, each bound port of which is on a host
+-- that can carry its network
 pub record AreSound (settings : SettingsParts) (rows : RowLists) : Type 0 where
   pub consistent : IsConsistent rows
   pub typed : AreTyped rows

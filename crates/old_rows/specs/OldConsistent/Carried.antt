@@ -9,4 +9,6 @@ use Rattle.old_rows.specs.declared.port.OldPort.{OldPort}
 use Rattle.old_rows.specs.declared.router.OldRouter.{OldRouter}
 
 pub record AreOnHosts (ports : List OldPort) (routers : List OldRouter) : Type 0 where
-  pub at_router : Pass (λ p. not (is_bound p.vif) || list_all (λ r. not (is_port_of r p) || is_some_so (bytes_eq p.host) r.host) routers) ports
+  pub at_router : Pass (λ p.
+      not (is_bound p.vif)
+      || list_all (λ r. not (is_port_of r p) || is_some_so (bytes_eq p.host) r.host) routers) ports

@@ -11,7 +11,8 @@ has_mac network mac p = ident_eq network p.network && (p.mac == mac)
 
 -- how often a port holds an address of a network
 abbrev pub holds_times : Ident → ℕ → OldPort → ℕ
-holds_times network x p = cond (ident_eq network p.network) (count_by (λ (f : Fixed4). f.address == x) p.fixed) 0
+holds_times network x p =
+    cond (ident_eq network p.network) (count_by (λ (f : Fixed4). f.address == x) p.fixed) 0
 
 pub record AreHeldOnce (ports : List OldPort) : Type 0 where
   pub macs : (network : Ident) (mac : MacAddress) → count_by (has_mac network mac) ports ≤ 1

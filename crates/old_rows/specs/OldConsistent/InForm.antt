@@ -1,4 +1,5 @@
--- Each row is in form: who owns it, which addresses and numbers it has, and how long its lists are.
+-- Each row is in form: who owns it, which addresses and numbers it has, and how long its lists
+-- are.
 use Rattle.std.specs.Prelude.{◌&&◌, ◌||◌, not, nat_le, Bool, true, List, [], ◌∷◌, length}
 use Rattle.std.specs.List.{list_all}
 use Rattle.net_addr.specs.Macs.{is_unicast}
@@ -12,7 +13,9 @@ use Rattle.old_rows.specs.declared.port.OldPort.{OldPort}
 
 -- a pool is a span of host addresses without the gateway
 abbrev pub is_pool : OldSubnet → Span → Bool
-is_pool s pool = is_host_of s.prefix pool.first && is_host_of s.prefix pool.last && if_some (λ g. not (is_within pool g)) s.gateway
+is_pool s pool =
+    is_host_of s.prefix pool.first && is_host_of s.prefix pool.last
+    && if_some (λ g. not (is_within pool g)) s.gateway
 
 -- no address is in two of the spans
 abbrev pub all_apart : List Span → Bool
@@ -29,13 +32,15 @@ is_subnet_form s =
 abbrev pub is_port_form : OldPort → Bool
 is_port_form p =
     is_unicast p.mac && list_all (λ pair. is_unicast pair.mac) p.pairs
-    && (nat_le (length p.fixed) 5 || is_dhcp p.owner) && nat_le (length p.pairs) 10 && nat_le (length p.groups) 20
+    && (nat_le (length p.fixed) 5 || is_dhcp p.owner) && nat_le (length p.pairs) 10
+    && nat_le (length p.groups) 20
 
 pub record AreInForm (old : OldLists) : Type 0 where
   pub segments : Pass (λ n. is_segment n.segment) old.networks
   pub subnet_owners : Pass (λ s. is_network_of old.networks s.project s.network) old.subnets
   pub subnet_forms : Pass is_subnet_form old.subnets
-  pub dhcp_owners : Pass (λ p. not (is_dhcp p.owner) || is_network_of old.networks p.project p.network) old.ports
+  pub dhcp_owners : Pass
+      (λ p. not (is_dhcp p.owner) || is_network_of old.networks p.project p.network) old.ports
   pub port_forms : Pass is_port_form old.ports
   pub rule_owners : Pass (λ r. is_group_of old.groups r.project r.group) old.rules
   pub routes : Pass (λ r. nat_le (length r.routes) 30) old.routers

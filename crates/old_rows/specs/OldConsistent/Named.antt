@@ -22,24 +22,30 @@ is_router routers i = stands (λ r. r.id) i routers
 
 -- a fixed address names a subnet of the port's network
 abbrev pub names_subnet : List OldSubnet → OldPort → Fixed4 → Bool
-names_subnet subnets port fixed = stands_so (λ s. s.id) fixed.subnet (λ s. ident_eq s.network port.network) subnets
+names_subnet subnets port fixed =
+    stands_so (λ s. s.id) fixed.subnet (λ s. ident_eq s.network port.network) subnets
 
--- a gateway port and a floating address's own port have the empty project, and any other a registered one
+-- a gateway port and a floating address's own port have the empty project, and any other a
+-- registered one
 abbrev pub port_project_stands : OldLists → OldPort → Bool
 port_project_stands old p =
-    cond (is_gateway p.owner || is_own_port old.floatings p.id) (is_empty p.project) (is_registered old.projects p.project)
+    cond (is_gateway p.owner || is_own_port old.floatings p.id) (is_empty p.project)
+    (is_registered old.projects p.project)
 
 pub record NetworksStand (old : OldLists) : Type 0 where
   pub of_subnets : Pass (λ s. is_network old.networks s.network) old.subnets
   pub of_ports : Pass (λ p. is_network old.networks p.network) old.ports
-  pub of_gateways : Pass (λ r. if_some (λ (g : Gateway). is_network old.networks g.network) r.gateway) old.routers
+  pub of_gateways : Pass
+      (λ r. if_some (λ (g : Gateway). is_network old.networks g.network) r.gateway) old.routers
   pub of_floatings : Pass (λ f. is_network old.networks f.network) old.floatings
   pub of_policies : Pass (λ p. is_network old.networks p.object) old.policies
 
 pub record PortsStand (old : OldLists) : Type 0 where
-  pub of_gateways : Pass (λ r. if_some (λ (g : Gateway). is_port old.ports g.port) r.gateway) old.routers
+  pub of_gateways : Pass (λ r. if_some (λ (g : Gateway). is_port old.ports g.port) r.gateway)
+      old.routers
   pub of_floatings : Pass (λ f. is_port old.ports f.own_port) old.floatings
-  pub of_targets : Pass (λ f. if_some (λ (t : Target). is_port old.ports t.port) f.target) old.floatings
+  pub of_targets : Pass (λ f. if_some (λ (t : Target). is_port old.ports t.port) f.target)
+      old.floatings
 
 pub record GroupsStand (old : OldLists) : Type 0 where
   pub of_ports : Pass (λ p. list_all (is_group old.groups) p.groups) old.ports
@@ -61,5 +67,6 @@ pub record NamesStand (old : OldLists) : Type 0 where
   pub subnets : Pass (λ p. list_all (names_subnet old.subnets p) p.fixed) old.ports
   pub ports : PortsStand old
   pub groups : GroupsStand old
-  pub routers : Pass (λ f. if_some (λ (t : Target). is_router old.routers t.router) f.target) old.floatings
+  pub routers : Pass (λ f. if_some (λ (t : Target). is_router old.routers t.router) f.target)
+      old.floatings
   pub projects : ProjectsStand old

@@ -11,7 +11,11 @@ use Rattle.old_rows.specs.declared.router.OldRouter.{OldRouter}
 
 -- a port of the router holds an address in a subnet that contains the next hop
 abbrev pub is_reached : List OldSubnet → List OldPort → OldRouter → Hop4 → Bool
-is_reached subnets ports r hop = list_any (λ p. is_port_of r p && list_any (λ s. holds_in s.id p && contains s.prefix hop.next) subnets) ports
+is_reached subnets ports r hop =
+    list_any
+    (λ p. is_port_of r p && list_any (λ s. holds_in s.id p && contains s.prefix hop.next) subnets)
+    ports
 
-pub record RoutesLead (subnets : List OldSubnet) (ports : List OldPort) (routers : List OldRouter) : Type 0 where
+pub record RoutesLead (subnets : List OldSubnet) (ports : List OldPort) (routers : List OldRouter)
+    : Type 0 where
   pub routes : Pass (λ r. list_all (is_reached subnets ports r) r.routes) routers

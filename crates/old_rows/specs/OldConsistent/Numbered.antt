@@ -1,4 +1,5 @@
--- Projects are named and numbered in order, and each row has an id of its own that its project drew.
+-- Projects are named and numbered in order, and each row has an id of its own that its project
+-- drew.
 use Rattle.std.specs.Prelude.{ℕ, ◌+◌, ◌≤◌}
 use Rattle.api_types.specs.Ident.{Ident}
 use Rattle.api_types.specs.Lists.{Pass, times}
@@ -8,8 +9,10 @@ use Rattle.old_rows.specs.OldLists.{OldLists}
 -- how many rows of all kinds but projects have this id
 abbrev pub times_in : OldLists → Ident → ℕ
 times_in old i =
-    times (λ r. r.id) i old.networks + times (λ r. r.id) i old.subnets + times (λ r. r.id) i old.ports + times (λ r. r.id) i old.groups
-    + times (λ r. r.id) i old.rules + times (λ r. r.id) i old.routers + times (λ r. r.id) i old.floatings + times (λ r. r.id) i old.policies
+    times (λ r. r.id) i old.networks + times (λ r. r.id) i old.subnets
+    + times (λ r. r.id) i old.ports + times (λ r. r.id) i old.groups
+    + times (λ r. r.id) i old.rules + times (λ r. r.id) i old.routers
+    + times (λ r. r.id) i old.floatings + times (λ r. r.id) i old.policies
 
 pub record AreDrawn (old : OldLists) : Type 0 where
   pub networks : Pass (λ r. is_drawn old.projects r.id) old.networks

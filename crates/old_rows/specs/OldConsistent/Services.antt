@@ -38,8 +38,10 @@ abbrev pub is_leased : List OldSubnet → Fixed4 → Bool
 is_leased subnets f = stands_so (λ s. s.id) f.subnet (λ s. s.dhcp) subnets
 
 -- a network has its DHCP port, and no second one, exactly where a subnet of it is leased by DHCP
-pub record DhcpPortsServe (networks : List NetworkRow) (subnets : List OldSubnet) (ports : List OldPort) : Type 0 where
-  pub there : Each (λ n. count_by (is_dhcp_of n.id) ports ≡ cond (wants_dhcp subnets n.id) 1 0) networks
+pub record DhcpPortsServe (networks : List NetworkRow) (subnets : List OldSubnet)
+    (ports : List OldPort) : Type 0 where
+  pub there : Each (λ n. count_by (is_dhcp_of n.id) ports ≡ cond (wants_dhcp subnets n.id) 1 0)
+      networks
   pub holds : Pass (λ p. not (is_dhcp p.owner) || list_all (leases p) subnets) ports
   pub no_other : Pass (λ p. not (is_dhcp p.owner) || list_all (is_leased subnets) p.fixed) ports
   pub unsecured : Pass (λ p. not (is_dhcp p.owner) || not p.secured) ports
@@ -50,11 +52,14 @@ abbrev pub is_gateway_of : Ident → OldPort → Bool
 is_gateway_of router p = is_gateway p.owner && device_is p.device router
 
 abbrev pub is_named_gateway : OldRouter → Gateway → OldPort → Bool
-is_named_gateway r g p = is_gateway_of r.id p && (ident_eq g.network p.network && ident_eq g.port p.id)
+is_named_gateway r g p =
+    is_gateway_of r.id p && (ident_eq g.network p.network && ident_eq g.port p.id)
 
--- a router's ports by owner name a router that is there; a router has one gateway port, that which it names, exactly where it has a gateway
+-- a router's ports by owner name a router that is there; a router has one gateway port, that which
+-- it names, exactly where it has a gateway
 pub record RouterPortsServe (ports : List OldPort) (routers : List OldRouter) : Type 0 where
-  pub devices : Pass (λ p. not (is_router_port p.owner) || list_any (λ r. is_port_of r p) routers) ports
+  pub devices : Pass (λ p. not (is_router_port p.owner) || list_any (λ r. is_port_of r p) routers)
+      ports
   pub interfaces : Pass (λ p. not (is_interface p.owner) || is_one p.fixed) ports
   pub gateways : Pass (λ p. not (is_gateway p.owner) || not (is_empty p.fixed)) ports
   pub unsecured : Pass (λ p. not (is_router_port p.owner) || not p.secured) ports
@@ -69,7 +74,9 @@ holds_just x _ = false
 
 -- on the floating address's network, with the owner, with just the address, and unbound
 abbrev pub is_port_for : FloatingRow → OldPort → Bool
-is_port_for f p = ident_eq f.network p.network && is_floating p.owner && holds_just f.address p.fixed && is_unbound p.vif
+is_port_for f p =
+    ident_eq f.network p.network && is_floating p.owner && holds_just f.address p.fixed
+    && is_unbound p.vif
 
 pub record OwnPortsServe (ports : List OldPort) (floatings : List FloatingRow) : Type 0 where
   pub once : (i : Ident) → count_by (λ f. ident_eq i f.own_port) floatings ≤ 1
