@@ -1,14 +1,15 @@
 -- What a session promises. Begin here.
 --
--- Whole requests are answered once each, in their order, each by one whole reply (`Serves`).
--- Where the store fails to keep a change, or memory runs out, the reply says so and nothing has
--- moved; out of memory may come in place of any reply. Each other request is promised what
--- follows: the reply and the rows are those of the machine of the Networking API; a tenant's
--- reply depends on its footing alone; and after any messages that hosts missed, got twice or lost
--- in a restart, whenever every host holds the current version, each frame that is sent through the
--- tables has exactly the outcome, path and tracked entries that the rows give. Then two laws hold
--- of what frames do: they cross between networks at routers alone and end where their path ends;
--- and secured ports let in and out what their groups and guards allow, and answers to it.
+-- Whole requests are answered once each, in order, each by one whole reply (`Serves`). When the
+-- store fails to keep a change, or memory runs out, the reply says so and nothing has changed;
+-- any reply may be replaced by one that says out of memory. Each other request is promised what
+-- follows. The reply and the rows are those of the machine of the Networking API. A tenant's
+-- reply depends only on its footing. After any messages that hosts missed, got twice or lost in a
+-- restart, whenever every host has the current version, each frame that is sent through the
+-- tables has exactly the outcome, path and tracked entries that the rows give. Two laws of frames
+-- hold then: a frame crosses between networks only at routers, and ends on the last network of
+-- its path; a secured port lets in and out only what its groups and its guard allow, and answers
+-- to that.
 use Rattle.std.specs.Prelude.{◌≡◌, ℕ, ◌+◌, ◌≤◌, Bool, true, false, List, Ok, None, Some, map}
 use Rattle.net_addr.specs.Words.{Bytes, Version}
 use Rattle.api_types.specs.Consistent.{IsConsistent}
@@ -41,12 +42,12 @@ use Rattle.neutron_serve.specs.Replies.{lab_bytes, outcome_bytes}
 use Rattle.neutron_serve.specs.Requests.{request_of}
 use Rattle.neutron_serve.specs.Steps.{Steps, fixed_replies, request_outcome}
 
--- the reply tells what the hosts' tables make of an event. Where every host holds the current
--- version these are the outcome, path and entries that the rows give, hosts left aside; the path
--- crosses between networks at routers alone, and what is delivered, absorbed or sent out by a
--- wire ends on the last network of the path; what is delivered to a secured port is allowed in by
--- a rule of its groups, or answers what a rule lets out; and what a secured port sends and isn't
--- dropped passed its guard, and is allowed out or answers
+-- the reply tells what the hosts' tables make of an event. Where every host has the current
+-- version these are the outcome, path and entries that the rows give, hosts left aside. The path
+-- crosses between networks only at routers, and what is delivered, absorbed or sent out by a wire
+-- ends on its last network. What is delivered to a secured port is allowed in by a rule of its
+-- groups, or answers what a rule lets out. What a secured port sends and isn't dropped passed its
+-- guard, and is allowed out by a rule, or answers what a rule lets in
 pub record FrameTold (world : World) (event : Event) (close : Bool) (reply : Bytes) : Type 0 where
   pub told : reply ≡ lab_bytes close (Seen (fabric_verdict (seats world) event))
   pub means : IsSynced world
@@ -58,8 +59,8 @@ pub record FrameTold (world : World) (event : Event) (close : Bool) (reply : Byt
   pub lets_out : IsSynced world
       → IsLetOut world.history.rows event (fabric_verdict (seats world) event)
 
--- where every host holds the current version, so it is with events one after the other, of which
--- each sees the entries that those before it made; and they leave it so
+-- where every host has the current version, so it is with events one after the other, each of
+-- which sees the entries that the earlier ones made; and they leave it so
 pub record FramesTold (world : World) : Type 0 where
   pub means : IsSynced world → (events : List Event)
       → map without_hosts (fabric_verdicts (seats world) events)
@@ -74,9 +75,9 @@ pub record FramesTold (world : World) : Type 0 where
       → seats (step world (Send event)) ≡ hosts_after (seats world) event
   pub stays : IsSynced world → (event : Event) → IsSynced (step world (Send event))
 
--- a host that holds a version, while the change behind it is kept, has the rows of that version,
--- and one that holds the current version has the current rows; its tables are those that its rows
--- give to it, also while it is behind or holds nothing
+-- a host that has a version, while the change after it is kept, has the rows of that version, and
+-- one that has the current version has the current rows; its tables are those that its rows give
+-- to it, also while it lags or holds nothing
 pub record HostsFollow (world : World) : Type 0 where
   pub told : Each (λ (a : Agent).
       (v : Version) → a.held ≡ Some v → first_kept world.history ≤ v + 1
@@ -101,7 +102,7 @@ pub record Promised (old : World) (asked : Asked) (reply : Bytes) (new : World) 
   -- them
   pub world : IsWorld old
   pub hosts : HostsFollow old
-  -- a frame that it sends goes by the hosts' tables, and, where they hold the current version,
+  -- a frame that it sends goes by the hosts' tables, and, where they have the current version,
   -- comes to what the rows say, by the two laws of frames
   pub frame : (caller : Caller) (event : Event)
       → request_of asked ≡ Ok (caller, Lab (Frames event))
@@ -118,7 +119,7 @@ pub record Promised (old : World) (asked : Asked) (reply : Bytes) (new : World) 
   -- a refusal leaves all as it was
   pub refused : is_refusal (request_outcome old (request_of asked)) ≡ true → new ≡ old
 
--- a session of at most so many bytes, from one moment to another, behind which hosts follow still
+-- a session of at most so many bytes, from one moment to another, after which hosts follow still
 pub record Promises (limit : ℕ) (old new : Moment World) (end : SessionEnd) : Type 0 where
   pub serves : Serves Promised fixed_replies limit old new end
   pub world : IsWorld new.world

@@ -26,7 +26,6 @@ use Rattle.plane_types.specs.Packets.{Packet, ip_frame}
 use Rattle.plane_types.specs.Places.{Bridge, End, Next, Place, Step, ToTunnel, ToWire, TunnelIn, WireIn}
 use Rattle.plane_types.specs.TableRows.{bridge_by, carrier_of, mac_row, tag_of, to_here, to_there}
 use Rattle.plane_types.specs.TableStep.{bridge_at, bridge_at_tag, bridge_step, bridged_by, carrier_eq, inward_at, inward_step, plain, table_step, wire_or}
-use Rattle.plane_types.specs.declared.frame.KeyPart.TheVariants.{Proto}
 use Rattle.plane_types.specs.declared.table.BridgeKey.TheVariants.{Mac as AtMac}
 use Rattle.plane_types.specs.declared.table.BridgeTo.{BridgeTo}
 use Rattle.plane_types.specs.declared.table.BridgeTo.TheVariants.{Tunnel as ToHost, Router as ToRouter, Tap as ToTap}

@@ -12,7 +12,6 @@ use Rattle.api_types.specs.declared.group.RuleRow.{RuleRow}
 use Rattle.api_types.specs.declared.network.Segment.TheVariants.{Flat, Vxlan}
 use Rattle.api_types.specs.declared.router.RouterRow.{RouterRow}
 use Rattle.api_types.specs.declared.subnet.Hop.{Hop}
-use Rattle.plane_types.specs.Ends.{source, destination}
 use Rattle.plane_types.proofs.WorkedRows.{ends, c1, c2, drawn_mac, flow, gateway_on, group, guarded, held, hop, host, id, interface, ip, leasing, local_mac, network, no_rows, open_port, physnet1, prefix, router, rule, subnet, tag, tcp, tcp_key}
 use Rattle.api_types.specs.Ascending.{ascending, put_in}
 use Rattle.plane_types.specs.Fabric.{fabric_fate, steps_for, walk}

@@ -5,7 +5,6 @@ use Rattle.std.specs.List.{filter}
 use Rattle.std.specs.Str.{bytes_eq}
 use Rattle.std.proofs.lemmas.List.Sums.{sum_by-cons}
 use Rattle.row_laws.specs.NewRows.{with_network, with_port, IsNewPort}
-use Rattle.api_types.proofs.ListLemmas.{none_some}
 use Rattle.api_types.proofs.NameLemmas.{bytes_same}
 use Rattle.row_laws.proofs.NetworkCreated.{network_created}
 use Rattle.row_laws.proofs.NoRows.{no_rows_consistent, nothing_there}
@@ -14,7 +13,6 @@ use Rattle.plane_laws.proofs.Counted.{each-of}
 use Rattle.plane_laws.proofs.Theorem.{tables-mean-rows}
 use Rattle.net_addr.specs.Macs.{is_unicast}
 use Rattle.api_types.specs.Consistent.{IsConsistent}
-use Rattle.api_types.specs.Lists.{Each}
 use Rattle.api_types.specs.Owners.{is_dhcp, is_gateway, is_interface}
 use Rattle.api_types.specs.Registration.{Drawing, with_project}
 use Rattle.api_types.specs.RowLists.{RowLists}

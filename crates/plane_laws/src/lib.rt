@@ -50,9 +50,9 @@ pub fn entries_stay_placed()
         → Each IsAttached hosts → (event : Event) → Each IsAttached (hosts_after hosts event) }
 {}
 
-/// A frame crosses between networks only at routers that have live ports on both. On the last
-/// network of its path is the port that it is delivered to, or a port of the router that absorbs
-/// it, or it leaves that network by a wire. So does each of frames one after the other.
+/// A frame crosses between networks only at routers that have live ports on both, and ends on the
+/// last network of its path: it is delivered to a port there, absorbed by a router that has a live
+/// port there, or leaves that network by a wire. So it is with each of frames one after the other.
 pub fn paths_cross_at_routers()
     ensures by_rows { (rows : RowLists) → IsConsistent rows
         → (entries : List Entry) (event : Event)
