@@ -1,0 +1,155 @@
+"""The client that scripts share: requests as bytes, replies read back, and the program as a process, over a
+pipe or a socket, and under callgrind where instructions are counted. PROGRAM in the environment names
+another program than the one that `rt ci` or `bin/neutron --prove` builds."""
+
+import json
+import os
+import re
+import socket
+import subprocess
+import time
+
+TOP = os.path.dirname(os.path.dirname(os.path.dirname(os.path.realpath(__file__))))
+PROGRAM = os.environ.get("PROGRAM", os.path.join(TOP, "crates/neutron/out/neutron"))
+LENGTH = re.compile(rb"(?im)^content-length:[ \t]*([0-9]+)[ \t]*\r?$")
+
+
+def compact(value):
+    """JSON without spaces, as bytes."""
+    return json.dumps(value, separators=(",", ":")).encode()
+
+
+def request(method, path, body=None, project="a", admin=False):
+    """The bytes of a request. A body is bytes, or a value that is written as JSON."""
+    text = b"" if body is None else body if isinstance(body, bytes) else json.dumps(body).encode()
+    head = f"{method} {path} HTTP/1.1\r\nX-Project-Id: {project}\r\n"
+    if admin:
+        head += "X-Roles: admin\r\n"
+    if body is not None:
+        head += f"Content-Length: {len(text)}\r\n"
+    return head.encode() + b"\r\n" + text
+
+
+def body_length(head):
+    """How many bytes of body a head announces."""
+    found = LENGTH.search(head)
+    return int(found[1]) if found else 0
+
+
+def messages_in(text):
+    """The whole requests or replies that the bytes begin with, and the bytes after the last of them."""
+    parts, at = [], 0
+    while (end := text.find(b"\r\n\r\n", at)) >= 0:
+        end += 4 + body_length(text[at:end])
+        if end > len(text):
+            break
+        parts.append(text[at:end])
+        at = end
+    return parts, text[at:]
+
+
+def read_reply(file):
+    """The status, the head and the body of the next reply, or None where the file ends before or in its head."""
+    head = b""
+    while not head.endswith(b"\r\n\r\n"):
+        line = file.readline()
+        if not line:
+            return None
+        head += line
+    return int(head.split()[1]), head, file.read(body_length(head))
+
+
+def free_address():
+    """An address of the loopback at which nobody listens."""
+    with socket.socket() as free:
+        free.bind(("127.0.0.1", 0))
+        return free.getsockname()
+
+
+def connected(address):
+    """A socket that is connected to a server which is still starting, for at most a minute."""
+    for _ in range(600):
+        try:
+            return socket.create_connection(address)
+        except ConnectionRefusedError:
+            time.sleep(0.1)
+    raise SystemExit("the server doesn't listen")
+
+
+class Client:
+    """Requests one by one over a file of replies and a function that sends bytes."""
+
+    def __init__(self, send, replies):
+        self.send, self.replies = send, replies
+
+    def exchange(self, given):
+        """The status, the head and the body of the reply to these bytes."""
+        self.send(given)
+        reply = read_reply(self.replies)
+        if reply is None:
+            raise EOFError(f"no reply to {given[:200]!r}")
+        return reply
+
+    def ask(self, method, path, body=None, **who):
+        """What the server replies to a request that it has to accept."""
+        status, _, text = self.exchange(request(method, path, body, **who))
+        if status not in (200, 201, 204):
+            raise SystemExit(f"{method} {path}: {status} {text.decode()}")
+        return json.loads(text) if text else None
+
+
+class Piped(Client):
+    """The program with these words, over its standard input and output."""
+
+    def __init__(self, words, **more):
+        self.run = subprocess.Popen(words, stdin=subprocess.PIPE, stdout=subprocess.PIPE, **more)
+        super().__init__(self.write, self.run.stdout)
+
+    def write(self, given):
+        self.run.stdin.write(given)
+        self.run.stdin.flush()
+
+    def end(self):
+        """Ends the input, and gives the program's status."""
+        self.run.communicate()
+        return self.run.returncode
+
+
+class Connected(Client):
+    """One connection to a server, which may still be starting."""
+
+    def __init__(self, address):
+        self.socket = connected(address)
+        self.socket.setsockopt(socket.IPPROTO_TCP, socket.TCP_NODELAY, 1)
+        super().__init__(self.socket.sendall, self.socket.makefile("rb"))
+
+    def end(self):
+        self.replies.close()
+        self.socket.close()
+
+
+class Counter:
+    """Callgrind over one program, which counts nothing until it is told to. Its files are in a folder."""
+
+    def __init__(self, folder):
+        self.file, self.dumps = os.path.join(folder, "counts"), 0
+
+    def words(self, words):
+        """The words that run these words under callgrind."""
+        return ["valgrind", "--tool=callgrind", "--instr-atstart=no", f"--callgrind-out-file={self.file}", *words]
+
+    @staticmethod
+    def control(run, *words):
+        subprocess.run(["callgrind_control", *words, str(run.pid)], check=True,
+                       stdout=subprocess.DEVNULL, stderr=subprocess.DEVNULL)
+
+    def mean(self, run, calls):
+        """The instructions that the running program takes for these calls, in the mean."""
+        self.control(run, "--instr=on")
+        for call in calls:
+            call()
+        self.control(run, "--instr=off")
+        self.control(run, "--dump")
+        self.dumps += 1
+        with open(f"{self.file}.{self.dumps}", encoding="utf-8") as dump:
+            return int(re.search(r"^totals: (\d+)", dump.read(), re.MULTILINE)[1]) // len(calls)
