@@ -302,9 +302,7 @@ fn version_moved(alloc: Global, asked: u64, now: u64) -> Result<Text, OutOfMemor
         ≡ codes "Version " ++ decimal asked ++ codes " is not the version of now: "
         ++ decimal now ++ codes ".") }
 {
-    Ok(Text::from_string(format!(in alloc;
-        "Version {asked} is not the version of now: {now}."
-    )?))
+    Ok(Text::from_string(format!(in alloc; "Version {asked} is not the version of now: {now}.")?))
 }
 
 // The message of a page that isn't there.
