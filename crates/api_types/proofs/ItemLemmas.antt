@@ -1,12 +1,11 @@
 -- The table of one kind after the items of a change: its rows, its length and its ids.
-use Rattle.std.proofs.Common.{◌≡◌, ℕ, zero, suc, ◌+◌, ◌-◌, ◌<◌, ◌≤◌, List, [], ◌∷◌, ◌++◌, Bool, true, false, cond, Option, None, Some, length, take, get_or, slice_get, slice_set, remove, refl, ap, sym, ◌∙◌, subst, arith, ◌≢◌, true≢false}
-use Rattle.std.specs.Prelude.{option_and_then, is_some, nat_le, ◌==◌, IsSome, if◌then◌else◌, ⊤}
-use Rattle.std.proofs.lemmas.Option.{slice_get_within, slice_get_past}
+use Rattle.std.proofs.Common.{◌≡◌, ℕ, zero, suc, ◌+◌, ◌-◌, ◌<◌, ◌≤◌, List, [], ◌∷◌, ◌++◌, Bool, true, false, cond, Option, None, Some, length, take, get_or, slice_get, slice_set, remove, refl, ap, sym, ◌∙◌, subst, arith, true≢false}
+use Rattle.std.specs.Prelude.{option_and_then, is_some, nat_le, ◌==◌, IsSome, if◌then◌else◌}
 use Rattle.std.proofs.lemmas.Bool.Decides.{nat_tests}
 use Rattle.api_types.specs.Ident.{Ident}
 use Rattle.api_types.specs.Table.{row_of, ident_eq, HaveOwnIds}
-use Rattle.api_types.specs.Edits.{list_after, list_after_at, FitsAt, FitsTable, IsOfKind}
-use Rattle.api_types.specs.TableItems.{same_kind, place_before, after_one, after_all, FitsIf, FitAll, has_id, said_of, said_by}
+use Rattle.api_types.specs.Edits.{list_after, list_after_at, FitsAt, IsOfKind}
+use Rattle.api_types.specs.TableItems.{same_kind, place_before, after_one, after_all, FitsIf, FitAll, said_of, said_by}
 use Rattle.api_types.specs.declared.change.Item.{Item}
 use Rattle.api_types.specs.declared.kind.Kind.{Kind}
 use Rattle.api_types.specs.declared.kind.Row.{Row}
@@ -53,21 +52,6 @@ module _ {R : Type 0} where
   got_earlier [] row q (suc p) e off = refl
   got_earlier (x ∷ rows) row q zero e off = refl
   got_earlier (x ∷ rows) row q (suc p) e off = got_earlier rows row (length rows) p refl (λ z. off (e ∙ ap suc z))
-
-  -- a place is the end exactly where no row stands at it, and one stands before it unless it is the first
-  pub end_is : (rows : List R) (p : ℕ) → p ≡ length rows → slice_get rows p ≡ None
-  end_is rows p e = slice_get_past rows p (omega (arith, e))
-
-  pub end_before : (rows : List R) (k : ℕ) → suc k ≡ length rows → is_some (slice_get rows k) ≡ true
-  end_before [] k e = absurd (omega arith)
-  end_before (x ∷ rows) zero e = refl
-  end_before (x ∷ rows) (suc k) e = end_before rows k (omega arith)
-
-  pub end_found : (rows : List R) (p : ℕ) → slice_get rows p ≡ None → ((k : ℕ) → p ≡ suc k → is_some (slice_get rows k) ≡ true) → p ≡ length rows
-  end_found [] zero none there = refl
-  end_found [] (suc p) none there = absurd (true≢false (sym (there p refl)))
-  end_found (x ∷ rows) zero none there = cc
-  end_found (x ∷ rows) (suc p) none there = ap suc (end_found rows p none (λ k e. there (suc k) (ap suc e)))
 
   -- one more item at the end
   pub all-push : (kind : Kind) (part : Row → Option R) (rows : List R) (items : List Item) (item : Item)

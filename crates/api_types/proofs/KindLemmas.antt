@@ -1,7 +1,6 @@
 -- The table of each kind after the items of a change of rows of all kinds.
-use Rattle.std.proofs.Common.{◌≡◌, ℕ, zero, suc, ◌+◌, ◌<◌, List, [], ◌∷◌, ◌++◌, length, take, drop, get_or, arith, refl, ap, sym, ◌∙◌, subst}
-use Rattle.std.specs.Prelude.{◌↔◌, if◌then◌else◌, IsTrue, Bool, Option, option_and_then, is_some, ⊤}
-use Rattle.std.proofs.Math.Seq.{take-suc}
+use Rattle.std.proofs.Common.{◌≡◌, ℕ, zero, suc, ◌<◌, List, [], ◌∷◌, length, take, get_or, arith, refl, ap, sym, ◌∙◌, subst}
+use Rattle.std.specs.Prelude.{◌↔◌, if◌then◌else◌, IsTrue, Bool, Option}
 use Rattle.api_types.specs.Ident.{Ident}
 use Rattle.api_types.specs.Edits.{list_after, FitsTable}
 use Rattle.api_types.specs.Parts.{project_of, network_of, subnet_of, port_of, group_of, rule_of, router_of, floating_of, policy_of}

@@ -1,6 +1,6 @@
 use Rattle.std.proofs.Common.{◌+◌, ◌-◌, ap, sym, ◌∙◌, arith, length, take, slice_get}
 use Rattle.api_types.specs.TableItems.{after_all}
-use Rattle.api_types.proofs.ItemLemmas.{Apart, last_apart, stood_at, was_put}
+use Rattle.api_types.proofs.ItemLemmas.{last_apart, stood_at, was_put}
 use Rattle.api_types.proofs.fits.find_row.Goals as goal
 
 pub returns-in-None : goal.returns-in-None

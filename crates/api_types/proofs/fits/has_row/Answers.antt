@@ -2,7 +2,7 @@ use Rattle.std.proofs.Common.{◌+◌, ◌-◌, ap, sym, ◌∙◌, length, take
 use Rattle.std.specs.Prelude.{is_some}
 use Rattle.api_types.specs.Table.{row_of}
 use Rattle.api_types.specs.TableItems.{after_all}
-use Rattle.api_types.proofs.ItemLemmas.{Apart, last_apart, own_all, said_there, said_nothing}
+use Rattle.api_types.proofs.ItemLemmas.{last_apart, own_all, said_there, said_nothing}
 use Rattle.api_types.proofs.fits.has_row.Goals as goal
 
 pub returns-in-Some : goal.returns-in-Some

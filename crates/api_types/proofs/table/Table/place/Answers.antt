@@ -1,4 +1,4 @@
-use Rattle.std.proofs.Common.{◌≡◌, ◌∙◌, ap, sym, subst, slice_get, List, ℕ, Option}
+use Rattle.std.proofs.Common.{◌≡◌, ◌∙◌, ap, subst, slice_get}
 use Rattle.std.specs.Prelude.{is_some, IfSome}
 use Rattle.std.specs.List.{position}
 use Rattle.std.specs.Map.{keys_of, lookup}
