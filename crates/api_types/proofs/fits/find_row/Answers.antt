@@ -5,7 +5,7 @@ use Rattle.api_types.proofs.fits.find_row.Goals as goal
 
 pub returns-in-None : goal.returns-in-None
 returns-in-None g c =
-    let part = g.R.OfKind.part_of in
+    let part = g.R.RowKind.part_of in
     let id_of = g.R.Keyed.id_of in
     let items = c.args.items.now in
     let item = c.index-items-items.result in
@@ -16,7 +16,7 @@ returns-in-None g c =
 
 pub loop-i-preserved : goal.loop-i-preserved
 loop-i-preserved g c =
-    let part = g.R.OfKind.part_of in
+    let part = g.R.RowKind.part_of in
     let id_of = g.R.Keyed.id_of in
     let items = c.args.items.now in
     let item = c.index-items-items.result in

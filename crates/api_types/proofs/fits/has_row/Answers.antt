@@ -7,7 +7,7 @@ use Rattle.api_types.proofs.fits.has_row.Goals as goal
 
 pub returns-in-Some : goal.returns-in-Some
 returns-in-Some g c =
-    let part = g.R.OfKind.part_of in
+    let part = g.R.RowKind.part_of in
     let id_of = g.R.Keyed.id_of in
     let items = c.args.items.now in
     let item = c.index-items-items.result in
@@ -20,7 +20,7 @@ returns-in-Some g c =
 
 pub loop-i-preserved : goal.loop-i-preserved
 loop-i-preserved g c =
-    let part = g.R.OfKind.part_of in
+    let part = g.R.RowKind.part_of in
     let id_of = g.R.Keyed.id_of in
     let items = c.args.items.now in
     let item = c.index-items-items.result in
