@@ -1,12 +1,11 @@
 //! One host's agents: the rows that they were last given, the tables made of them, tracked entries.
 
-ghost use Rattle.std.specs.Prelude.{◌≡◌, ◌+◌, ◌<◌, ◌≤◌, [], ◌∷◌, ◌++◌, None, IfOk, OnErr, OnOk};
+ghost use Rattle.std.specs.Prelude.{◌≡◌, ◌+◌, ◌<◌, ◌≤◌, [], ◌∷◌, ◌++◌, IfOk, OnErr, OnOk};
 ghost use Rattle.api_types.specs.Consistent.{IsConsistent};
 ghost use Rattle.api_types.specs.Rows.{Fits, after};
 ghost use Rattle.plane_types.specs.Attached.{IsAttached};
 ghost use Rattle.plane_types.specs.Realises.{Realises};
-ghost use Rattle.plane_types.specs.Node.{CanFollow, hearing as heard_of, host_of, host_with, after_resync, first_node, after_change, with_entries};
-ghost use Rattle.plane_types.specs.TablesOfRows.{tables_of_rows as wired_by_rows};
+ghost use Rattle.plane_types.specs.Node.{CanFollow, after_change, after_forget, after_restart, after_resync, first_agent, hearing, host_of, host_with, ready_for, with_entries};
 
 use crate::ready::ReadyNode;
 use api_types::{Change, Rows};
@@ -37,27 +36,28 @@ impl Model for AgentNode {
 
     ghost Value = { Node };
 
-    ghost view = { λ a.
+    ghost view = { λ n.
         record {
-          name = a.name;
-          held = a.held;
-          version = a.version;
-          rows = a.rows;
-          tables = a.tables.lists;
-          entries = a.entries.items;
-          spare = a.entries.spare;
+          agent = record {
+            name = n.name;
+            held = n.held;
+            version = n.version;
+            rows = n.rows;
+            tables = n.tables.lists;
+            entries = n.entries.items;
+          };
+          spare = record { entries = n.entries.spare; tables = n.tables.room };
         } };
 
-    ghost invariant = { λ a.
+    ghost invariant = { λ n.
         Stands
         (record {
-          name = a.name;
-          held = a.held;
-          version = a.version;
-          rows = a.rows;
-          tables = a.tables.lists;
-          entries = a.entries.items;
-          spare = a.entries.spare;
+          name = n.name;
+          held = n.held;
+          version = n.version;
+          rows = n.rows;
+          tables = n.tables.lists;
+          entries = n.entries.items;
         }) };
 }
 
@@ -71,7 +71,7 @@ impl AgentNode {
         version: u64,
     ) -> Result<AgentNode, OutOfMemory>
         requires { IsConsistent rows.now }
-        ensures { IfOk result (λ n. n ≡ first_node host version rows.now n.spare) }
+        ensures { IfOk result (λ n. n.agent ≡ first_agent rows.now version host) }
     {
         let ReadyNode {
             name,
@@ -99,15 +99,7 @@ impl AgentNode {
         rows: &Rows,
     ) -> Result<ReadyNode, OutOfMemory>
         requires { IsConsistent rows.now }
-        ensures { IfOk result
-            (λ r. r
-            ≡ record {
-              name = self.now.name;
-              version = version;
-              rows = rows.now;
-              tables = wired_by_rows rows.now self.now.name self.now.tables.tags;
-              old = self.now.tables.tags;
-            }) }
+        ensures { IfOk result (λ r. r ≡ ready_for version rows.now self.now.agent) }
     {
         let name = self.name.copy(alloc)?;
         let old = self.tables.copy_tags(alloc)?;
@@ -118,10 +110,10 @@ impl AgentNode {
     /// then held. Entries without a tap or router in the new tables are dropped, and the others
     /// stay in their order. It takes no memory. Its cost grows with the entries.
     pub fn put(&mut self, ready: ReadyNode)
-        requires name { ready.name ≡ self.old.name }
-        requires tags { ready.old ≡ self.old.tables.tags }
-        ensures node { self.new ≡ after_resync self.old ready.version ready.rows self.new.spare }
-        ensures spare { self.old.spare ≤ self.new.spare }
+        requires name { ready.name ≡ self.old.agent.name }
+        requires tags { ready.old ≡ self.old.agent.tables.tags }
+        ensures agent { self.new.agent ≡ after_resync ready.version ready.rows self.old.agent }
+        ensures spare { self.old.spare.entries ≤ self.new.spare.entries }
     {
         let ReadyNode {
             name: _,
@@ -143,8 +135,9 @@ impl AgentNode {
     /// the entries.
     pub fn resync(&mut self, alloc: Global, version: u64, rows: &Rows) -> Result<(), OutOfMemory>
         requires { IsConsistent rows.now }
-        ensures node { OnOk result (self.new ≡ after_resync self.old version rows.now self.new.spare) }
-        ensures spare { OnOk result (self.old.spare ≤ self.new.spare) }
+        ensures agent { OnOk result
+            (self.new.agent ≡ after_resync version rows.now self.old.agent) }
+        ensures spare { OnOk result (self.old.spare.entries ≤ self.new.spare.entries) }
         ensures same { OnErr result (self.new ≡ self.old) }
     {
         let ready = self.prepare_resync(alloc, version, rows)?;
@@ -160,20 +153,10 @@ impl AgentNode {
         number: u64,
         change: &Change,
     ) -> Result<ReadyNode, OutOfMemory>
-        requires fits { Fits self.now.rows change.now }
-        requires consistent { IsConsistent (after self.now.rows change.now) }
+        requires fits { Fits self.now.agent.rows change.now }
+        requires consistent { IsConsistent (after self.now.agent.rows change.now) }
         ensures { IfOk result
-            (λ r. r
-            ≡ record {
-              name = self.now.name;
-              version = number;
-              rows = after self.now.rows change.now;
-              tables = wired_by_rows
-                  (after self.now.rows change.now)
-                  self.now.name
-                  self.now.tables.tags;
-              old = self.now.tables.tags;
-            }) }
+            (λ r. r ≡ ready_for number (after self.now.agent.rows change.now) self.now.agent) }
     {
         let name = self.name.copy(alloc)?;
         let tags = self.tables.copy_tags(alloc)?;
@@ -192,10 +175,11 @@ impl AgentNode {
         number: u64,
         change: &Change,
     ) -> Result<Heard, OutOfMemory>
-        requires { CanFollow self.old number change.now }
-        ensures heard { IfOk result (λ h. h ≡ heard_of number self.old.held) }
-        ensures node { OnOk result (self.new ≡ after_change self.old number change.now self.new.spare) }
-        ensures spare { OnOk result (self.old.spare ≤ self.new.spare) }
+        requires { CanFollow self.old.agent number change.now }
+        ensures heard { IfOk result (λ h. h ≡ hearing number self.old.agent.held) }
+        ensures agent { OnOk result
+            (self.new.agent ≡ after_change number change.now self.old.agent) }
+        ensures spare { OnOk result (self.old.spare.entries ≤ self.new.spare.entries) }
         ensures same { OnErr result (self.new ≡ self.old) }
     {
         let Some(held) = self.held else {
@@ -214,73 +198,76 @@ impl AgentNode {
 
     /// Nothing is held from now on. All else stays. It takes no memory.
     pub fn restart(&mut self)
-        ensures { self.new ≡ record self.old { held = None } }
+        ensures { self.new ≡ record self.old { agent = after_restart self.old.agent } }
     {
         self.held = None;
     }
 
     /// Drops all entries. All else stays. It takes no memory.
     pub fn forget(&mut self)
-        ensures node { self.new ≡ with_entries self.old [] self.new.spare }
-        ensures spare { self.old.spare ≤ self.new.spare }
+        ensures agent { self.new.agent ≡ after_forget self.old.agent }
+        ensures spare { self.old.spare.entries ≤ self.new.spare.entries }
     {
         self.entries.clear();
     }
 
     /// The host's name.
     pub fn host(&self) -> &Text
-        ensures { result.now ≡ self.now.name }
+        ensures { result.now ≡ self.now.agent.name }
     {
         &self.name
     }
 
     /// The tables, which are those that the rows give to the host.
     pub fn tables(&self) -> &HostTables
-        ensures tables { result.now.lists ≡ self.now.tables }
-        ensures realised { Realises self.now.rows self.now.name self.now.tables }
+        ensures tables { result.now.lists ≡ self.now.agent.tables }
+        ensures room { result.now.room ≡ self.now.spare.tables }
+        ensures realised { Realises self.now.agent.rows self.now.agent.name self.now.agent.tables }
     {
         &self.tables
     }
 
     /// The entries, each of a tap or router in the tables.
     pub fn entries(&self) -> &Entries
-        ensures items { result.now.items ≡ self.now.entries }
-        ensures spare { result.now.spare ≡ self.now.spare }
-        ensures placed { IsAttached (host_of self.now) }
+        ensures items { result.now.items ≡ self.now.agent.entries }
+        ensures spare { result.now.spare ≡ self.now.spare.entries }
+        ensures placed { IsAttached (host_of self.now.agent) }
     {
         &self.entries
     }
 
     /// The version that is held, if any.
     pub fn held(&self) -> Option<u64>
-        ensures { result ≡ self.now.held }
+        ensures { result ≡ self.now.agent.held }
     {
         self.held
     }
 
     /// The wired rows.
     pub fn rows(&self) -> &Rows
-        ensures rows { result.now ≡ self.now.rows }
-        ensures consistent { IsConsistent self.now.rows }
+        ensures rows { result.now ≡ self.now.agent.rows }
+        ensures consistent { IsConsistent self.now.agent.rows }
     {
         &self.rows
     }
 
     /// Makes room for the entries of one event, at most 256. All else stays.
     pub fn reserve(&mut self, alloc: Global) -> Result<(), OutOfMemory>
-        ensures node { self.new ≡ with_entries self.old self.old.entries self.new.spare }
-        ensures spare { OnOk result (256 ≤ self.new.spare) }
+        ensures agent { self.new.agent ≡ self.old.agent }
+        ensures tables { self.new.spare.tables ≡ self.old.spare.tables }
+        ensures spare { OnOk result (256 ≤ self.new.spare.entries) }
     {
         self.entries.reserve(EVENT_ENTRIES)
     }
 
     /// Adds an entry at the end. It takes no memory.
     pub fn add(&mut self, entry: Entry)
-        requires room { 0 < self.old.spare }
-        requires placed { IsAttached (host_with self.old (self.old.entries ++ entry ∷ [])) }
-        ensures node { self.new
-            ≡ with_entries self.old (self.old.entries ++ entry ∷ []) self.new.spare }
-        ensures spare { self.old.spare ≤ self.new.spare + 1 }
+        requires room { 0 < self.old.spare.entries }
+        requires placed { IsAttached
+            (host_with self.old.agent (self.old.agent.entries ++ entry ∷ [])) }
+        ensures agent { self.new.agent
+            ≡ with_entries (self.old.agent.entries ++ entry ∷ []) self.old.agent }
+        ensures spare { self.old.spare.entries ≤ self.new.spare.entries + 1 }
     {
         self.entries.add(entry);
     }

@@ -12,14 +12,14 @@ use plane_types::{Entries, HostTables};
 pub(crate) struct Lab {
     first: AgentNode,
     second: AgentNode,
-    ghost differ: { bytes_eq first.name second.name ≡ false },
+    ghost differ: { bytes_eq first.agent.name second.agent.name ≡ false },
 }
 
 impl Fleet for Lab {
     ghost use Rattle.std.specs.Prelude.{[], ◌∷◌};
     ghost use Rattle.plane_types.specs.Node.{host_of};
 
-    ghost hosts = { λ l. host_of l.first ∷ host_of l.second ∷ [] };
+    ghost hosts = { λ l. host_of l.first.agent ∷ host_of l.second.agent ∷ [] };
 
     fn count(&self) -> usize {
         2

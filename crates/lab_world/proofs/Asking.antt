@@ -7,7 +7,6 @@ use Rattle.api_types.specs.declared.refusal.PolicyRule.TheVariants.{AdminOnly}
 use Rattle.api_types.specs.declared.refusal.Refusal.{Refusal}
 use Rattle.api_types.specs.declared.refusal.Refusal.TheVariants.{Forbidden, NoHost, NoMessage}
 use Rattle.plane_types.specs.Hosts.{all_entries}
-use Rattle.plane_types.specs.Node.{hearing}
 use Rattle.plane_types.specs.Verdicts.{fabric_verdict, rows_verdict}
 use Rattle.plane_types.specs.declared.ask.HostState.{HostState}
 use Rattle.plane_types.specs.declared.ask.LabAnswer.{LabAnswer}
@@ -17,9 +16,9 @@ use Rattle.plane_types.specs.declared.ask.Reply.TheVariants.{LabDone}
 use Rattle.plane_types.specs.declared.event.Event.{Event}
 use Rattle.plane_types.specs.declared.verdict.Verdict.{Verdict}
 use Rattle.bus_core.specs.History.{change_at, first_kept}
-use Rattle.world_laws.specs.Agents.{Agent}
+use Rattle.plane_types.specs.Node.{Agent, hearing}
 use Rattle.world_laws.specs.Steps.{Deliver, Send, Step, step}
-use Rattle.world_laws.specs.World.{World, seats}
+use Rattle.world_laws.specs.World.{World, hosts_of}
 use Rattle.lab_world.specs.Lab.{Answered, Barred, LabOutcome, delivered, event_refusal, for_admins, host_state, hosts_told, lab_outcome, stepped, unless_barred, with_host}
 use Rattle.lab_world.specs.World.{ByLab, IsHandled, MovesBy}
 
@@ -50,21 +49,21 @@ pub undelivered : (w : World) (name : List ℕ) (number : ℕ) (a : Agent) → c
 undelivered w name number a is = ap (delivered w name number a) is
 
 -- events that are let through
-pub frames_told : (w : World) (caller : Caller) (event : Event) (verdict : Verdict) → event_refusal w.history.rows caller event ≡ None → verdict ≡ fabric_verdict (seats w) event
+pub frames_told : (w : World) (caller : Caller) (event : Event) (verdict : Verdict) → event_refusal w.history.rows caller event ≡ None → verdict ≡ fabric_verdict (hosts_of w) event
     → lab_outcome w caller (call.Frames event) ≡ Answered (Seen verdict) (step w (Send event))
 frames_told w caller event verdict none is =
-    ap (λ o. unless_barred o (Answered (Seen (fabric_verdict (seats w) event)) (step w (Send event)))) none ∙ ap (λ v. Answered (Seen v) (step w (Send event))) (sym is)
+    ap (λ o. unless_barred o (Answered (Seen (fabric_verdict (hosts_of w) event)) (step w (Send event)))) none ∙ ap (λ v. Answered (Seen v) (step w (Send event))) (sym is)
 
-pub explained_told : (w : World) (caller : Caller) (event : Event) (verdict : Verdict) → event_refusal w.history.rows caller event ≡ None → verdict ≡ rows_verdict w.history.rows (all_entries (seats w)) event
+pub explained_told : (w : World) (caller : Caller) (event : Event) (verdict : Verdict) → event_refusal w.history.rows caller event ≡ None → verdict ≡ rows_verdict w.history.rows (all_entries (hosts_of w)) event
     → lab_outcome w caller (call.Explain event) ≡ Answered (Seen verdict) w
 explained_told w caller event verdict none is =
-    ap (λ o. unless_barred o (Answered (Seen (rows_verdict w.history.rows (all_entries (seats w)) event)) w)) none ∙ ap (λ v. Answered (Seen v) w) (sym is)
+    ap (λ o. unless_barred o (Answered (Seen (rows_verdict w.history.rows (all_entries (hosts_of w)) event)) w)) none ∙ ap (λ v. Answered (Seen v) w) (sym is)
 
 -- what is answered is the verdict of the hosts' tables
-pub verdict_is : (w : World) (caller : Caller) (event : Event) (verdict : Verdict) (v : World) → lab_outcome w caller (call.Frames event) ≡ Answered (Seen verdict) v → fabric_verdict (seats w) event ≡ verdict
+pub verdict_is : (w : World) (caller : Caller) (event : Event) (verdict : Verdict) (v : World) → lab_outcome w caller (call.Frames event) ≡ Answered (Seen verdict) v → fabric_verdict (hosts_of w) event ≡ verdict
 verdict_is w caller event verdict v h = by (event_refusal w.history.rows caller event) h
   where
-    by : (o : Option Refusal) → unless_barred o (Answered (Seen (fabric_verdict (seats w) event)) (step w (Send event))) ≡ Answered (Seen verdict) v → fabric_verdict (seats w) event ≡ verdict
+    by : (o : Option Refusal) → unless_barred o (Answered (Seen (fabric_verdict (hosts_of w) event)) (step w (Send event))) ≡ Answered (Seen verdict) v → fabric_verdict (hosts_of w) event ≡ verdict
     by None g = cc
     by (Some refusal) g = cc
 

@@ -18,29 +18,29 @@ use Rattle.plane_laws.proofs.BoundsTables.{bounded-by_tables}
 use Rattle.plane_laws.proofs.CrossingTop.{by-tables}
 use Rattle.plane_laws.proofs.SecurityLaw.{in-by-tables, out-by-tables}
 use Rattle.plane_laws.proofs.Theorem.{tables-mean-rows}
-use Rattle.world_laws.specs.Agents.{Agent, seat}
+use Rattle.plane_types.specs.Node.{Agent, host_of}
 use Rattle.world_laws.specs.Lead.{IsWorld}
 use Rattle.world_laws.specs.Steps.{Send, add_from, step}
-use Rattle.world_laws.specs.World.{IsSynced, World, seats}
+use Rattle.world_laws.specs.World.{IsSynced, World, hosts_of}
 use Rattle.world_laws.proofs.MeaningLaw.{synced_hold}
 use Rattle.lab_world.specs.Lab.{Answered, lab_outcome}
 use Rattle.lab_world.proofs.Asking.{verdict_is}
 
-pub frame_means : (w : World) (event : Event) → IsWorld w → IsSynced w → without_hosts (fabric_verdict (seats w) event) ≡ rows_verdict w.history.rows (all_entries (seats w)) event
-frame_means w event is synced = tables-mean-rows (carries w.settings.hosts) w.history.rows (seats w) (synced_hold w is synced) event
+pub frame_means : (w : World) (event : Event) → IsWorld w → IsSynced w → without_hosts (fabric_verdict (hosts_of w) event) ≡ rows_verdict w.history.rows (all_entries (hosts_of w)) event
+frame_means w event is synced = tables-mean-rows (carries w.settings.hosts) w.history.rows (hosts_of w) (synced_hold w is synced) event
 
-pub frame_crosses : (w : World) (event : Event) → IsWorld w → IsSynced w → CrossesAtRouters w.history.rows (fabric_verdict (seats w) event)
-frame_crosses w event is synced = by-tables (carries w.settings.hosts) w.history.rows (seats w) (synced_hold w is synced) event
+pub frame_crosses : (w : World) (event : Event) → IsWorld w → IsSynced w → CrossesAtRouters w.history.rows (fabric_verdict (hosts_of w) event)
+frame_crosses w event is synced = by-tables (carries w.settings.hosts) w.history.rows (hosts_of w) (synced_hold w is synced) event
 
-pub frame_let_in : (w : World) (event : Event) → IsWorld w → IsSynced w → IsLetIn w.history.rows (fabric_verdict (seats w) event)
-frame_let_in w event is synced = in-by-tables (carries w.settings.hosts) w.history.rows (seats w) (synced_hold w is synced) event
+pub frame_let_in : (w : World) (event : Event) → IsWorld w → IsSynced w → IsLetIn w.history.rows (fabric_verdict (hosts_of w) event)
+frame_let_in w event is synced = in-by-tables (carries w.settings.hosts) w.history.rows (hosts_of w) (synced_hold w is synced) event
 
-pub frame_let_out : (w : World) (event : Event) → IsWorld w → IsSynced w → IsLetOut w.history.rows event (fabric_verdict (seats w) event)
-frame_let_out w event is synced = out-by-tables (carries w.settings.hosts) w.history.rows (seats w) (synced_hold w is synced) event
+pub frame_let_out : (w : World) (event : Event) → IsWorld w → IsSynced w → IsLetOut w.history.rows event (fabric_verdict (hosts_of w) event)
+frame_let_out w event is synced = out-by-tables (carries w.settings.hosts) w.history.rows (hosts_of w) (synced_hold w is synced) event
 
 -- the same of a verdict that is answered
 pub answer_means : (w v : World) (caller : Caller) (event : Event) (verdict : Verdict) → IsWorld w → lab_outcome w caller (Frames event) ≡ Answered (Seen verdict) v → IsSynced w
-    → without_hosts verdict ≡ rows_verdict w.history.rows (all_entries (seats w)) event
+    → without_hosts verdict ≡ rows_verdict w.history.rows (all_entries (hosts_of w)) event
 answer_means w v caller event verdict is told synced = ap without_hosts (sym (verdict_is w caller event verdict v told)) ∙ frame_means w event is synced
 
 pub answer_crosses : (w v : World) (caller : Caller) (event : Event) (verdict : Verdict) → IsWorld w → lab_outcome w caller (Frames event) ≡ Answered (Seen verdict) v → IsSynced w → CrossesAtRouters w.history.rows verdict
@@ -58,12 +58,12 @@ fresh_few hosts event bits = (bounded-by_tables hosts event bits).fresh
 
 -- ---- behind an event
 
-added_seats : (place : ℕ) (agents : List Agent) (fresh : List Made) → map seat (add_from place agents fresh) ≡ with_made_from place (map seat agents) fresh
-added_seats place [] fresh = refl
-added_seats place (a ∷ agents) fresh = λ j. record { name = a.name; tables = a.tables; entries = a.entries ++ filter_map (made_at place) fresh } ∷ added_seats (suc place) agents fresh j
+added_hosts : (place : ℕ) (agents : List Agent) (fresh : List Made) → map host_of (add_from place agents fresh) ≡ with_made_from place (map host_of agents) fresh
+added_hosts place [] fresh = refl
+added_hosts place (a ∷ agents) fresh = λ j. record { name = a.name; tables = a.tables; entries = a.entries ++ filter_map (made_at place) fresh } ∷ added_hosts (suc place) agents fresh j
 
-pub sent_seats : (w : World) (event : Event) → seats (step w (Send event)) ≡ hosts_after (seats w) event
-sent_seats w event = added_seats 0 w.agents (fabric_verdict (seats w) event).fresh
+pub sent_hosts : (w : World) (event : Event) → hosts_of (step w (Send event)) ≡ hosts_after (hosts_of w) event
+sent_hosts w event = added_hosts 0 w.agents (fabric_verdict (hosts_of w) event).fresh
 
 added_held : (held : Option ℕ) (place : ℕ) (agents : List Agent) (fresh : List Made) → Each (λ (a : Agent). a.held ≡ held) agents → Each (λ (a : Agent). a.held ≡ held) (add_from place agents fresh)
 added_held held place [] fresh each k a at = each k a at
@@ -74,4 +74,4 @@ added_held held place (b ∷ agents) fresh each zero a at = ap (λ (x : Agent). 
 added_held held place (b ∷ agents) fresh each (suc k) a at = added_held held (suc place) agents fresh (λ i x here. each (suc i) x here) k a at
 
 pub sent_synced : (w : World) → IsSynced w → (event : Event) → IsSynced (step w (Send event))
-sent_synced w synced event = added_held (Some w.history.version) 0 w.agents (fabric_verdict (seats w) event).fresh synced
+sent_synced w synced event = added_held (Some w.history.version) 0 w.agents (fabric_verdict (hosts_of w) event).fresh synced

@@ -1,7 +1,7 @@
 pub mod SoFar
+pub mod One
 pub mod Placing
 pub mod Seen
-pub mod One
 pub mod Parts
 pub mod Asking
 pub mod FrameLaws

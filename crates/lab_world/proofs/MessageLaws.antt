@@ -1,13 +1,12 @@
 -- Calls of the lab with their answers, by what is done with the hosts.
-use Rattle.std.proofs.Common.{inl, inr, ◌⊎◌, ◌≡◌, ◌<◌, ℕ, List, [], Bool, true, None, Some, refl, ap, sym, subst, ◌∙◌, map}
-use Rattle.api_types.proofs.ListLemmas.{some_equal}
+use Rattle.std.proofs.Common.{inl, inr, ◌⊎◌, ◌≡◌, ◌<◌, ℕ, List, [], Bool, true, None, Some, refl, ap, sym, subst, ◌∙◌, map, slice_get}
 use Rattle.api_types.specs.RowLists.{RowLists}
 use Rattle.api_types.specs.declared.call.Caller.{Caller}
 use Rattle.api_types.specs.declared.change.Item.{Item}
 use Rattle.api_types.specs.declared.refusal.Refusal.{Refusal}
 use Rattle.api_types.specs.declared.refusal.Refusal.TheVariants.{NoHost, NoMessage, OutOfMemory}
 use Rattle.net_settings.specs.Settings.{SettingsParts}
-use Rattle.plane_types.specs.Node.{Node, hearing, host_of, after_resync, after_change, with_entries}
+use Rattle.plane_types.specs.Node.{Agent, Node, after_change, after_forget, after_restart, after_resync, agents_of, hearing, host_of, ready_for}
 use Rattle.plane_types.specs.Verdicts.{fabric_verdict}
 use Rattle.plane_types.specs.declared.ask.Heard.{Heard}
 use Rattle.plane_types.specs.declared.ask.HostState.{HostState}
@@ -22,18 +21,17 @@ use Rattle.plane_types.specs.declared.verdict.Verdict.{Verdict}
 use Rattle.bus_core.specs.History.{change_at}
 use Rattle.bus_core.specs.Kept.{IsGone, Kept, change_of, first_of}
 use Rattle.bus_core.proofs.HistoryLaw.{gone_none}
-use Rattle.world_laws.specs.Agents.{Agent, agent_of, forgotten, restarted, rewired, seat, told as agent_told}
-use Rattle.world_laws.specs.Steps.{Deliver, Forget, Resync, Restart, Send, Settle, Step, add_from, at_host, deliver_kept, settled, step}
+use Rattle.world_laws.specs.Steps.{Deliver, Forget, Resync, Restart, Send, Settle, Step, add_from, after_settle, at_host, deliver_kept, step}
 use Rattle.world_laws.specs.World.{World}
 use Rattle.world_laws.proofs.MeaningLaw.{settle_syncs}
 use Rattle.lab_world.specs.Lab.{Answered, Barred, IsBarred, LabOutcome, delivered, event_refusal, for_admins, host_named, host_state, lab_outcome, stepped, with_host}
+use Rattle.lab_world.specs.Hosts.{IsNamedAt, at_place, named_node, settle_each, state_at_version, state_with}
 use Rattle.lab_world.specs.Parts.{AreParts, world_seen}
-use Rattle.lab_world.specs.Steps.{IsDoneAt, IsKeptAt, IsNamedAt, IsSettledAt, Stepwise, named_node, node_state, ready_for, state_at_version, state_with}
 use Rattle.lab_world.specs.World.{ByLab, IsHandled}
 use Rattle.lab_world.proofs.Asking.{delivered_told, found, frames_told, hosts_answered, is_handled, stepped_told, undelivered, unfound, admitted}
-use Rattle.lab_world.proofs.One.{found_at, none_named, one_done, some_named}
+use Rattle.lab_world.proofs.One.{found_at, none_named, place_named, some_named}
 use Rattle.lab_world.proofs.Parts.{by_step, once_named, sent}
-use Rattle.lab_world.proofs.Seen.{added_seen, all_settled, seats_seen, states_named, states_same, states_seen, states_settled, told_seen}
+use Rattle.lab_world.proofs.Seen.{settle_ready, states_named, states_same, states_settled}
 
 module _ (settings : SettingsParts) (rows : RowLists) (version : ℕ) (kept : Kept) (nodes : List Node) (manual : Bool) (are : AreParts settings rows version kept nodes manual) (caller : Caller) where
   abbrev old : World
@@ -51,61 +49,58 @@ module _ (settings : SettingsParts) (rows : RowLists) (version : ℕ) (kept : Ke
         (is_handled old (world_seen settings rows version kept new manual) (lab_outcome old caller c) answer (told ∙ ap (Answered answer) (sym on.1))),
   )
 
-  done : (name : List ℕ) (g : Agent → Agent) (does : Node → Node → Type 0) (at : ℕ) (new : List Node) → ((n m : Node) → does n m → agent_of m ≡ g (agent_of n)) → IsNamedAt name nodes at → IsDoneAt does at nodes new
-      → map agent_of new ≡ at_host name g (map agent_of nodes)
-  done name g does at new seen named d = one_done name g does at nodes new (once_named settings rows version kept nodes manual are name) seen named d
+  done : (name : List ℕ) (f : Agent → Agent) (at : ℕ) (new : List Node) → IsNamedAt name nodes at → agents_of new ≡ at_place at f (agents_of nodes) → agents_of new ≡ at_host name f (agents_of nodes)
+  done name f at new named is = is ∙ place_named name f at nodes (once_named settings rows version kept nodes manual are name) named
 
   -- a step that is told, at a host that is there
   told_at : (name : List ℕ) (at : ℕ) (s : Step) (states : List HostState) → caller.admin ≡ true → IsNamedAt name nodes at → states ≡ map host_state (step old s).agents
       → for_admins caller (with_host name (host_named old name) (λ a. stepped old s)) ≡ Answered (Hosts states) (step old s)
   told_at name at s states admin named is =
       let n = found_at name nodes at (once_named settings rows version kept nodes manual are name) named in
-      found caller name (host_named old name) (agent_of n.0) (λ a. stepped old s) admin n.2 ∙ stepped_told old s states is
+      found caller name (host_named old name) n.0.agent (λ a. stepped old s) admin n.2 ∙ stepped_told old s states is
 
   pub restarts : (name : List ℕ) (at : ℕ) (states : List HostState) (new : List Node) (w : World) → world_seen settings rows version kept nodes manual ≡ w → caller.admin ≡ true → IsNamedAt name nodes at
-      → states ≡ map (state_with name None) nodes → IsDoneAt (λ n m. m ≡ record n { held = None }) at nodes new
+      → states ≡ map (state_with name None) (agents_of nodes) → agents_of new ≡ at_place at after_restart (agents_of nodes)
       → AreParts settings rows version kept new manual × IsHandled (ByLab (lab_outcome w caller (call.Restart name))) w (world_seen settings rows version kept new manual) (LabDone (Hosts states))
-  restarts name at states new w is admin named told d =
+  restarts name at states new w is admin named told is_put =
       behind (Restart name) (call.Restart name) (Hosts states) new w is
-      (by_step settings rows version kept nodes manual are (Restart name) (at_host name restarted (map agent_of nodes)) refl tt new (done name restarted (λ n m. m ≡ record n { held = None }) at new (λ n m same. ap agent_of same) named d))
-      (told_at name at (Restart name) states admin named (told ∙ states_named name None restarted (λ a. refl) nodes))
+      (by_step settings rows version kept nodes manual are (Restart name) (at_host name after_restart (agents_of nodes)) refl tt new (done name after_restart at new named is_put))
+      (told_at name at (Restart name) states admin named (told ∙ states_named name None after_restart (λ a. refl) (agents_of nodes)))
 
   pub resyncs : (name : List ℕ) (at : ℕ) (states : List HostState) (new : List Node) (w : World) → world_seen settings rows version kept nodes manual ≡ w → caller.admin ≡ true → IsNamedAt name nodes at
-      → states ≡ map (state_with name (Some version)) nodes → IsDoneAt (λ n m. m ≡ after_resync n version rows m.spare) at nodes new
+      → states ≡ map (state_with name (Some version)) (agents_of nodes) → agents_of new ≡ at_place at (after_resync version rows) (agents_of nodes)
       → AreParts settings rows version kept new manual × IsHandled (ByLab (lab_outcome w caller (call.Resync name))) w (world_seen settings rows version kept new manual) (LabDone (Hosts states))
-  resyncs name at states new w is admin named told d =
+  resyncs name at states new w is admin named told is_put =
       behind (Resync name) (call.Resync name) (Hosts states) new w is
-      (by_step settings rows version kept nodes manual are (Resync name) (at_host name (rewired version rows) (map agent_of nodes)) refl tt new (done name (rewired version rows) (λ n m. m ≡ after_resync n version rows m.spare) at new (λ n m same. ap agent_of same) named d))
-      (told_at name at (Resync name) states admin named (told ∙ states_named name (Some version) (rewired version rows) (λ a. refl) nodes))
+      (by_step settings rows version kept nodes manual are (Resync name) (at_host name (after_resync version rows) (agents_of nodes)) refl tt new (done name (after_resync version rows) at new named is_put))
+      (told_at name at (Resync name) states admin named (told ∙ states_named name (Some version) (after_resync version rows) (λ a. refl) (agents_of nodes)))
 
   pub forgets : (name : List ℕ) (at : ℕ) (states : List HostState) (new : List Node) (w : World) → world_seen settings rows version kept nodes manual ≡ w → caller.admin ≡ true → IsNamedAt name nodes at
-      → states ≡ map node_state nodes → IsDoneAt (λ n m. m ≡ with_entries n [] m.spare) at nodes new
+      → states ≡ map host_state (agents_of nodes) → agents_of new ≡ at_place at after_forget (agents_of nodes)
       → AreParts settings rows version kept new manual × IsHandled (ByLab (lab_outcome w caller (call.Forget name))) w (world_seen settings rows version kept new manual) (LabDone (Hosts states))
-  forgets name at states new w is admin named told d =
+  forgets name at states new w is admin named told is_put =
       behind (Forget name) (call.Forget name) (Hosts states) new w is
-      (by_step settings rows version kept nodes manual are (Forget name) (at_host name forgotten (map agent_of nodes)) refl tt new (done name forgotten (λ n m. m ≡ with_entries n [] m.spare) at new (λ n m same. ap agent_of same) named d))
-      (told_at name at (Forget name) states admin named (told ∙ states_same name forgotten (λ a. refl) nodes))
+      (by_step settings rows version kept nodes manual are (Forget name) (at_host name after_forget (agents_of nodes)) refl tt new (done name after_forget at new named is_put))
+      (told_at name at (Forget name) states admin named (told ∙ states_same name after_forget (λ a. refl) (agents_of nodes)))
 
   pub settles : (states : List HostState) (new : List Node) (w : World) → world_seen settings rows version kept nodes manual ≡ w → caller.admin ≡ true
-      → states ≡ map (state_at_version version) nodes → Stepwise (IsSettledAt version (map (ready_for version rows) nodes)) nodes new
+      → states ≡ map (state_at_version version) (agents_of nodes) → agents_of new ≡ settle_each version (map (ready_for version rows) (agents_of nodes)) (agents_of nodes)
       → AreParts settings rows version kept new manual × IsHandled (ByLab (lab_outcome w caller call.Settle)) w (world_seen settings rows version kept new manual) (LabDone (Hosts states))
-  settles states new w is admin told s =
+  settles states new w is admin told is_put =
       behind Settle call.Settle (Hosts states) new w is
-      (by_step settings rows version kept nodes manual are Settle (map (settled old.history) (map agent_of nodes)) refl tt new (all_settled old.history nodes new s))
-      (admitted caller (stepped old Settle) admin ∙ stepped_told old Settle states (told ∙ states_settled old.history nodes (settle_syncs old)))
+      (by_step settings rows version kept nodes manual are Settle (map (after_settle version rows) (agents_of nodes)) refl tt new (is_put ∙ settle_ready version rows (agents_of nodes)))
+      (admitted caller (stepped old Settle) admin ∙ stepped_told old Settle states (told ∙ states_settled version rows (agents_of nodes) (settle_syncs old)))
 
   pub delivers : (name : List ℕ) (at number : ℕ) (c : List Item) (h : Heard) (new : List Node) (w : World) → world_seen settings rows version kept nodes manual ≡ w → caller.admin ≡ true → IsNamedAt name nodes at
-      → change_of version kept.changes number ≡ Some c → IsDoneAt (λ n m. (m ≡ after_change n number c m.spare) × (h ≡ hearing number n.held)) at nodes new
+      → change_of version kept.changes number ≡ Some c → ((n : Node) → slice_get nodes at ≡ Some n → h ≡ hearing number n.agent.held) → agents_of new ≡ at_place at (after_change number c) (agents_of nodes)
       → AreParts settings rows version kept new manual × IsHandled (ByLab (lab_outcome w caller (call.Deliver name number))) w (world_seen settings rows version kept new manual) (LabDone (Told h))
-  delivers name at number c h new w is admin named there d =
+  delivers name at number c h new w is admin named there told is_put =
       let n = found_at name nodes at (once_named settings rows version kept nodes manual are name) named in
-      let same : d.before ≡ n.0 = some_equal d.before n.0 (sym d.at ∙ n.1) in
-      let answer : h ≡ hearing number n.0.held = d.is.1 ∙ ap (λ (m : Node). hearing number m.held) same in
       behind (Deliver name number) (call.Deliver name number) (Told h) new w is
-      (by_step settings rows version kept nodes manual are (Deliver name number) (at_host name (agent_told number c) (map agent_of nodes)) (ap (deliver_kept old name number) there) tt new
-      (done name (agent_told number c) (λ n m. (m ≡ after_change n number c m.spare) × (h ≡ hearing number n.held)) at new (λ n m both. ap agent_of both.0 ∙ told_seen n number c m.spare) named d))
-      (found caller name (host_named old name) (agent_of n.0) (λ a. delivered old name number a (change_at old.history number)) admin n.2
-      ∙ delivered_told old name number (agent_of n.0) c there ∙ ap (λ x. Answered (Told x) (step old (Deliver name number))) (sym answer))
+      (by_step settings rows version kept nodes manual are (Deliver name number) (at_host name (after_change number c) (agents_of nodes)) (ap (deliver_kept old name number) there) tt new
+      (done name (after_change number c) at new named is_put))
+      (found caller name (host_named old name) n.0.agent (λ a. delivered old name number a (change_at old.history number)) admin n.2
+      ∙ delivered_told old name number n.0.agent c there ∙ ap (λ x. Answered (Told x) (step old (Deliver name number))) (sym (told n.0 n.1)))
 
   -- no host has the name, or the change isn't kept
   pub nowhere : (name : List ℕ) (on : Agent → LabOutcome) → caller.admin ≡ true → named_node name nodes ≡ None → for_admins caller (with_host name (host_named (world_seen settings rows version kept nodes manual) name) on) ≡ Barred (NoHost name)
@@ -115,7 +110,7 @@ module _ (settings : SettingsParts) (rows : RowLists) (version : ℕ) (kept : Ke
       → lab_outcome (world_seen settings rows version kept nodes manual) caller (call.Deliver name number) ≡ Barred (NoMessage number (first_of version kept.changes) version)
   gone name at number admin named none =
       let n = found_at name nodes at (once_named settings rows version kept nodes manual are name) named in
-      found caller name (host_named old name) (agent_of n.0) (λ a. delivered old name number a (change_at old.history number)) admin n.2 ∙ undelivered old name number (agent_of n.0) none
+      found caller name (host_named old name) n.0.agent (λ a. delivered old name number a (change_at old.history number)) admin n.2 ∙ undelivered old name number n.0.agent none
 
   pub barred : (name : List ℕ) (on : World → Agent → LabOutcome) (w : World) → world_seen settings rows version kept nodes manual ≡ w → caller.admin ≡ true → (refusal : Refusal)
       → (refusal ≡ OutOfMemory) ⊎ ((refusal ≡ NoHost name) × (named_node name nodes ≡ None)) → IsBarred (for_admins caller (with_host name (host_named w name) (on w))) refusal
@@ -132,20 +127,19 @@ module _ (settings : SettingsParts) (rows : RowLists) (version : ℕ) (kept : Ke
 
   -- ---- calls that only tell
 
-  pub hosts_seen : (states : List HostState) → caller.admin ≡ true → states ≡ map node_state nodes → lab_outcome (world_seen settings rows version kept nodes manual) caller call.Hosts ≡ Answered (Hosts states) (world_seen settings rows version kept nodes manual)
-  hosts_seen states admin is = hosts_answered old caller states admin (is ∙ states_seen nodes)
+  pub hosts_seen : (states : List HostState) → caller.admin ≡ true → states ≡ map host_state (agents_of nodes) → lab_outcome (world_seen settings rows version kept nodes manual) caller call.Hosts ≡ Answered (Hosts states) (world_seen settings rows version kept nodes manual)
+  hosts_seen states admin is = hosts_answered old caller states admin is
 
-  pub tables_seen : (name : List ℕ) (answer : LabAnswer) → caller.admin ≡ true → (n : Node) × (named_node name nodes ≡ Some n) × (answer ≡ Tables n.tables)
+  pub tables_seen : (name : List ℕ) (answer : LabAnswer) → caller.admin ≡ true → (n : Node) × (named_node name nodes ≡ Some n) × (answer ≡ Tables n.agent.tables)
       → lab_outcome (world_seen settings rows version kept nodes manual) caller (call.Tables name) ≡ Answered answer (world_seen settings rows version kept nodes manual)
-  tables_seen name answer admin (n, is, same) = found caller name (host_named old name) (agent_of n) (λ a. Answered (Tables a.tables) old) admin (some_named name nodes n is) ∙ ap (λ a. Answered a old) (sym same)
+  tables_seen name answer admin (n, is, same) = found caller name (host_named old name) n.agent (λ a. Answered (Tables a.tables) old) admin (some_named name nodes n is) ∙ ap (λ a. Answered a old) (sym same)
 
   -- ---- frames
 
   pub carries_on : (event : Event) (verdict : Verdict) (fresh : List Made) (new : List Node) (w : World) → world_seen settings rows version kept nodes manual ≡ w → event_refusal rows caller event ≡ None
-      → verdict ≡ fabric_verdict (map host_of nodes) event → fresh ≡ verdict.fresh → Stepwise (IsKeptAt fresh) nodes new
+      → verdict ≡ fabric_verdict (map host_of (agents_of nodes)) event → fresh ≡ verdict.fresh → agents_of new ≡ add_from 0 (agents_of nodes) fresh
       → AreParts settings rows version kept new manual × IsHandled (ByLab (lab_outcome w caller (call.Frames event))) w (world_seen settings rows version kept new manual) (LabDone (Seen verdict))
-  carries_on event verdict fresh new w is none verdict_is fresh_is s =
-      let by_seats : verdict ≡ fabric_verdict (map seat (map agent_of nodes)) event = verdict_is ∙ ap (λ hosts. fabric_verdict hosts event) (seats_seen nodes) in
+  carries_on event verdict fresh new w is none verdict_is fresh_is is_put =
       behind (Send event) (call.Frames event) (Seen verdict) new w is
-      (sent settings rows version kept nodes manual are event new (added_seen fresh nodes new s ∙ ap (add_from 0 (map agent_of nodes)) (fresh_is ∙ ap (λ (v : Verdict). v.fresh) by_seats)))
-      (frames_told old caller event verdict none by_seats)
+      (sent settings rows version kept nodes manual are event new (is_put ∙ ap (add_from 0 (agents_of nodes)) (fresh_is ∙ ap (λ (v : Verdict). v.fresh) verdict_is)))
+      (frames_told old caller event verdict none verdict_is)

@@ -11,7 +11,6 @@ use Rattle.api_types.specs.Rows.{Fits, after}
 use Rattle.api_types.specs.declared.change.Item.{Item}
 use Rattle.net_settings.specs.Settings.{SettingsParts}
 use Rattle.plane_types.specs.Hosts.{Host, is_named}
-use Rattle.plane_types.specs.Node.{CanFollow, Node, host_of}
 use Rattle.plane_types.specs.Attached.{IsAttached}
 use Rattle.plane_types.specs.Verdicts.{fabric_verdict, with_made as kept_at_hosts}
 use Rattle.plane_types.specs.declared.event.Event.{Event}
@@ -22,18 +21,17 @@ use Rattle.plane_laws.proofs.ListLemmas.{AtMostOne-from_map}
 use Rattle.bus_core.specs.History.{change_at}
 use Rattle.bus_core.specs.Kept.{Kept, with_newest}
 use Rattle.api_machine.specs.Kept.{AreKept}
-use Rattle.world_laws.specs.Agents.{Agent, agent_of, seat}
+use Rattle.plane_types.specs.Node.{Agent, CanFollow, Node, agents_of, host_of}
 use Rattle.world_laws.specs.Lead.{IsWorld}
-use Rattle.world_laws.specs.Steps.{Accept, May, Send, Step, add_from, step}
+use Rattle.world_laws.specs.Steps.{Accept, DeliversBy, May, Send, Step, add_from, step}
 use Rattle.world_laws.specs.World.{AreSound, World}
 use Rattle.world_laws.proofs.AgentLaw.{follows_held, sound_now}
 use Rattle.world_laws.proofs.LeftOut.{those_left}
 use Rattle.world_laws.proofs.Lists.{each_map}
 use Rattle.world_laws.proofs.MeaningLaw.{next_change, rows_of_now}
-use Rattle.world_laws.proofs.StepLaw.{seat_names, step_kept}
+use Rattle.world_laws.proofs.StepLaw.{host_names, step_kept}
 use Rattle.lab_world.specs.Parts.{AreParts, world_seen}
-use Rattle.lab_world.specs.Steps.{AreTold}
-use Rattle.lab_world.proofs.Seen.{all_told, seats_seen}
+use Rattle.lab_world.proofs.One.{agent_at}
 
 module _ (settings : SettingsParts) (rows : RowLists) (version : ℕ) (kept : Kept) (nodes : List Node) (manual : Bool) (are : AreParts settings rows version kept nodes manual) where
   abbrev old : World
@@ -45,11 +43,11 @@ module _ (settings : SettingsParts) (rows : RowLists) (version : ℕ) (kept : Ke
   pub sound_after : (after_rows : RowLists) → AreKept settings rows after_rows → AreSound settings after_rows
   sound_after after_rows k = record { consistent = k.consistent; typed = k.typed; carried = k.carried sound.carried }
 
-  pub once_named : (name : List ℕ) → AtMostOne (λ (a : Agent). bytes_eq name a.name) (map agent_of nodes)
-  once_named name = AtMostOne-from_map (is_named name) seat (map agent_of nodes) (once-counted (is_named name) (map seat (map agent_of nodes)) (seat_names old are.world.rules are.world.named name))
+  pub once_named : (name : List ℕ) → AtMostOne (λ (a : Agent). bytes_eq name a.name) (agents_of nodes)
+  once_named name = AtMostOne-from_map (is_named name) host_of (agents_of nodes) (once-counted (is_named name) (map host_of (agents_of nodes)) (host_names old are.world.rules are.world.named name))
 
   -- other hosts that are seen alike
-  pub same_parts : (new : List Node) → map agent_of new ≡ map agent_of nodes → AreParts settings rows version kept new manual
+  pub same_parts : (new : List Node) → agents_of new ≡ agents_of nodes → AreParts settings rows version kept new manual
   same_parts new same = record {
     world = subst (λ (agents : List Agent). IsWorld (record old { agents = agents })) (sym same) are.world;
     numbered = are.numbered;
@@ -57,45 +55,43 @@ module _ (settings : SettingsParts) (rows : RowLists) (version : ℕ) (kept : Ke
 
   -- a step that changes the hosts alone, as these are
   pub by_step : (s : Step) (agents : List Agent) → step (world_seen settings rows version kept nodes manual) s ≡ record (world_seen settings rows version kept nodes manual) { agents = agents }
-      → May (world_seen settings rows version kept nodes manual) s → (new : List Node) → map agent_of new ≡ agents
+      → May (world_seen settings rows version kept nodes manual) s → (new : List Node) → agents_of new ≡ agents
       → AreParts settings rows version kept new manual × (world_seen settings rows version kept new manual ≡ step (world_seen settings rows version kept nodes manual) s)
   by_step s agents leads may new same =
       let is : world_seen settings rows version kept new manual ≡ step old s = ap (λ (seen : List Agent). record old { agents = seen }) same ∙ sym leads in
       (record { world = subst IsWorld (sym is) (step_kept old s are.world may); numbered = are.numbered }, is)
 
   -- the next change can follow at each host
-  pub can_follow : (c : List Item) → Fits rows c → IsConsistent (after rows c) → Each (λ (n : Node). CanFollow n (version + 1) c) nodes
+  pub can_follow : (c : List Item) → Fits rows c → IsConsistent (after rows c) → Each (λ (n : Node). CanFollow n.agent (version + 1) c) nodes
   can_follow c fits consistent k n at next =
-      let held = follows_held (version + 1) n.held next in
-      let now : n.held ≡ Some version = held.1 ∙ ap Some (sym (let same : version ≡ held.0 = omega (arith, held.2) in same)) in
-      let here : slice_get (map agent_of nodes) k ≡ Some (agent_of n) = slice_get-map agent_of nodes k ∙ ap (option_map agent_of) at in
-      let same : n.rows ≡ rows = rows_of_now old are.world k (agent_of n) here now in
+      let held = follows_held (version + 1) n.agent.held next in
+      let now : n.agent.held ≡ Some version = held.1 ∙ ap Some (sym (let same : version ≡ held.0 = omega (arith, held.2) in same)) in
+      let same : n.agent.rows ≡ rows = rows_of_now old are.world k n.agent (agent_at nodes k n at) now in
       (subst (λ r. Fits r c) (sym same) fits, subst (λ r. IsConsistent (after r c)) (sym same) consistent)
 
   -- the kept change that follows what a host holds can follow there
-  pub next_follows : (number : ℕ) (c : List Item) → change_at (world_seen settings rows version kept nodes manual).history number ≡ Some c → Each (λ (n : Node). CanFollow n number c) nodes
+  pub next_follows : (number : ℕ) (c : List Item) → change_at (world_seen settings rows version kept nodes manual).history number ≡ Some c → Each (λ (n : Node). CanFollow n.agent number c) nodes
   next_follows number c at k n there follows_it =
-      let held = follows_held number n.held follows_it in
-      let here : slice_get (map agent_of nodes) k ≡ Some (agent_of n) = slice_get-map agent_of nodes k ∙ ap (option_map agent_of) there in
-      let f = next_change old are.world number held.0 c at held.2 k (agent_of n) here held.1 in
+      let held = follows_held number n.agent.held follows_it in
+      let f = next_change old are.world number held.0 c at held.2 k n.agent (agent_at nodes k n there) held.1 in
       (f.0, f.1.consistent)
 
   -- a change is accepted
   abbrev now_kept : List Item → Kept
   now_kept c = record { last = kept.last + 1; changes = with_newest kept.changes c }
 
-  accepted_seen : (c : List Item) (new : List Node) → AreTold manual (version + 1) c nodes new
+  accepted_seen : (c : List Item) (new : List Node) → DeliversBy manual (version + 1) c (agents_of nodes) (agents_of new)
       → (left_out : List (List ℕ)) × (world_seen settings (after rows c) (version + 1) (now_kept c) new manual ≡ step (world_seen settings rows version kept nodes manual) (Accept left_out c))
   accepted_seen c new told = by manual told
     where
-      by : (b : Bool) → AreTold b (version + 1) c nodes new
+      by : (b : Bool) → DeliversBy b (version + 1) c (agents_of nodes) (agents_of new)
           → (left_out : List (List ℕ)) × (world_seen settings (after rows c) (version + 1) (now_kept c) new b ≡ step (world_seen settings rows version kept nodes b) (Accept left_out c))
-      by true same = ([], ap (λ (ns : List Node). world_seen settings (after rows c) (version + 1) (now_kept c) ns true) same)
-      by false all =
-          let left = those_left old (version + 1) c (map agent_of new) are.world.rules are.world.named (all_told (version + 1) c nodes new all) in
-          (left.0, ap (λ (seen : List Agent). record (world_seen settings (after rows c) (version + 1) (now_kept c) new false) { agents = seen }) left.1)
+      by true same = ([], ap (λ (agents : List Agent). record (world_seen settings (after rows c) (version + 1) (now_kept c) new true) { agents = agents }) same)
+      by false heard =
+          let left = those_left old (version + 1) c (agents_of new) are.world.rules are.world.named heard in
+          (left.0, ap (λ (agents : List Agent). record (world_seen settings (after rows c) (version + 1) (now_kept c) new false) { agents = agents }) left.1)
 
-  pub accepted : (c : List Item) (new : List Node) → Fits rows c → AreSound settings (after rows c) → AreTold manual (version + 1) c nodes new
+  pub accepted : (c : List Item) (new : List Node) → Fits rows c → AreSound settings (after rows c) → DeliversBy manual (version + 1) c (agents_of nodes) (agents_of new)
       → AreParts settings (after rows c) (version + 1) (record { last = kept.last + 1; changes = with_newest kept.changes c }) new manual
       × ((left_out : List (List ℕ)) × (world_seen settings (after rows c) (version + 1) (record { last = kept.last + 1; changes = with_newest kept.changes c }) new manual ≡ step (world_seen settings rows version kept nodes manual) (Accept left_out c)))
   accepted c new fits sound told =
@@ -104,13 +100,13 @@ module _ (settings : SettingsParts) (rows : RowLists) (version : ℕ) (kept : Ke
 
   -- ---- frames
 
-  pub names_differ : (name : List ℕ) → count_by (is_named name) (map host_of nodes) ≤ 1
-  names_differ name = subst (λ (hosts : List Host). count_by (is_named name) hosts ≤ 1) (sym (seats_seen nodes)) (seat_names old are.world.rules are.world.named name)
+  pub names_differ : (name : List ℕ) → count_by (is_named name) (map host_of (agents_of nodes)) ≤ 1
+  names_differ name = host_names old are.world.rules are.world.named name
 
   -- the entries that an event makes are placed where they are kept
-  pub fresh_placed : (event : Event) → Each IsAttached (kept_at_hosts (map host_of nodes) (fabric_verdict (map host_of nodes) event).fresh)
-  fresh_placed event = stay-placed (map host_of nodes) names_differ (subst (Each IsAttached) (sym (seats_seen nodes)) (each_map seat IsAttached (map agent_of nodes) are.world.placed)) event
+  pub fresh_placed : (event : Event) → Each IsAttached (kept_at_hosts (map host_of (agents_of nodes)) (fabric_verdict (map host_of (agents_of nodes)) event).fresh)
+  fresh_placed event = stay-placed (map host_of (agents_of nodes)) names_differ (each_map host_of IsAttached (agents_of nodes) are.world.placed) event
 
-  pub sent : (event : Event) (new : List Node) → map agent_of new ≡ add_from 0 (map agent_of nodes) (fabric_verdict (map seat (map agent_of nodes)) event).fresh
+  pub sent : (event : Event) (new : List Node) → agents_of new ≡ add_from 0 (agents_of nodes) (fabric_verdict (map host_of (agents_of nodes)) event).fresh
       → AreParts settings rows version kept new manual × (world_seen settings rows version kept new manual ≡ step (world_seen settings rows version kept nodes manual) (Send event))
-  sent event new same = by_step (Send event) (add_from 0 (map agent_of nodes) (fabric_verdict (map seat (map agent_of nodes)) event).fresh) refl tt new same
+  sent event new same = by_step (Send event) (add_from 0 (agents_of nodes) (fabric_verdict (map host_of (agents_of nodes)) event).fresh) refl tt new same

@@ -15,8 +15,9 @@ use Rattle.plane_types.specs.Verdicts.{with_made, with_made_from, made_at}
 use Rattle.plane_types.specs.declared.entry.Entry.{Entry}
 use Rattle.plane_types.specs.declared.lists.TableLists.{TableLists}
 use Rattle.plane_types.specs.declared.verdict.Made.{Made}
-use Rattle.plane_types.specs.Node.{Node, Ready, host_of, host_with, with_entries}
-use Rattle.lab_world.specs.Steps.{AreFor, held_by, made_for}
+use Rattle.plane_types.specs.Node.{Agent, Node, Ready, agents_of, host_of, host_with, with_entries}
+use Rattle.lab_world.specs.Hosts.{AreFor, made_for, name_and_tags}
+use Rattle.lab_world.proofs.One.{agent_at}
 
 -- ---- entries
 
@@ -43,7 +44,7 @@ first_given f x xs y h = by (f x) refl
     by o is = search (rules, h, is)
 
 -- an entry that is made next can be added
-pub next_placed : (n old : Node) (place : ℕ) (fresh : List Made) (i : ℕ) (m : Made) → n ≡ with_entries old n.entries n.spare
+pub next_placed : (n old : Agent) (place : ℕ) (fresh : List Made) (i : ℕ) (m : Made) → n ≡ with_entries n.entries old
     → n.entries ++ filter_map (made_at place) (drop i fresh) ≡ old.entries ++ filter_map (made_at place) fresh → i < length fresh → m ≡ slice_index_or fresh i m → made_at place m ≡ Some m.entry
     → IsAttached (host_with old (old.entries ++ filter_map (made_at place) fresh)) → IsAttached (host_with n (n.entries ++ m.entry ∷ []))
 next_placed n old place fresh i m same all within is hit placed =
@@ -58,9 +59,11 @@ next_placed n old place fresh i m same all within is hit placed =
 
 -- ---- places
 
-pub at_host : {T : Type 0} (f : Host → T) (nodes : List Node) (k : ℕ) (n : Node) → k < length nodes → n ≡ slice_index_or nodes k n → slice_get (map f (map host_of nodes)) k ≡ Some (f (host_of n))
+pub at_host : {T : Type 0} (f : Host → T) (nodes : List Node) (k : ℕ) (n : Node) → k < length nodes → n ≡ slice_index_or nodes k n
+    → slice_get (map f (map host_of (agents_of nodes))) k ≡ Some (f (host_of n.agent))
 at_host f nodes k n within is =
-    slice_get-map f (map host_of nodes) k ∙ ap (option_map f) (slice_get-map host_of nodes k ∙ ap (option_map host_of) (slice_get-get_or nodes k n within ∙ ap Some (sym is)))
+    let at : slice_get (agents_of nodes) k ≡ Some n.agent = agent_at nodes k n (slice_get-get_or nodes k n within ∙ ap Some (sym is)) in
+    slice_get-map f (map host_of (agents_of nodes)) k ∙ ap (option_map f) (slice_get-map host_of (agents_of nodes) k ∙ ap (option_map host_of) at)
 
 pub at_front : {X : Type 0} (xs : List X) (i : ℕ) (x : X) (rest : List X) → drop i xs ≡ x ∷ rest → slice_get xs i ≡ Some x
 at_front [] zero x rest h = absurd cc
@@ -70,10 +73,12 @@ at_front (y ∷ xs) (suc i) x rest h = at_front xs i x rest h
 
 -- what is left of what was made ready begins with what is for the host at this place
 pub next_ready : (ready : List Ready) (old items : List Node) (i : ℕ) (r : Ready) (rest : List Ready) (n : Node) → AreFor ready old → slice_get items i ≡ slice_get old i → i < length items
-    → n ≡ slice_index_or items i n → drop i ready ≡ r ∷ rest → made_for r ≡ held_by n
+    → n ≡ slice_index_or items i n → drop i ready ≡ r ∷ rest → made_for r ≡ name_and_tags n.agent
 next_ready ready old items i r rest n are same within is split =
     let at : slice_get old i ≡ Some n = sym same ∙ slice_get-get_or items i n within ∙ ap Some (sym is) in
-    some_equal (made_for r) (held_by n) (sym (slice_get-map made_for ready i ∙ ap (option_map made_for) (at_front ready i r rest split)) ∙ ap (λ xs. slice_get xs i) are ∙ slice_get-map held_by old i ∙ ap (option_map held_by) at)
+    some_equal (made_for r) (name_and_tags n.agent)
+    (sym (slice_get-map made_for ready i ∙ ap (option_map made_for) (at_front ready i r rest split)) ∙ ap (λ xs. slice_get xs i) are
+    ∙ slice_get-map (λ (m : Node). name_and_tags m.agent) old i ∙ ap (option_map (λ (m : Node). name_and_tags m.agent)) at)
 
 pub rest_behind : {X : Type 0} (xs : List X) (i : ℕ) (x : X) (rest : List X) → drop i xs ≡ x ∷ rest → rest ≡ drop (suc i) xs
 rest_behind [] zero x rest h = absurd cc
@@ -91,9 +96,9 @@ kept_at place (g ∷ hosts) fresh zero at h is here =
     ap Some ((λ j. record { name = (same j).name; tables = (same j).tables; entries = (same j).entries ++ filter_map (made_at (first j)) fresh }))
 kept_at place (g ∷ hosts) fresh (suc k) at h is here = kept_at (suc place) hosts fresh k at h (omega (arith, is)) here
 
-pub will_be_placed : (old items : List Node) (fresh : List Made) (i : ℕ) (n : Node) → Each IsAttached (with_made (map host_of old) fresh) → slice_get items i ≡ slice_get old i → i < length items → n ≡ slice_index_or items i n
-    → IsAttached (host_of (with_entries n (n.entries ++ filter_map (made_at i) fresh) 0))
+pub will_be_placed : (old items : List Node) (fresh : List Made) (i : ℕ) (n : Node) → Each IsAttached (with_made (map host_of (agents_of old)) fresh) → slice_get items i ≡ slice_get old i → i < length items
+    → n ≡ slice_index_or items i n → IsAttached (host_with n.agent (n.agent.entries ++ filter_map (made_at i) fresh))
 will_be_placed old items fresh i n placed same within is =
-    let at : slice_get old i ≡ Some n = sym same ∙ slice_get-get_or items i n within ∙ ap Some (sym is) in
-    let there : slice_get (map host_of old) i ≡ Some (host_of n) = slice_get-map host_of old i ∙ ap (option_map host_of) at in
-    placed i (host_of (with_entries n (n.entries ++ filter_map (made_at i) fresh) 0)) (kept_at 0 (map host_of old) fresh i i (host_of n) (omega arith) there)
+    let at : slice_get (agents_of old) i ≡ Some n.agent = agent_at old i n (sym same ∙ slice_get-get_or items i n within ∙ ap Some (sym is)) in
+    let there : slice_get (map host_of (agents_of old)) i ≡ Some (host_of n.agent) = slice_get-map host_of (agents_of old) i ∙ ap (option_map host_of) at in
+    placed i (host_with n.agent (n.agent.entries ++ filter_map (made_at i) fresh)) (kept_at 0 (map host_of (agents_of old)) fresh i i (host_of n.agent) (omega arith) there)

@@ -4,7 +4,11 @@ use Rattle.std.proofs.lemmas.Bool.{cases_order}
 use Rattle.std.proofs.lemmas.List.{length-set}
 use Rattle.std.proofs.lemmas.Option.{slice_get_within}
 use Rattle.api_types.proofs.ListLemmas.{some_equal}
-use Rattle.lab_world.specs.Steps.{Stepwise}
+
+-- a list in the place of another: each item comes of that at its place
+pub record Stepwise {S : Type 0} (step : ℕ → S → S → Type 0) (old new : List S) : Type 0 where
+  pub length : length new ≡ length old
+  pub each : (k : ℕ) (x y : S) → slice_get old k ≡ Some x → slice_get new k ≡ Some y → step k x y
 
 -- the items in front of a place come of those at their places, and the others are as they were
 pub record SoFar {S : Type 0} (step : ℕ → S → S → Type 0) (old items : List S) (place : ℕ) : Type 0 where
@@ -52,14 +56,12 @@ module _ {S : Type 0} where
     each = λ k a b from to. let within = slice_get_within items k b to in s.done k a b (omega (arith, within, end)) from to;
   }
 
-  -- where a step may leave an item as it was, a front that is put makes a whole
-  pub as_it_is : (step : ℕ → S → S → Type 0) (old items : List S) (i : ℕ) → SoFar step old items i → ((k : ℕ) (x : S) → step k x x) → Stepwise step old items
-  as_it_is step old items i s stays = record { length = s.size; each = λ k a b from to. here k a b from to (cases_order k i) }
+  -- what holds of each item before a place holds of each before the next
+  pub each_more : (P : S → Type 0) (xs : List S) (i : ℕ) (z : S) → ((k : ℕ) (x : S) → k < i → slice_get xs k ≡ Some x → P x) → P z → i < length xs
+      → (k : ℕ) (x : S) → k < i + 1 → slice_get (slice_set xs i z) k ≡ Some x → P x
+  each_more P xs i z all one within k x h at = by (cases_order k i)
     where
-      same : (k : ℕ) (a b : S) → slice_get old k ≡ Some a → slice_get items k ≡ Some b → i ≤ k → step k a b
-      same k a b from to h = subst (step k a) (some_equal a b (sym from ∙ sym (s.left k h) ∙ to)) (stays k a)
-
-      here : (k : ℕ) (a b : S) → slice_get old k ≡ Some a → slice_get items k ≡ Some b → (k ≡ i) ⊎ ((k < i) ⊎ (i < k)) → step k a b
-      here k a b from to (inl e) = same k a b from to (omega (arith, e))
-      here k a b from to (inr (inl less)) = s.done k a b less from to
-      here k a b from to (inr (inr more)) = same k a b from to (omega (arith, more))
+      by : (k ≡ i) ⊎ ((k < i) ⊎ (i < k)) → P x
+      by (inl same) = subst P (some_equal z x (sym (written xs i z k within same) ∙ at)) one
+      by (inr (inl less)) = all k x less (sym (unwritten xs i z k (λ e. omega (arith, e, less))) ∙ at)
+      by (inr (inr more)) = absurd (omega (arith, more, h))

@@ -23,10 +23,10 @@ use Rattle.api_machine.specs.Kept.{AreKept}
 use Rattle.api_machine.specs.WholeStep.{api_step}
 use Rattle.api_machine.proofs.CallsKept.{call_kept}
 use Rattle.bus_core.specs.History.{change_at}
-use Rattle.world_laws.specs.Agents.{Agent}
+use Rattle.plane_types.specs.Node.{Agent}
 use Rattle.world_laws.specs.Lead.{IsWorld}
 use Rattle.world_laws.specs.Steps.{Accept, Deliver, Forget, Resync, Restart, Send, Settle, Step, May, step}
-use Rattle.world_laws.specs.World.{AreSound, World, opened}
+use Rattle.world_laws.specs.World.{AreSound, World, first_world}
 use Rattle.world_laws.proofs.AgentLaw.{sound_now}
 use Rattle.world_laws.proofs.StepLaw.{opened_stands, step_kept}
 use Rattle.lab_world.specs.Lab.{Answered, Barred, LabOutcome, delivered, event_refusal, for_admins, host_named, lab_outcome, unless_barred, with_host}
@@ -92,7 +92,7 @@ ask_keeps caller (Lab c) v w form is moves = by_lab v w is (lab_outcome v caller
 -- ---- the first world
 
 -- where there are no rows, nothing is asked of them
-pub no_rows_stand : (settings : SettingsParts) (manual : Bool) → MeetsRules settings → IsWorld (opened settings manual no_rows)
+pub no_rows_stand : (settings : SettingsParts) (manual : Bool) → MeetsRules settings → IsWorld (first_world settings manual no_rows)
 no_rows_stand settings manual rules = opened_stands settings manual no_rows rules (record {
   consistent = no_rows_consistent;
   typed = record { prefixes = λ k s at. none_some s _ at; macs = λ k p at. none_some p _ at };

@@ -15,7 +15,6 @@ use Rattle.api_types.specs.declared.refusal.Refusal.{Refusal}
 use Rattle.api_types.specs.declared.refusal.Refusal.TheVariants.{Forbidden, Invalid, NoHost, NoMessage, NoRoute, OutOfMemory}
 use Rattle.api_policy.specs.Visibility.{sees_row}
 use Rattle.plane_types.specs.Hosts.{all_entries}
-use Rattle.plane_types.specs.Node.{hearing}
 use Rattle.plane_types.specs.Verdicts.{fabric_verdict, rows_verdict}
 use Rattle.plane_types.specs.declared.ask.HostState.{HostState}
 use Rattle.plane_types.specs.declared.ask.LabAnswer.{LabAnswer}
@@ -25,9 +24,9 @@ use Rattle.plane_types.specs.declared.ask.LabCall.TheVariants as call
 use Rattle.plane_types.specs.declared.event.Event.{Event}
 use Rattle.plane_types.specs.declared.event.Event.TheVariants.{FromPort, FromWire}
 use Rattle.bus_core.specs.History.{change_at, first_kept}
-use Rattle.world_laws.specs.Agents.{Agent}
+use Rattle.plane_types.specs.Node.{Agent, hearing}
 use Rattle.world_laws.specs.Steps.{Deliver, Forget, Resync, Restart, Send, Settle, Step, step}
-use Rattle.world_laws.specs.World.{World, seats}
+use Rattle.world_laws.specs.World.{World, hosts_of}
 
 -- a call of the lab is refused, or answered, and then the world is this
 pub data LabOutcome : Type 0 where
@@ -83,10 +82,10 @@ delivered w name number a (Some c) =
 abbrev pub lab_outcome : World → Caller → LabCall → LabOutcome
 lab_outcome w caller (call.Frames event) =
     unless_barred (event_refusal w.history.rows caller event)
-    (Answered (Seen (fabric_verdict (seats w) event)) (step w (Send event)))
+    (Answered (Seen (fabric_verdict (hosts_of w) event)) (step w (Send event)))
 lab_outcome w caller (call.Explain event) =
     unless_barred (event_refusal w.history.rows caller event)
-    (Answered (Seen (rows_verdict w.history.rows (all_entries (seats w)) event)) w)
+    (Answered (Seen (rows_verdict w.history.rows (all_entries (hosts_of w)) event)) w)
 lab_outcome w caller call.Hosts = for_admins caller (Answered (hosts_told w) w)
 lab_outcome w caller (call.Tables name) =
     for_admins caller (with_host name (host_named w name) (λ a. Answered (Tables a.tables) w))

@@ -1,5 +1,5 @@
 pub mod Lab
 pub mod Opening
 pub mod Parts
-pub mod Steps
+pub mod Hosts
 pub mod World

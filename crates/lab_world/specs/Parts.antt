@@ -1,11 +1,10 @@
 -- A server's world by its parts in code.
-use Rattle.std.specs.Prelude.{◌≡◌, Bool, List, map}
+use Rattle.std.specs.Prelude.{◌≡◌, Bool, List}
 use Rattle.net_addr.specs.Words.{Version}
 use Rattle.api_types.specs.RowLists.{RowLists}
 use Rattle.net_settings.specs.Settings.{SettingsParts}
-use Rattle.plane_types.specs.Node.{Node}
+use Rattle.plane_types.specs.Node.{Node, agents_of}
 use Rattle.bus_core.specs.Kept.{Kept}
-use Rattle.world_laws.specs.Agents.{agent_of}
 use Rattle.world_laws.specs.Lead.{IsWorld}
 use Rattle.world_laws.specs.World.{World}
 
@@ -14,7 +13,7 @@ world_seen settings rows version kept nodes manual = record {
   settings = settings;
   manual = manual;
   history = record { rows = rows; version = version; kept = kept.changes };
-  agents = map agent_of nodes;
+  agents = agents_of nodes;
 }
 
 -- what is true between any two calls

@@ -1,12 +1,13 @@
 //! Loops over all hosts, each as one step of one host.
 
-ghost use Rattle.std.specs.Prelude.{◌≡◌, ◌≤◌, ◌++◌, OnOk, length, map};
+ghost use Rattle.std.specs.Prelude.{◌≡◌, ◌⊎◌, ◌≤◌, ◌++◌, OnOk, length, map};
 ghost use Rattle.std.specs.List.{filter_map};
 ghost use Rattle.api_types.specs.Lists.{Each};
 ghost use Rattle.plane_types.specs.Attached.{IsAttached};
 ghost use Rattle.plane_types.specs.Verdicts.{with_made, made_at};
-ghost use Rattle.plane_types.specs.Node.{CanFollow, Node, Ready, host_of, with_entries};
-ghost use Rattle.lab_world.specs.Steps.{AreFor, IsKeptAt, IsSettledAt, IsToldAt, IsToldNode, Stepwise, settled_node};
+ghost use Rattle.plane_types.specs.Node.{CanFollow, Node, Ready, after_change, agents_of, host_of, host_with, with_entries};
+ghost use Rattle.world_laws.specs.Steps.{MayHaveHeard, add_from, after_settle};
+ghost use Rattle.lab_world.specs.Hosts.{AreFor, settle_each};
 
 use agent_node::{AgentNode, ReadyNode};
 use api_types::Change;
@@ -16,8 +17,9 @@ use std::alloc::Global;
 
 // Tells a host a change, or leaves it as it is where memory is wanting.
 fn tell(alloc: Global, node: &mut AgentNode, number: u64, change: &Change)
-    requires { CanFollow node.old number change.now }
-    ensures { IsToldNode number change.now node.old node.new }
+    requires { CanFollow node.old.agent number change.now }
+    ensures { (node.new.agent ≡ after_change number change.now node.old.agent)
+        ⊎ (node.new.agent ≡ node.old.agent) }
 {
     match node.deliver(alloc, number, change) {
         Ok(_) => {}
@@ -27,8 +29,8 @@ fn tell(alloc: Global, node: &mut AgentNode, number: u64, change: &Change)
 
 /// Tells each host a change; those that find no memory stay as they are.
 pub(crate) fn tell_all(alloc: Global, nodes: &mut [AgentNode], number: u64, change: &Change)
-    requires { Each (λ (n : Node). CanFollow n number change.now) nodes.old }
-    ensures { Stepwise (IsToldAt number change.now) nodes.old nodes.new }
+    requires { Each (λ (n : Node). CanFollow n.agent number change.now) nodes.old }
+    ensures { MayHaveHeard number change.now (agents_of nodes.old) (agents_of nodes.new) }
 {
     for node in nodes.iter_mut() {
         tell(alloc, node, number, change);
@@ -37,10 +39,10 @@ pub(crate) fn tell_all(alloc: Global, nodes: &mut [AgentNode], number: u64, chan
 
 // Puts in place what was made ready for a host, where it doesn't hold the version.
 fn settle_one(node: &mut AgentNode, ready: ReadyNode, version: u64)
-    requires name { ready.name ≡ node.old.name }
-    requires tags { ready.old ≡ node.old.tables.tags }
+    requires name { ready.name ≡ node.old.agent.name }
+    requires tags { ready.old ≡ node.old.agent.tables.tags }
     requires version { ready.version ≡ version }
-    ensures { node.new ≡ settled_node version ready.rows node.old node.new.spare }
+    ensures { node.new.agent ≡ after_settle version ready.rows node.old.agent }
 {
     if node.held() != Some(version) {
         node.put(ready);
@@ -51,7 +53,7 @@ fn settle_one(node: &mut AgentNode, ready: ReadyNode, version: u64)
 pub(crate) fn settle_all(nodes: &mut [AgentNode], ready: Vec<ReadyNode>, version: u64)
     requires each { AreFor ready.items nodes.old }
     requires version { Each (λ (r : Ready). r.version ≡ version) ready.items }
-    ensures { Stepwise (IsSettledAt version ready.items) nodes.old nodes.new }
+    ensures { agents_of nodes.new ≡ settle_each version ready.items (agents_of nodes.old) }
 {
     let mut left = ready.into_iter();
     for node in nodes.iter_mut() {
@@ -63,8 +65,8 @@ pub(crate) fn settle_all(nodes: &mut [AgentNode], ready: Vec<ReadyNode>, version
 
 /// Makes room at each host for the entries of one event.
 pub(crate) fn reserve_all(alloc: Global, nodes: &mut [AgentNode]) -> Result<(), OutOfMemory>
-    ensures same { Stepwise (λ k n m. m ≡ with_entries n n.entries m.spare) nodes.old nodes.new }
-    ensures spare { OnOk result (Each (λ (n : Node). 256 ≤ n.spare) nodes.new) }
+    ensures same { agents_of nodes.new ≡ agents_of nodes.old }
+    ensures spare { OnOk result (Each (λ (n : Node). 256 ≤ n.spare.entries) nodes.new) }
 {
     for node in nodes.iter_mut() {
         node.reserve(alloc)?;
@@ -74,9 +76,9 @@ pub(crate) fn reserve_all(alloc: Global, nodes: &mut [AgentNode]) -> Result<(), 
 
 /// Adds at each host what it made.
 pub(crate) fn keep_all(nodes: &mut [AgentNode], fresh: &[Made])
-    requires room { Each (λ (n : Node). length fresh.now ≤ n.spare) nodes.old }
-    requires placed { Each IsAttached (with_made (map host_of nodes.old) fresh.now) }
-    ensures { Stepwise (IsKeptAt fresh.now) nodes.old nodes.new }
+    requires room { Each (λ (n : Node). length fresh.now ≤ n.spare.entries) nodes.old }
+    requires placed { Each IsAttached (with_made (map host_of (agents_of nodes.old)) fresh.now) }
+    ensures { agents_of nodes.new ≡ add_from 0 (agents_of nodes.old) fresh.now }
 {
     for (at, node) in nodes.iter_mut().enumerate() {
         add_made(node, at, fresh);
@@ -85,12 +87,13 @@ pub(crate) fn keep_all(nodes: &mut [AgentNode], fresh: &[Made])
 
 // Adds what the host at this place made.
 fn add_made(node: &mut AgentNode, at: usize, fresh: &[Made])
-    requires room { length fresh.now ≤ node.old.spare }
+    requires room { length fresh.now ≤ node.old.spare.entries }
     requires placed { IsAttached
-        (host_of (with_entries node.old (node.old.entries ++ filter_map (made_at at) fresh.now) 0)) }
-    ensures { node.new
-        ≡ with_entries node.old (node.old.entries ++ filter_map (made_at at) fresh.now)
-        node.new.spare }
+        (host_with node.old.agent
+        (node.old.agent.entries ++ filter_map (made_at at) fresh.now)) }
+    ensures { node.new.agent
+        ≡ with_entries (node.old.agent.entries ++ filter_map (made_at at) fresh.now)
+        node.old.agent }
 {
     for made in fresh {
         if made.host == Some(at) {

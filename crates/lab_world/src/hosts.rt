@@ -1,15 +1,18 @@
 //! The hosts in order, each with its agents; frames see them as a fleet.
 
-ghost use Rattle.std.specs.Prelude.{◌≡◌, ◌↔◌, ◌<◌, ◌≤◌, ◌++◌, ◌∷◌, [], ℕ, None, Some, IfNone, IfOk, IfSome, IsTrue, OnErr, OnOk, find, flat_map, if◌then◌else◌, length, map, option_copied, option_map};
+ghost use Rattle.std.specs.Prelude.{◌≡◌, ◌↔◌, ◌<◌, ◌≤◌, ◌++◌, ◌∷◌, [], None, Some, IfNone, IfOk, IfSome, IsTrue, OnErr, OnOk, find, flat_map, if◌then◌else◌, length, map, option_copied, option_map, slice_get};
 ghost use Rattle.std.specs.Str.{bytes_eq};
 ghost use Rattle.api_types.specs.Consistent.{IsConsistent};
 ghost use Rattle.api_types.specs.Lists.{Each};
 ghost use Rattle.plane_types.specs.Hosts.{is_named};
 ghost use Rattle.plane_types.specs.Attached.{IsAttached};
 ghost use Rattle.plane_types.specs.Verdicts.{with_made};
-ghost use Rattle.plane_types.specs.Node.{CanFollow, Node, Ready, hearing as heard_of, host_of, after_resync, first_node, after_change, with_entries};
+ghost use Rattle.plane_types.specs.Node.{CanFollow, Node, Ready, after_change, after_forget, after_restart, after_resync, agents_of, first_agent, hearing, host_of, ready_for};
+ghost use Rattle.plane_types.specs.Room.{Room};
 ghost use Rattle.plane_types.specs.Tables.{Tables};
-ghost use Rattle.lab_world.specs.Steps.{AreFor, AreTold, IsDoneAt, IsKeptAt, IsNamedAt, IsSettledAt, Stepwise, named_node, node_state, ready_for, state_at_version, state_with};
+ghost use Rattle.world_laws.specs.Steps.{DeliversBy, add_from};
+ghost use Rattle.lab_world.specs.Hosts.{AreFor, IsNamedAt, at_place, named_node, settle_each, state_at_version, state_with};
+ghost use Rattle.lab_world.specs.Lab.{host_state};
 
 use crate::each::{add_entries, keep_all, reserve_all, settle_all, tell_all};
 use agent_node::{AgentNode, ReadyNode};
@@ -56,7 +59,9 @@ impl Hosts {
     ) -> Result<(), OutOfMemory>
         requires { IsConsistent rows.now }
         ensures ok { OnOk result
-            ((spare : ℕ) × (self.new ≡ self.old ++ first_node host version rows.now spare ∷ [])) }
+            ((spare : Room) × (self.new
+            ≡ self.old
+            ++ record { agent = first_agent rows.now version host; spare = spare } ∷ [])) }
         ensures err { OnErr result (self.new ≡ self.old) }
     {
         let node = AgentNode::make(alloc, host, rows, version)?;
@@ -73,7 +78,8 @@ impl Hosts {
         rows: &Rows,
     ) -> Result<Vec<ReadyNode>, OutOfMemory>
         requires { IsConsistent rows.now }
-        ensures { IfOk result (λ ready. ready.items ≡ map (ready_for version rows.now) self.now) }
+        ensures { IfOk result
+            (λ ready. ready.items ≡ map (ready_for version rows.now) (agents_of self.now)) }
     {
         let mut ready = Vec::new(alloc);
         for node in &self.nodes {
@@ -88,7 +94,7 @@ impl Hosts {
     pub fn settle(&mut self, ready: Vec<ReadyNode>, version: u64)
         requires each { AreFor ready.items self.old }
         requires version { Each (λ (r : Ready). r.version ≡ version) ready.items }
-        ensures { Stepwise (IsSettledAt version ready.items) self.old self.new }
+        ensures { agents_of self.new ≡ settle_each version ready.items (agents_of self.old) }
     {
         settle_all(self.nodes.as_mut_slice(), ready, version);
     }
@@ -96,8 +102,8 @@ impl Hosts {
     /// Tells each host a change with its number, unless delivery is by hand alone. Those that find
     /// no memory stay as they are. Its cost is that of wiring each host.
     pub fn tell(&mut self, alloc: Global, manual: bool, number: u64, change: &Change)
-        requires { Each (λ (n : Node). CanFollow n number change.now) self.old }
-        ensures { AreTold manual number change.now self.old self.new }
+        requires { Each (λ (n : Node). CanFollow n.agent number change.now) self.old }
+        ensures { DeliversBy manual number change.now (agents_of self.old) (agents_of self.new) }
     {
         if !manual {
             tell_all(alloc, self.nodes.as_mut_slice(), number, change);
@@ -127,12 +133,13 @@ impl Hosts {
         change: &Change,
     ) -> Result<Heard, OutOfMemory>
         requires within { at < length self.old }
-        requires fits { Each (λ (n : Node). CanFollow n number change.now) self.old }
-        ensures ok { IfOk result
-            (λ heard.
-            IsDoneAt
-            (λ n m. (m ≡ after_change n number change.now m.spare) × (heard ≡ heard_of number n.held))
-            at self.old self.new) }
+        requires fits { Each (λ (n : Node). CanFollow n.agent number change.now) self.old }
+        ensures heard { IfOk result
+            (λ heard. (n : Node) → slice_get self.old at ≡ Some n
+            → heard ≡ hearing number n.agent.held) }
+        ensures ok { OnOk result
+            (agents_of self.new
+            ≡ at_place at (after_change number change.now) (agents_of self.old)) }
         ensures err { OnErr result (self.new ≡ self.old) }
     {
         let heard = self.nodes[at].deliver(alloc, number, change)?;
@@ -151,7 +158,7 @@ impl Hosts {
         requires within { at < length self.old }
         requires consistent { IsConsistent rows.now }
         ensures ok { OnOk result
-            (IsDoneAt (λ n m. m ≡ after_resync n version rows.now m.spare) at self.old self.new) }
+            (agents_of self.new ≡ at_place at (after_resync version rows.now) (agents_of self.old)) }
         ensures err { OnErr result (self.new ≡ self.old) }
     {
         self.nodes[at].resync(alloc, version, rows)?;
@@ -161,7 +168,7 @@ impl Hosts {
     /// The host at a place holds nothing from now on. It takes no memory.
     pub fn restart(&mut self, at: usize)
         requires { at < length self.old }
-        ensures { IsDoneAt (λ n m. m ≡ record n { held = None }) at self.old self.new }
+        ensures { agents_of self.new ≡ at_place at after_restart (agents_of self.old) }
     {
         self.nodes[at].restart();
     }
@@ -169,15 +176,15 @@ impl Hosts {
     /// The host at a place has no entries from now on. It takes no memory.
     pub fn forget(&mut self, at: usize)
         requires { at < length self.old }
-        ensures { IsDoneAt (λ n m. m ≡ with_entries n [] m.spare) at self.old self.new }
+        ensures { agents_of self.new ≡ at_place at after_forget (agents_of self.old) }
     {
         self.nodes[at].forget();
     }
 
     /// Makes room at each host for the entries of one event. All else stays.
     pub fn reserve(&mut self, alloc: Global) -> Result<(), OutOfMemory>
-        ensures same { Stepwise (λ k n m. m ≡ with_entries n n.entries m.spare) self.old self.new }
-        ensures spare { OnOk result (Each (λ (n : Node). 256 ≤ n.spare) self.new) }
+        ensures same { agents_of self.new ≡ agents_of self.old }
+        ensures spare { OnOk result (Each (λ (n : Node). 256 ≤ n.spare.entries) self.new) }
     {
         reserve_all(alloc, self.nodes.as_mut_slice())
     }
@@ -185,9 +192,9 @@ impl Hosts {
     /// Adds the entries that an event made, each at the host that made it. It takes no memory. Its
     /// cost grows with these entries times the hosts.
     pub fn keep(&mut self, fresh: &[Made])
-        requires room { Each (λ (n : Node). length fresh.now ≤ n.spare) self.old }
-        requires placed { Each IsAttached (with_made (map host_of self.old) fresh.now) }
-        ensures { Stepwise (IsKeptAt fresh.now) self.old self.new }
+        requires room { Each (λ (n : Node). length fresh.now ≤ n.spare.entries) self.old }
+        requires placed { Each IsAttached (with_made (map host_of (agents_of self.old)) fresh.now) }
+        ensures { agents_of self.new ≡ add_from 0 (agents_of self.old) fresh.now }
     {
         keep_all(self.nodes.as_mut_slice(), fresh);
     }
@@ -195,7 +202,7 @@ impl Hosts {
     /// The entries of all hosts, in their order. Its cost grows with them.
     pub fn all_entries(&self, alloc: Global) -> Result<Entries, OutOfMemory>
         ensures { IfOk result
-            (λ entries. entries.items ≡ flat_map (λ (n : Node). n.entries) self.now) }
+            (λ entries. entries.items ≡ flat_map (λ (n : Node). n.agent.entries) self.now) }
     {
         let mut entries = Entries::new(alloc);
         for node in &self.nodes {
@@ -206,7 +213,7 @@ impl Hosts {
 
     /// Each host, and the version that it holds.
     pub fn states(&self, alloc: Global) -> Result<Seq<HostState>, OutOfMemory>
-        ensures { IfOk result (λ states. states ≡ map node_state self.now) }
+        ensures { IfOk result (λ states. states ≡ map host_state (agents_of self.now)) }
     {
         let mut states = Seq::new(alloc);
         for node in &self.nodes {
@@ -222,7 +229,8 @@ impl Hosts {
         name: &Text,
         held: Option<u64>,
     ) -> Result<Seq<HostState>, OutOfMemory>
-        ensures { IfOk result (λ states. states ≡ map (state_with name.now held) self.now) }
+        ensures { IfOk result
+            (λ states. states ≡ map (state_with name.now held) (agents_of self.now)) }
     {
         let mut states = Seq::new(alloc);
         for node in &self.nodes {
@@ -233,7 +241,8 @@ impl Hosts {
 
     /// Each host, as if it held this version.
     pub fn states_at(&self, alloc: Global, version: u64) -> Result<Seq<HostState>, OutOfMemory>
-        ensures { IfOk result (λ states. states ≡ map (state_at_version version) self.now) }
+        ensures { IfOk result
+            (λ states. states ≡ map (state_at_version version) (agents_of self.now)) }
     {
         let mut states = Seq::new(alloc);
         for node in &self.nodes {
@@ -244,7 +253,7 @@ impl Hosts {
 
     /// Whether each host holds this version.
     pub fn all_hold(&self, version: u64) -> bool
-        ensures { IsTrue result ↔ Each (λ (n : Node). n.held ≡ Some version) self.now }
+        ensures { IsTrue result ↔ Each (λ (n : Node). n.agent.held ≡ Some version) self.now }
     {
         self.nodes.iter().all(|node| node.held() == Some(version))
     }
@@ -252,7 +261,7 @@ impl Hosts {
     /// The tables of the host with this name, which are those that its rows give to it.
     pub fn tables_of(&self, name: &Text) -> Option<&HostTables>
         ensures { option_map (λ (t : Tables). t.lists) (option_copied result)
-            ≡ option_map (λ (n : Node). n.tables) (named_node name.now self.now) }
+            ≡ option_map (λ (n : Node). n.agent.tables) (named_node name.now self.now) }
     {
         for node in &self.nodes {
             if *name == *node.host() {
@@ -265,7 +274,7 @@ impl Hosts {
 
 // A host's name, and this version.
 fn state(alloc: Global, node: &AgentNode, held: Option<u64>) -> Result<HostState, OutOfMemory>
-    ensures { IfOk result (λ s. s ≡ record { name = node.now.name; held = held }) }
+    ensures { IfOk result (λ s. s ≡ record { name = node.now.agent.name; held = held }) }
 {
     Ok(HostState {
         name: node.host().copy(alloc)?,
@@ -275,7 +284,8 @@ fn state(alloc: Global, node: &AgentNode, held: Option<u64>) -> Result<HostState
 
 // What a host would hold if the host of this name held that version.
 fn held_with(node: &AgentNode, name: &Text, held: Option<u64>) -> Option<u64>
-    ensures { result ≡ (if bytes_eq name.now node.now.name then held else node.now.held) }
+    ensures { result
+        ≡ (if bytes_eq name.now node.now.agent.name then held else node.now.agent.held) }
 {
     if *name == *node.host() {
         held
@@ -286,9 +296,9 @@ fn held_with(node: &AgentNode, name: &Text, held: Option<u64>) -> Option<u64>
 
 impl Fleet for Hosts {
     ghost use Rattle.std.specs.Prelude.{map};
-    ghost use Rattle.plane_types.specs.Node.{host_of};
+    ghost use Rattle.plane_types.specs.Node.{agents_of, host_of};
 
-    ghost hosts = { λ h. map host_of h };
+    ghost hosts = { λ h. map host_of (agents_of h) };
 
     fn count(&self) -> usize {
         self.nodes.len()

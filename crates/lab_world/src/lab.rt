@@ -8,7 +8,7 @@ ghost use Rattle.plane_types.specs.Node.{Node};
 ghost use Rattle.plane_types.specs.declared.ask.LabAnswer.TheVariants.{Tables as TablesOf};
 ghost use Rattle.bus_core.specs.Kept.{IsGone, change_of, first_of};
 ghost use Rattle.lab_world.specs.Lab.{event_refusal};
-ghost use Rattle.lab_world.specs.Steps.{IsNamedAt, named_node};
+ghost use Rattle.lab_world.specs.Hosts.{IsNamedAt, named_node};
 
 use crate::hosts::Hosts;
 use api_policy::sees;
@@ -113,7 +113,7 @@ pub(crate) fn kept_change(bus: &Bus, number: u64) -> Result<&Change, Refusal>
 pub(crate) fn tables_of(alloc: Global, hosts: &Hosts, name: &Text) -> Result<LabAnswer, Refusal>
     ensures ok { IfOk result
         (λ answer. (n : Node) × (named_node name.now hosts.now ≡ Some n)
-        × (answer ≡ TablesOf n.tables)) }
+        × (answer ≡ TablesOf n.agent.tables)) }
     ensures err { IfErr result
         (λ refusal. (refusal ≡ Refusal.OutOfMemory)
         ⊎ ((refusal ≡ NoHostOf name.now) × (named_node name.now hosts.now ≡ None))) }

@@ -3,11 +3,11 @@
 ghost use Rattle.std.specs.Prelude.{◌≡◌, ◌↔◌, ◌≤◌, IfErr, IfOk, IsTrue, None, OnOk, map, true, is_some};
 ghost use Rattle.api_types.specs.Consistent.{IsConsistent};
 ghost use Rattle.api_check.specs.FirstBroken.{first_broken_of};
-ghost use Rattle.net_settings.specs.declared.settings.Host.{Host as Carrier};
+ghost use Rattle.net_settings.specs.declared.settings.Host as config;
 ghost use Rattle.net_settings.specs.Rules.{MeetsRules};
 ghost use Rattle.plane_types.specs.Crossing.{CrossesAtRouters};
 ghost use Rattle.plane_types.specs.Hosts.{all_entries};
-ghost use Rattle.plane_types.specs.Node.{Node, first_node};
+ghost use Rattle.plane_types.specs.Node.{agents_of, first_agent};
 ghost use Rattle.plane_types.specs.PortSecurity.{IsLetIn, IsLetOut};
 ghost use Rattle.plane_types.specs.Verdicts.{rows_verdict, without_hosts};
 ghost use Rattle.plane_types.specs.declared.ask.Ask.TheVariants.{Lab as LabAsk};
@@ -17,7 +17,7 @@ ghost use Rattle.plane_types.specs.declared.event.Event.{Event as TheEvent};
 ghost use Rattle.plane_types.specs.declared.verdict.Verdict.{Verdict as TheVerdict};
 ghost use Rattle.keeper_core.specs.Counts.{RoseBy, Tells};
 ghost use Rattle.world_laws.specs.Lead.{IsWorld};
-ghost use Rattle.world_laws.specs.World.{IsSynced, opened, seats};
+ghost use Rattle.world_laws.specs.World.{IsSynced, first_world, hosts_of};
 ghost use Rattle.lab_world.specs.Lab.{IsBarred, lab_outcome};
 ghost use Rattle.lab_world.specs.Opening.{IsOpenRefusal};
 ghost use Rattle.lab_world.specs.World.{ByLab, Handles, IsAskInForm, IsHandled, ask_outcome, is_change};
@@ -71,7 +71,7 @@ impl World {
         settings: Settings,
         manual: bool,
     ) -> Result<World, OpenRefusal>
-        ensures ok { IfOk result (λ w. w ≡ opened settings manual rows) }
+        ensures ok { IfOk result (λ w. w ≡ first_world settings manual rows) }
         ensures sound { OnOk result (first_broken_of settings.hosts rows ≡ None) }
         ensures err { IfErr result (IsOpenRefusal (first_broken_of settings.hosts rows)) }
     {
@@ -142,7 +142,7 @@ impl World {
             → ask.now ≡ LabAsk (Frames event) → result ≡ Reply.LabDone (Seen verdict)
             → IsSynced self.old
             → without_hosts verdict
-            ≡ rows_verdict self.old.history.rows (all_entries (seats self.old)) event }
+            ≡ rows_verdict self.old.history.rows (all_entries (hosts_of self.old)) event }
         ensures crosses { (event : TheEvent) (verdict : TheVerdict)
             → ask.now ≡ LabAsk (Frames event) → result ≡ Reply.LabDone (Seen verdict)
             → IsSynced self.old
@@ -211,8 +211,8 @@ impl World {
 fn first_hosts(alloc: Global, rows: &Rows, carriers: &[Host]) -> Result<Hosts, OutOfMemory>
     requires { IsConsistent rows.now }
     ensures { IfOk result
-        (λ h. map (λ (n : Node). record n { spare = 0 }) h
-        ≡ map (λ (d : Carrier). first_node d.name 0 rows.now 0) carriers.now) }
+        (λ h. agents_of h
+        ≡ map (λ (d : config.Host). first_agent rows.now 0 d.name) carriers.now) }
 {
     let mut hosts = Hosts::new(alloc);
     for carrier in carriers {

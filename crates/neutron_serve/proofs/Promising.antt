@@ -15,13 +15,13 @@ use Rattle.plane_types.specs.declared.ask.Ask.TheVariants.{Lab}
 use Rattle.plane_types.specs.declared.ask.LabCall.TheVariants.{Frames}
 use Rattle.plane_types.specs.declared.event.Event.{Event}
 use Rattle.world_laws.specs.Lead.{IsWorld}
-use Rattle.world_laws.specs.World.{World, seats}
+use Rattle.world_laws.specs.World.{World, hosts_of}
 use Rattle.world_laws.proofs.MeaningLaw.{held_rows, rows_of_now, synced_cross, synced_let_in, synced_let_out, synced_mean}
 use Rattle.lab_world.specs.Lab.{Answered, Barred, event_refusal}
 use Rattle.lab_world.specs.World.{AskOutcome, ByLab, ByMachine, IsAskInForm, MovesBy, OfApi, OfLab, Said, ask_outcome, state_of, told_of}
 use Rattle.lab_world.proofs.AskApart.{ask_apart}
 use Rattle.lab_world.proofs.Asking.{frames_told}
-use Rattle.lab_world.proofs.FrameLaws.{frame_crosses, frame_let_in, frame_let_out, frame_means, sent_seats, sent_synced}
+use Rattle.lab_world.proofs.FrameLaws.{frame_crosses, frame_let_in, frame_let_out, frame_means, sent_hosts, sent_synced}
 use Rattle.lab_world.proofs.WorldLaws.{ask_keeps, sound_of}
 use Rattle.http_heads.specs.Fields.{closes, is_admin, project_of}
 use Rattle.http_heads.specs.Heads.{Asked}
@@ -88,7 +88,7 @@ step_holds old new asked reply is s = holds_by old new asked (request_of asked) 
 frame_told : (old : World) (caller : Caller) (event : Event) (close : Bool) (reply : List ℕ) → IsWorld old → event_refusal old.history.rows caller event ≡ None
     → reply ≡ outcome_bytes close (ask_outcome old caller (Lab (Frames event))) → FrameTold old event close reply
 frame_told old caller event close reply world none is =
-    let verdict = fabric_verdict (seats old) event in
+    let verdict = fabric_verdict (hosts_of old) event in
     record {
       told = is ∙ ap (λ o. outcome_bytes close (ByLab o)) (frames_told old caller event verdict none refl);
       means = λ synced. frame_means old event world synced;
@@ -135,7 +135,7 @@ step_promised old new asked reply world s = record {
     crosses = synced_cross old world;
     lets_in = synced_let_in old world;
     lets_out = synced_let_out old world;
-    follows = sent_seats old;
+    follows = sent_hosts old;
     stays = sent_synced old;
   };
   apart = λ caller ask is tenant other consistent one same.

@@ -16,9 +16,9 @@ use Rattle.http_heads.specs.Heads.{Asked}
 use Rattle.bus_core.specs.History.{change_at}
 use Rattle.api_machine.specs.WholeStep.{api_step}
 use Rattle.api_types.specs.declared.change.Item.{Item}
-use Rattle.world_laws.specs.Agents.{Agent}
+use Rattle.plane_types.specs.Node.{Agent}
 use Rattle.world_laws.specs.Steps.{add_from}
-use Rattle.world_laws.specs.World.{World, seats}
+use Rattle.world_laws.specs.World.{World, hosts_of}
 use Rattle.lab_world.specs.Lab.{Barred, LabOutcome, delivered, event_refusal, host_named, lab_outcome, unless_barred, with_host}
 use Rattle.lab_world.specs.Lab as lab
 use Rattle.lab_world.specs.World.{AskOutcome, ByLab, ByMachine, Handles, IsHandled, IsTold, MovesBy, ask_outcome, is_change, state_of}
@@ -98,7 +98,7 @@ quiet_delivered old name number a (Some c) = λ none. absurd cc
 quiet_lab : (w : World) (caller : Caller) (c : LabCall) → Quiet w c (lab_outcome w caller c)
 quiet_lab w caller (call.Frames event) =
     quiet_unless w (call.Frames event) (event_refusal w.history.rows caller event) _
-    (λ none. ap (λ (fresh : List Made). record w { agents = add_from 0 w.agents fresh }) (no_entries (fabric_verdict (seats w) event).fresh none) ∙ ap (λ (agents : List Agent). record w { agents = agents }) (none_added 0 w.agents))
+    (λ none. ap (λ (fresh : List Made). record w { agents = add_from 0 w.agents fresh }) (no_entries (fabric_verdict (hosts_of w) event).fresh none) ∙ ap (λ (agents : List Agent). record w { agents = agents }) (none_added 0 w.agents))
 quiet_lab w caller (call.Explain event) = quiet_unless w (call.Explain event) (event_refusal w.history.rows caller event) _ (λ none. refl)
 quiet_lab w caller call.Hosts = quiet_unless w call.Hosts (when (not caller.admin) (Forbidden AdminOnly)) _ (λ none. refl)
 quiet_lab w caller (call.Tables name) = quiet_unless w (call.Tables name) (when (not caller.admin) (Forbidden AdminOnly)) _ (quiet_host w (call.Tables name) name (host_named w name) _ (λ a none. refl))

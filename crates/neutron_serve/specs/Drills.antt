@@ -23,7 +23,7 @@ use Rattle.plane_types.specs.declared.ask.Reply.{Reply}
 use Rattle.plane_types.specs.declared.ask.Reply.TheVariants as reply
 use Rattle.plane_types.specs.declared.verdict.Outcome.{Outcome}
 use Rattle.plane_types.specs.declared.verdict.Outcome.TheVariants as becomes
-use Rattle.world_laws.specs.World.{IsSynced, opened}
+use Rattle.world_laws.specs.World.{IsSynced, first_world}
 use Rattle.neutron_serve.specs.Replies.{answer_code}
 use Rattle.neutron_serve.specs.Requests.{request_of}
 use Rattle.neutron_serve.specs.Steps.{Steps, fixed_replies, request_outcome}
@@ -113,7 +113,7 @@ fresh_tally =
 
 -- no rows under the default settings, and each host hears of each change at once
 abbrev pub fresh_drill : Drill
-fresh_drill = record { world = opened default_parts false no_rows; tally = fresh_tally }
+fresh_drill = record { world = first_world default_parts false no_rows; tally = fresh_tally }
 
 -- a session over the made requests comes to its end: its replies, what is counted of them, and the
 -- version of the rows behind it

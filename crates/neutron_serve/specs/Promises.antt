@@ -28,10 +28,10 @@ use Rattle.plane_types.specs.declared.ask.LabAnswer.TheVariants.{Seen}
 use Rattle.plane_types.specs.declared.ask.LabCall.TheVariants.{Frames}
 use Rattle.plane_types.specs.declared.event.Event.{Event}
 use Rattle.bus_core.specs.History.{first_kept, rows_at}
-use Rattle.world_laws.specs.Agents.{Agent}
+use Rattle.plane_types.specs.Node.{Agent}
 use Rattle.world_laws.specs.Lead.{IsWorld}
 use Rattle.world_laws.specs.Steps.{Send, step}
-use Rattle.world_laws.specs.World.{IsSynced, World, seats}
+use Rattle.world_laws.specs.World.{IsSynced, World, hosts_of}
 use Rattle.lab_world.specs.Lab.{Answered, Barred, event_refusal}
 use Rattle.lab_world.specs.World.{AskOutcome, ByLab, ByMachine, ask_outcome, state_of}
 use Rattle.http_heads.specs.Fields.{closes}
@@ -49,30 +49,30 @@ use Rattle.neutron_serve.specs.Steps.{Steps, fixed_replies, request_outcome}
 -- groups, or answers what a rule lets out. What a secured port sends and isn't dropped passed its
 -- guard, and is allowed out by a rule, or answers what a rule lets in
 pub record FrameTold (world : World) (event : Event) (close : Bool) (reply : Bytes) : Type 0 where
-  pub told : reply ≡ lab_bytes close (Seen (fabric_verdict (seats world) event))
+  pub told : reply ≡ lab_bytes close (Seen (fabric_verdict (hosts_of world) event))
   pub means : IsSynced world
-      → without_hosts (fabric_verdict (seats world) event)
-      ≡ rows_verdict world.history.rows (all_entries (seats world)) event
+      → without_hosts (fabric_verdict (hosts_of world) event)
+      ≡ rows_verdict world.history.rows (all_entries (hosts_of world)) event
   pub crosses : IsSynced world
-      → CrossesAtRouters world.history.rows (fabric_verdict (seats world) event)
-  pub lets_in : IsSynced world → IsLetIn world.history.rows (fabric_verdict (seats world) event)
+      → CrossesAtRouters world.history.rows (fabric_verdict (hosts_of world) event)
+  pub lets_in : IsSynced world → IsLetIn world.history.rows (fabric_verdict (hosts_of world) event)
   pub lets_out : IsSynced world
-      → IsLetOut world.history.rows event (fabric_verdict (seats world) event)
+      → IsLetOut world.history.rows event (fabric_verdict (hosts_of world) event)
 
 -- where every host has the current version, so it is with events one after the other, each of
 -- which sees the entries that the earlier ones made; and they leave it so
 pub record FramesTold (world : World) : Type 0 where
   pub means : IsSynced world → (events : List Event)
-      → map without_hosts (fabric_verdicts (seats world) events)
-      ≡ rows_verdicts world.history.rows (all_entries (seats world)) events
+      → map without_hosts (fabric_verdicts (hosts_of world) events)
+      ≡ rows_verdicts world.history.rows (all_entries (hosts_of world)) events
   pub crosses : IsSynced world → (events : List Event)
-      → Each (CrossesAtRouters world.history.rows) (fabric_verdicts (seats world) events)
+      → Each (CrossesAtRouters world.history.rows) (fabric_verdicts (hosts_of world) events)
   pub lets_in : IsSynced world → (events : List Event)
-      → Each (IsLetIn world.history.rows) (fabric_verdicts (seats world) events)
+      → Each (IsLetIn world.history.rows) (fabric_verdicts (hosts_of world) events)
   pub lets_out : IsSynced world → (events : List Event)
-      → AreLetOut world.history.rows events (fabric_verdicts (seats world) events)
+      → AreLetOut world.history.rows events (fabric_verdicts (hosts_of world) events)
   pub follows : (event : Event)
-      → seats (step world (Send event)) ≡ hosts_after (seats world) event
+      → hosts_of (step world (Send event)) ≡ hosts_after (hosts_of world) event
   pub stays : IsSynced world → (event : Event) → IsSynced (step world (Send event))
 
 -- a host that has a version, while the change after it is kept, has the rows of that version, and

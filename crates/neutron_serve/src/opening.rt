@@ -7,7 +7,7 @@ ghost use Rattle.keeper_core.specs.Counts.{HasRefusalCause, RoseBy, Tells};
 ghost use Rattle.keeper_core.specs.Desk.{AddsAsk, opened_as, opening_rows};
 ghost use Rattle.keeper_core.specs.declared.ask.DeskAsk.{DeskAsk};
 ghost use Rattle.net_settings.specs.Settings.{SettingsParts};
-ghost use Rattle.world_laws.specs.World.{opened as opened_world};
+ghost use Rattle.world_laws.specs.World.{first_world};
 ghost use Rattle.neutron_serve.specs.Openings.{AreMade, AreSettings, IsCause, IsSettingsCause, IsUnopened, Opens, by_desk, by_settings, by_world, desk_seen, is_manual as is_manual_by, opening_asks, settings_asks};
 
 use command_lines::{Delivery, Opening};
@@ -144,7 +144,7 @@ fn loaded<K: Keeper>(
     manual: bool,
 ) -> Result<World, Unopened>
     ensures ok { IfOk result (λ world. (rows : RowLists) × Tells (K.kept keeper.old) rows
-        × (world ≡ opened_world settings manual rows) × (first_broken_of settings.hosts rows ≡ None)) }
+        × (world ≡ first_world settings manual rows) × (first_broken_of settings.hosts rows ≡ None)) }
     ensures broken { result ≡ Err Unopened.Inconsistent → (rows : RowLists) × (broken : Broken)
         × Tells (K.kept keeper.old) rows × (first_broken_of settings.hosts rows ≡ Some broken) }
     ensures failed { result ≡ Err Unopened.Failed
@@ -166,7 +166,7 @@ pub(crate) fn opened<D: Desk>(
     ensures ok { IfOk result (λ o. (settings : SettingsParts) × (rows : RowLists)
         × Opens (desk_seen (D.asks desk.old) (D.files desk.old) (D.stores desk.old) (D.faults desk.old) (D.store_faults desk.old))
         opening.now settings rows
-        × (o.0 ≡ opened_world settings (is_manual_by opening.now.delivery) rows)
+        × (o.0 ≡ first_world settings (is_manual_by opening.now.delivery) rows)
         × Tells (D.Store.kept o.1) rows) }
     ensures told { IfOk result (λ o.
         IfSome (D.stores desk.old) (λ _. is_some (D.Store.kept o.1) ≡ true)) }

@@ -26,3 +26,4 @@ pub mod NewTags
 pub mod TablesOfRows
 pub mod Node
 pub mod Parts
+pub mod Room

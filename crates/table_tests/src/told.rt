@@ -164,7 +164,7 @@ fn can_be_told(
     number: u64,
     change: &Change,
 ) -> Result<bool, OutOfMemory>
-    ensures { IfOk result (λ b. IsTrue b → CanFollow node.now number change.now) }
+    ensures { IfOk result (λ b. IsTrue b → CanFollow node.now.agent number change.now) }
 {
     match node.held() {
         Some(held) if held < number && number - held == 1 => {

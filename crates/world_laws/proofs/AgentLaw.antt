@@ -18,8 +18,7 @@ use Rattle.plane_types.proofs.PlacedLemmas.{stay_placed}
 use Rattle.plane_types.proofs.RealisedTags.{are_tags}
 use Rattle.bus_core.specs.History.{History, IsHistory, accepted, change_at, rows_at}
 use Rattle.bus_core.proofs.HistoryLaw.{kept_within, rows_now, rows_still}
-use Rattle.plane_types.specs.Node.{follows}
-use Rattle.world_laws.specs.Agents.{Agent, first_agent, forgotten, restarted, rewired, seat, told}
+use Rattle.plane_types.specs.Node.{Agent, after_change, after_forget, after_restart, after_resync, first_agent, follows, host_of}
 use Rattle.world_laws.specs.Lead.{IsLed}
 use Rattle.world_laws.specs.World.{AreSound}
 
@@ -32,7 +31,7 @@ no_tags = record { first = λ k t at. none_some t _ at; last = λ k t at. none_s
 
 pub record IsAgent (settings : SettingsParts) (h : History) (a : Agent) : Type 0 where
   pub led : IsLed settings h a
-  pub placed : IsAttached (seat a)
+  pub placed : IsAttached (host_of a)
   pub realised : Realises a.rows a.name a.tables
 
 no_entries : (name : List ℕ) (a : Agent) → IsAttached (record { name = name; tables = a.tables; entries = [] })
@@ -51,14 +50,14 @@ module _ (settings : SettingsParts) (h : History) (is : IsHistory (AreSound sett
   sound_now = subst (AreSound settings) (rows_now h is.numbered) (is.sound h.version (omega arith) (omega arith))
 
   -- the rows of a version that can be told, wired
-  rewired_agent : (a : Agent) (version : ℕ) (rows : RowLists) → IsAgent settings h a → version ≤ h.version → AreSound settings rows → rows ≡ rows_at h version → IsAgent settings h (rewired version rows a)
+  rewired_agent : (a : Agent) (version : ℕ) (rows : RowLists) → IsAgent settings h a → version ≤ h.version → AreSound settings rows → rows ≡ rows_at h version → IsAgent settings h (after_resync version rows a)
   rewired_agent a version rows s most sound same = record {
     led = record { held = λ v at. some_equal v version (sym at); version = most; sound = sound; rows = λ from. same };
     placed = stay_placed a.name a.tables (tables_of_rows rows a.name a.tables.tags) a.entries s.placed;
     realised = realised_tables rows a.name a.tables.tags (are_tags a.rows a.name a.tables.tags s.realised.tags) sound.consistent;
   }
 
-  pub resynced_agent : (a : Agent) → IsAgent settings h a → IsAgent settings h (rewired h.version h.rows a)
+  pub resynced_agent : (a : Agent) → IsAgent settings h a → IsAgent settings h (after_resync h.version h.rows a)
   resynced_agent a s = rewired_agent a h.version h.rows s (omega arith) sound_now (sym (rows_now h is.numbered))
 
   -- the next change of a host fits its rows, and leads to the rows of its number
@@ -80,24 +79,24 @@ module _ (settings : SettingsParts) (h : History) (is : IsHistory (AreSound sett
         sound = subst (AreSound settings) (sym leads) (is.sound n (omega (arith, within)) within.1);
       }
 
-  pub told_agent : (a : Agent) (n : ℕ) (c : List Item) → change_at h n ≡ Some c → IsAgent settings h a → IsAgent settings h (told n c a)
+  pub told_agent : (a : Agent) (n : ℕ) (c : List Item) → change_at h n ≡ Some c → IsAgent settings h a → IsAgent settings h (after_change n c a)
   told_agent a n c at s = by (follows n a.held) refl
     where
-      by : (b : Bool) → follows n a.held ≡ b → IsAgent settings h (cond b (rewired n (after a.rows c) a) a)
+      by : (b : Bool) → follows n a.held ≡ b → IsAgent settings h (cond b (after_resync n (after a.rows c) a) a)
       by false e = s
       by true e =
           let next = follows_held n a.held e in
           let f = next_fits a next.0 n c s.led at next.1 next.2 in
           rewired_agent a n (after a.rows c) s (kept_within h n c is.numbered at).1 f.sound f.leads
 
-  pub restarted_agent : (a : Agent) → IsAgent settings h a → IsAgent settings h (restarted a)
+  pub restarted_agent : (a : Agent) → IsAgent settings h a → IsAgent settings h (after_restart a)
   restarted_agent a s = record {
     led = record { held = λ v at. none_some v _ at; version = s.led.version; sound = s.led.sound; rows = s.led.rows };
     placed = s.placed;
     realised = s.realised;
   }
 
-  pub forgotten_agent : (a : Agent) → IsAgent settings h a → IsAgent settings h (forgotten a)
+  pub forgotten_agent : (a : Agent) → IsAgent settings h a → IsAgent settings h (after_forget a)
   forgotten_agent a s = record {
     led = record { held = s.led.held; version = s.led.version; sound = s.led.sound; rows = s.led.rows };
     placed = no_entries a.name a;

@@ -5,11 +5,10 @@ use Rattle.api_types.specs.Lists.{Each}
 use Rattle.api_types.specs.Rows.{Fits, after}
 use Rattle.api_types.specs.declared.change.Item.{Item}
 use Rattle.plane_types.specs.Verdicts.{fabric_verdict}
-use Rattle.plane_types.specs.Node.{follows}
+use Rattle.plane_types.specs.Node.{Agent, after_change, after_forget, after_restart, after_resync, follows, host_of}
 use Rattle.bus_core.specs.History.{accepted, change_at, first_kept, rows_at}
 use Rattle.bus_core.specs.Kept.{with_newest}
 use Rattle.bus_core.proofs.HistoryLaw.{both_kept, kept_within, newest_kept, newest_length, rows_now, rows_still}
-use Rattle.world_laws.specs.Agents.{Agent, forgotten, restarted, rewired, seat, told}
 use Rattle.world_laws.specs.Alike.{AreAlike, accepts}
 use Rattle.world_laws.specs.Lead.{IsWorld}
 use Rattle.world_laws.specs.Steps.{Accept, Deliver, Forget, May, Resync, Restart, Send, Settle, Step, add_from, at_host, deliver_by, deliver_kept, holds, is_among, step}
@@ -31,17 +30,17 @@ cond_other false x y z e = e
 
 module _ (w v : World) (p : Holds w) (q : Holds v) (same : AreAlike w v) where
   -- a host is told the same by both changes
-  told_alike : (n : ℕ) (c d : List Item) → change_at w.history n ≡ Some c → change_at v.history n ≡ Some d → Each (λ (a : Agent). told n c a ≡ told n d a) w.agents
+  told_alike : (n : ℕ) (c d : List Item) → change_at w.history n ≡ Some c → change_at v.history n ≡ Some d → Each (λ (a : Agent). after_change n c a ≡ after_change n d a) w.agents
   told_alike n c d at bt k a there = by (follows n a.held) refl
     where
-      by : (b : Bool) → follows n a.held ≡ b → cond b (rewired n (after a.rows c) a) a ≡ cond b (rewired n (after a.rows d) a) a
+      by : (b : Bool) → follows n a.held ≡ b → cond b (after_resync n (after a.rows c) a) a ≡ cond b (after_resync n (after a.rows d) a) a
       by false e = refl
       by true e =
           let held = follows_held n a.held e in
           let within = kept_within w.history n c p.history.numbered at in
           let f = next_fits w.settings w.history p.history a held.0 n c (p.agents k a there).led at held.1 held.2 in
           let g = next_fits v.settings v.history q.history a held.0 n d (subst (Each (IsAgent v.settings v.history)) (sym same.agents) q.agents k a there).led bt held.1 held.2 in
-          ap (λ rows. rewired n rows a) (f.leads ∙ same.told n (omega (arith, within)) within.1 ∙ sym g.leads)
+          ap (λ rows. after_resync n rows a) (f.leads ∙ same.told n (omega (arith, within)) within.1 ∙ sym g.leads)
 
   -- the same history, and other hosts
   with_agents : (xs ys : List Agent) → xs ≡ ys → AreAlike (record w { agents = xs }) (record v { agents = ys })
@@ -52,19 +51,19 @@ module _ (w v : World) (p : Holds w) (q : Holds v) (same : AreAlike w v) where
   delivered_alike name n (Some c) None at bt = let d = both_kept w.history v.history n c same.version same.kept at in let none : None ≡ Some d.0 = sym bt ∙ d.1 in cc
   delivered_alike name n None (Some d) at bt = let c = both_kept v.history w.history n d (sym same.version) (sym same.kept) bt in let none : None ≡ Some c.0 = sym at ∙ c.1 in cc
   delivered_alike name n (Some c) (Some d) at bt =
-      with_agents (at_host name (told n c) w.agents) (at_host name (told n d) v.agents)
-      (map_alike (λ (a : Agent). cond (bytes_eq name a.name) (told n c a) a) (λ (a : Agent). cond (bytes_eq name a.name) (told n d a) a) w.agents
-      (λ k a there. cond_alike (bytes_eq name a.name) (told n c a) (told n d a) a (told_alike n c d at bt k a there))
-      ∙ ap (at_host name (told n d)) same.agents)
+      with_agents (at_host name (after_change n c) w.agents) (at_host name (after_change n d) v.agents)
+      (map_alike (λ (a : Agent). cond (bytes_eq name a.name) (after_change n c a) a) (λ (a : Agent). cond (bytes_eq name a.name) (after_change n d a) a) w.agents
+      (λ k a there. cond_alike (bytes_eq name a.name) (after_change n c a) (after_change n d a) a (told_alike n c d at bt k a there))
+      ∙ ap (at_host name (after_change n d)) same.agents)
 
   pub others_alike : (s : Step) → accepts s ≡ false → AreAlike (step w s) (step v s)
   others_alike (Accept left_out c) e = absurd cc
   others_alike (Deliver name n) e = delivered_alike name n (change_at w.history n) (change_at v.history n) refl refl
-  others_alike (Resync name) e = with_agents _ _ (λ j. at_host name (rewired (same.version j) (same.rows j)) (same.agents j))
-  others_alike (Restart name) e = with_agents _ _ (λ j. at_host name restarted (same.agents j))
-  others_alike (Forget name) e = with_agents _ _ (λ j. at_host name forgotten (same.agents j))
-  others_alike Settle e = with_agents _ _ (λ j. map (λ (a : Agent). cond (holds (same.version j) a.held) a (rewired (same.version j) (same.rows j) a)) (same.agents j))
-  others_alike (Send event) e = with_agents _ _ (λ j. add_from 0 (same.agents j) (fabric_verdict (map seat (same.agents j)) event).fresh)
+  others_alike (Resync name) e = with_agents _ _ (λ j. at_host name (after_resync (same.version j) (same.rows j)) (same.agents j))
+  others_alike (Restart name) e = with_agents _ _ (λ j. at_host name after_restart (same.agents j))
+  others_alike (Forget name) e = with_agents _ _ (λ j. at_host name after_forget (same.agents j))
+  others_alike Settle e = with_agents _ _ (λ j. map (λ (a : Agent). cond (holds (same.version j) a.held) a (after_resync (same.version j) (same.rows j) a)) (same.agents j))
+  others_alike (Send event) e = with_agents _ _ (λ j. add_from 0 (same.agents j) (fabric_verdict (map host_of (same.agents j)) event).fresh)
 
   -- changes that lead to the same rows
   accepted_alike : (c d : List Item) → Fits w.history.rows c → Fits v.history.rows d → after w.history.rows c ≡ after v.history.rows d → AreAlike (record w { history = accepted w.history c }) (record v { history = accepted v.history d })
@@ -127,15 +126,15 @@ accepts_alike w v iw iv same left_out c d may may' leads = record {
     start : AreAlike w' v'
     start = accepted_alike w v p q same c d may.0 may'.0 leads
 
-    tells : Each (λ (a : Agent). told (w.history.version + 1) c a ≡ told (w.history.version + 1) d a) w.agents
+    tells : Each (λ (a : Agent). after_change (w.history.version + 1) c a ≡ after_change (w.history.version + 1) d a) w.agents
     tells = told_alike w' v' (accepted_holds w c may.0 may.1 p) (accepted_holds v d may'.0 may'.1 q) start (w.history.version + 1) c d
         (newest_kept w.history c p.history.few p.history.numbered) (ap (λ n. change_at (accepted v.history d) (n + 1)) same.version ∙ newest_kept v.history d q.history.few q.history.numbered)
 
     by : (a b : Bool) → a ≡ b → deliver_by a left_out (w.history.version + 1) c w.agents ≡ deliver_by b left_out (v.history.version + 1) d v.agents
     by true true e = same.agents
     by false false e =
-        map_alike (λ (a : Agent). cond (is_among left_out a.name) a (told (w.history.version + 1) c a)) (λ (a : Agent). cond (is_among left_out a.name) a (told (w.history.version + 1) d a)) w.agents
-        (λ k a there. cond_other (is_among left_out a.name) (told (w.history.version + 1) c a) (told (w.history.version + 1) d a) a (tells k a there))
+        map_alike (λ (a : Agent). cond (is_among left_out a.name) a (after_change (w.history.version + 1) c a)) (λ (a : Agent). cond (is_among left_out a.name) a (after_change (w.history.version + 1) d a)) w.agents
+        (λ k a there. cond_other (is_among left_out a.name) (after_change (w.history.version + 1) c a) (after_change (w.history.version + 1) d a) a (tells k a there))
         ∙ (λ j. deliver_by false left_out (same.version j + 1) d (same.agents j))
     by true false e = cc
     by false true e = cc

@@ -1,6 +1,6 @@
 -- Where each host is told a change or is left as it is, the names of those that are left make the step of all.
 use Rattle.std.proofs.Common.{inl, inr, ◌⊎◌, ◌≡◌, ℕ, List, [], ◌∷◌, Bool, true, false, cond, None, Some, refl, ap, sym, subst, ◌∙◌}
-use Rattle.std.specs.Prelude.{◌||◌, find, ⊤}
+use Rattle.std.specs.Prelude.{◌||◌, find}
 use Rattle.std.specs.Str.{bytes_eq}
 use Rattle.api_types.specs.declared.change.Item.{Item}
 use Rattle.api_types.proofs.NameLemmas.{bytes_itself, bytes_same}
@@ -9,18 +9,11 @@ use Rattle.plane_laws.proofs.Counted.{once-counted}
 use Rattle.plane_laws.proofs.Facts.{AtMostOne}
 use Rattle.plane_laws.proofs.ListLemmas.{AtMostOne-from_map}
 use Rattle.plane_types.specs.Hosts.{is_named}
-use Rattle.world_laws.specs.Agents.{Agent, seat, told}
+use Rattle.plane_types.specs.Node.{Agent, after_change, host_of}
 use Rattle.world_laws.specs.Lead.{AreNamed}
-use Rattle.world_laws.specs.Steps.{is_among, tell_all}
-use Rattle.world_laws.specs.World.{World, seats}
-use Rattle.world_laws.proofs.StepLaw.{seat_names}
-
--- each is told, or is as it was
-abbrev pub AreTold : ℕ → List Item → List Agent → List Agent → Type 0
-AreTold n c [] [] = ⊤
-AreTold n c [] (y ∷ new) = ⊥
-AreTold n c (x ∷ old) [] = ⊥
-AreTold n c (x ∷ old) (y ∷ new) = ((y ≡ told n c x) ⊎ (y ≡ x)) × AreTold n c old new
+use Rattle.world_laws.specs.Steps.{MayHaveHeard, is_among, tell_all}
+use Rattle.world_laws.specs.World.{World, hosts_of}
+use Rattle.world_laws.proofs.StepLaw.{host_names}
 
 pub record LeftOut (n : ℕ) (c : List Item) (old new : List Agent) : Type 0 where
   pub names : List (List ℕ)
@@ -47,9 +40,9 @@ no_more : (name : List ℕ) (names : List (List ℕ)) (n : ℕ) (c : List Item) 
 no_more name names n c [] h = refl
 no_more name names n c (x ∷ old) h =
     let parts = none_parts (λ (a : Agent). bytes_eq name a.name) x old h in
-    λ j. cond (turned name x.name parts.0 j || is_among names x.name) x (told n c x) ∷ no_more name names n c old parts.1 j
+    λ j. cond (turned name x.name parts.0 j || is_among names x.name) x (after_change n c x) ∷ no_more name names n c old parts.1 j
 
-left_out : (n : ℕ) (c : List Item) (old new : List Agent) → ((name : List ℕ) → AtMostOne (λ (a : Agent). bytes_eq name a.name) old) → AreTold n c old new → LeftOut n c old new
+left_out : (n : ℕ) (c : List Item) (old new : List Agent) → ((name : List ℕ) → AtMostOne (λ (a : Agent). bytes_eq name a.name) old) → MayHaveHeard n c old new → LeftOut n c old new
 left_out n c [] [] differ told = record { names = []; within = λ name h. refl; same = refl }
 left_out n c [] (y ∷ new) differ told = absurd told
 left_out n c (x ∷ old) [] differ told = absurd told
@@ -58,20 +51,20 @@ left_out n c (x ∷ old) (y ∷ new) differ are = by are.0 (left_out n c old new
     alone : find (λ (a : Agent). bytes_eq x.name a.name) old ≡ None
     alone = (differ x.name).0 (bytes_itself x.name)
 
-    by : (y ≡ told n c x) ⊎ (y ≡ x) → LeftOut n c old new → LeftOut n c (x ∷ old) (y ∷ new)
+    by : (y ≡ after_change n c x) ⊎ (y ≡ x) → LeftOut n c old new → LeftOut n c (x ∷ old) (y ∷ new)
     by (inl is) w = record {
       names = w.names;
       within = λ name h. w.within name (none_parts (λ (a : Agent). bytes_eq name a.name) x old h).1;
-      same = (λ j. is j ∷ w.same j) ∙ sym (ap (λ (b : Bool). cond b x (told n c x) ∷ tell_all w.names n c old) (w.within x.name alone));
+      same = (λ j. is j ∷ w.same j) ∙ sym (ap (λ (b : Bool). cond b x (after_change n c x) ∷ tell_all w.names n c old) (w.within x.name alone));
     }
     by (inr is) w = record {
       names = x.name ∷ w.names;
       within = λ name h. let parts = none_parts (λ (a : Agent). bytes_eq name a.name) x old h in (λ j. parts.0 j || w.within name parts.1 j);
-      same = (λ j. is j ∷ w.same j) ∙ sym (λ j. cond (bytes_itself x.name j || is_among w.names x.name) x (told n c x) ∷ no_more x.name w.names n c old alone j);
+      same = (λ j. is j ∷ w.same j) ∙ sym (λ j. cond (bytes_itself x.name j || is_among w.names x.name) x (after_change n c x) ∷ no_more x.name w.names n c old alone j);
     }
 
 -- the names of the hosts that found no memory
-pub those_left : (w : World) (n : ℕ) (c : List Item) (new : List Agent) → MeetsRules w.settings → AreNamed w → AreTold n c w.agents new → (names : List (List ℕ)) × (new ≡ tell_all names n c w.agents)
+pub those_left : (w : World) (n : ℕ) (c : List Item) (new : List Agent) → MeetsRules w.settings → AreNamed w → MayHaveHeard n c w.agents new → (names : List (List ℕ)) × (new ≡ tell_all names n c w.agents)
 those_left w n c new rules named are =
-    let l = left_out n c w.agents new (λ name. AtMostOne-from_map (is_named name) seat w.agents (once-counted (is_named name) (seats w) (seat_names w rules named name))) are in
+    let l = left_out n c w.agents new (λ name. AtMostOne-from_map (is_named name) host_of w.agents (once-counted (is_named name) (hosts_of w) (host_names w rules named name))) are in
     (l.names, l.same)

@@ -19,15 +19,14 @@ use Rattle.plane_laws.proofs.ListLaw.{lists-cross, lists-mean-rows}
 use Rattle.plane_laws.proofs.SecurityLaw.{in-by-lists, out-by-lists}
 use Rattle.bus_core.specs.History.{change_at, first_kept, rows_at}
 use Rattle.bus_core.proofs.HistoryLaw.{rows_now}
-use Rattle.plane_types.specs.Node.{follows}
-use Rattle.world_laws.specs.Agents.{Agent, rewired, seat, told}
+use Rattle.plane_types.specs.Node.{Agent, after_change, after_resync, follows, host_of}
 use Rattle.world_laws.specs.Lead.{IsWorld}
-use Rattle.world_laws.specs.Steps.{Accept, Settle, deliver_by, holds, settled, step}
-use Rattle.world_laws.specs.World.{AreSound, IsSynced, World, seats}
+use Rattle.world_laws.specs.Steps.{Accept, Settle, deliver_by, holds, after_settle, step}
+use Rattle.world_laws.specs.World.{AreSound, IsSynced, World, hosts_of}
 use Rattle.world_laws.proofs.AgentLaw.{next_fits, next_follows, sound_now}
 use Rattle.world_laws.proofs.HostNames.{carrier_named, named_by}
 use Rattle.world_laws.proofs.Lists.{each_map}
-use Rattle.world_laws.proofs.StepLaw.{seat_names}
+use Rattle.world_laws.proofs.StepLaw.{host_names}
 
 -- a host that holds v has the rows of v, where they can be told
 pub held_rows : (w : World) → IsWorld w → Each (λ (a : Agent). (v : ℕ) → a.held ≡ Some v → first_kept w.history ≤ v + 1 → a.rows ≡ rows_at w.history v) w.agents
@@ -54,32 +53,32 @@ next_change w is n v c at next k a there held =
 
 -- ---- all hold the version of now
 
-pub synced_hold : (w : World) → IsWorld w → IsSynced w → HoldRows (carries w.settings.hosts) w.history.rows (seats w)
+pub synced_hold : (w : World) → IsWorld w → IsSynced w → HoldRows (carries w.settings.hosts) w.history.rows (hosts_of w)
 synced_hold w is synced =
     let sound = sound_now w.settings w.history is.lead.history in
     record {
       consistent = sound.consistent;
       carried = sound.carried;
       synced = record {
-        realise = each_map seat (λ (g : Host). Realises w.history.rows g.name g.tables) w.agents
+        realise = each_map host_of (λ (g : Host). Realises w.history.rows g.name g.tables) w.agents
             (λ k a at. subst (λ rows. Realises rows a.name a.tables) (rows_of_now w is k a at (synced k a at)) (is.realised k a at));
-        placed = each_map seat IsAttached w.agents is.placed;
-        names = seat_names w is.rules is.named;
+        placed = each_map host_of IsAttached w.agents is.placed;
+        names = host_names w is.rules is.named;
         complete = λ name s can. named_by name w.agents ∙ ap (list_any (bytes_eq name)) is.named ∙ carrier_named name s w.settings.hosts can;
       };
     }
 
-pub synced_mean : (w : World) → IsWorld w → IsSynced w → (events : List Event) → map without_hosts (fabric_verdicts (seats w) events) ≡ rows_verdicts w.history.rows (all_entries (seats w)) events
-synced_mean w is synced events = lists-mean-rows (carries w.settings.hosts) w.history.rows (seats w) (synced_hold w is synced) events
+pub synced_mean : (w : World) → IsWorld w → IsSynced w → (events : List Event) → map without_hosts (fabric_verdicts (hosts_of w) events) ≡ rows_verdicts w.history.rows (all_entries (hosts_of w)) events
+synced_mean w is synced events = lists-mean-rows (carries w.settings.hosts) w.history.rows (hosts_of w) (synced_hold w is synced) events
 
-pub synced_cross : (w : World) → IsWorld w → IsSynced w → (events : List Event) → Each (CrossesAtRouters w.history.rows) (fabric_verdicts (seats w) events)
-synced_cross w is synced events = lists-cross (carries w.settings.hosts) w.history.rows (seats w) (synced_hold w is synced) events
+pub synced_cross : (w : World) → IsWorld w → IsSynced w → (events : List Event) → Each (CrossesAtRouters w.history.rows) (fabric_verdicts (hosts_of w) events)
+synced_cross w is synced events = lists-cross (carries w.settings.hosts) w.history.rows (hosts_of w) (synced_hold w is synced) events
 
-pub synced_let_in : (w : World) → IsWorld w → IsSynced w → (events : List Event) → Each (IsLetIn w.history.rows) (fabric_verdicts (seats w) events)
-synced_let_in w is synced events = in-by-lists (carries w.settings.hosts) w.history.rows (seats w) (synced_hold w is synced) events
+pub synced_let_in : (w : World) → IsWorld w → IsSynced w → (events : List Event) → Each (IsLetIn w.history.rows) (fabric_verdicts (hosts_of w) events)
+synced_let_in w is synced events = in-by-lists (carries w.settings.hosts) w.history.rows (hosts_of w) (synced_hold w is synced) events
 
-pub synced_let_out : (w : World) → IsWorld w → IsSynced w → (events : List Event) → AreLetOut w.history.rows events (fabric_verdicts (seats w) events)
-synced_let_out w is synced events = out-by-lists (carries w.settings.hosts) w.history.rows (seats w) (synced_hold w is synced) events
+pub synced_let_out : (w : World) → IsWorld w → IsSynced w → (events : List Event) → AreLetOut w.history.rows events (fabric_verdicts (hosts_of w) events)
+synced_let_out w is synced events = out-by-lists (carries w.settings.hosts) w.history.rows (hosts_of w) (synced_hold w is synced) events
 
 -- ---- when all hold it
 
@@ -89,28 +88,28 @@ holds_it version None h = absurd cc
 holds_it version (Some v) h = let same : v ≡ version = grind (arith, nat_tests, h) in ap Some same
 
 pub settle_syncs : (w : World) → IsSynced (step w Settle)
-settle_syncs w = each_map (settled w.history) (λ (a : Agent). a.held ≡ Some w.history.version) w.agents (λ k a at. by a (holds w.history.version a.held) refl)
+settle_syncs w = each_map (after_settle w.history.version w.history.rows) (λ (a : Agent). a.held ≡ Some w.history.version) w.agents (λ k a at. by a (holds w.history.version a.held) refl)
   where
-    by : (a : Agent) (b : Bool) → holds w.history.version a.held ≡ b → (cond b a (rewired w.history.version w.history.rows a)).held ≡ Some w.history.version
+    by : (a : Agent) (b : Bool) → holds w.history.version a.held ≡ b → (cond b a (after_resync w.history.version w.history.rows a)).held ≡ Some w.history.version
     by a true e = holds_it w.history.version a.held e
     by a false e = refl
 
 -- in automatic delivery, where each host finds memory and holds the version of now, each is given the new rows
-pub accept_rewires : (w : World) (c : List Item) → IsWorld w → w.manual ≡ false → IsSynced w → (step w (Accept [] c)).agents ≡ map (rewired (w.history.version + 1) (after w.history.rows c)) w.agents
+pub accept_rewires : (w : World) (c : List Item) → IsWorld w → w.manual ≡ false → IsSynced w → (step w (Accept [] c)).agents ≡ map (after_resync (w.history.version + 1) (after w.history.rows c)) w.agents
 accept_rewires w c is automatic synced = by w.manual automatic
   where
-    tells : (a : Agent) → a.held ≡ Some w.history.version → a.rows ≡ w.history.rows → told (w.history.version + 1) c a ≡ rewired (w.history.version + 1) (after w.history.rows c) a
+    tells : (a : Agent) → a.held ≡ Some w.history.version → a.rows ≡ w.history.rows → after_change (w.history.version + 1) c a ≡ after_resync (w.history.version + 1) (after w.history.rows c) a
     tells a held same =
-        ap (λ (b : Bool). cond b (rewired (w.history.version + 1) (after a.rows c) a) a)
+        ap (λ (b : Bool). cond b (after_resync (w.history.version + 1) (after a.rows c) a) a)
         (ap (follows (w.history.version + 1)) held ∙ next_follows (w.history.version + 1) w.history.version refl)
-        ∙ ap (λ rows. rewired (w.history.version + 1) (after rows c) a) same
+        ∙ ap (λ rows. after_resync (w.history.version + 1) (after rows c) a) same
 
-    all : (agents : List Agent) → Each (λ (a : Agent). told (w.history.version + 1) c a ≡ rewired (w.history.version + 1) (after w.history.rows c) a) agents
-        → map (λ (a : Agent). told (w.history.version + 1) c a) agents ≡ map (rewired (w.history.version + 1) (after w.history.rows c)) agents
+    all : (agents : List Agent) → Each (λ (a : Agent). after_change (w.history.version + 1) c a ≡ after_resync (w.history.version + 1) (after w.history.rows c) a) agents
+        → map (λ (a : Agent). after_change (w.history.version + 1) c a) agents ≡ map (after_resync (w.history.version + 1) (after w.history.rows c)) agents
     all [] each = refl
     all (a ∷ agents) each = λ j. each 0 a refl j ∷ all agents (λ k b at. each (suc k) b at) j
 
-    by : (b : Bool) → b ≡ false → deliver_by b [] (w.history.version + 1) c w.agents ≡ map (rewired (w.history.version + 1) (after w.history.rows c)) w.agents
+    by : (b : Bool) → b ≡ false → deliver_by b [] (w.history.version + 1) c w.agents ≡ map (after_resync (w.history.version + 1) (after w.history.rows c)) w.agents
     by true e = absurd cc
     by false e = all w.agents (λ k a at. tells a (synced k a at) (rows_of_now w is k a at (synced k a at)))
 
@@ -118,11 +117,11 @@ accept_rewires w c is automatic synced = by w.manual automatic
 pub accept_syncs : (w : World) (c : List Item) → w.manual ≡ false → IsSynced w → IsSynced (step w (Accept [] c))
 accept_syncs w c automatic synced = by w.manual automatic
   where
-    tells : (a : Agent) → a.held ≡ Some w.history.version → told (w.history.version + 1) c a ≡ rewired (w.history.version + 1) (after a.rows c) a
+    tells : (a : Agent) → a.held ≡ Some w.history.version → after_change (w.history.version + 1) c a ≡ after_resync (w.history.version + 1) (after a.rows c) a
     tells a held =
-        ap (λ (b : Bool). cond b (rewired (w.history.version + 1) (after a.rows c) a) a)
+        ap (λ (b : Bool). cond b (after_resync (w.history.version + 1) (after a.rows c) a) a)
         (ap (follows (w.history.version + 1)) held ∙ next_follows (w.history.version + 1) w.history.version refl)
 
     by : (b : Bool) → b ≡ false → Each (λ (a : Agent). a.held ≡ Some (w.history.version + 1)) (deliver_by b [] (w.history.version + 1) c w.agents)
     by true e = absurd cc
-    by false e = each_map (λ (a : Agent). told (w.history.version + 1) c a) (λ (a : Agent). a.held ≡ Some (w.history.version + 1)) w.agents (λ k a at. ap (λ (x : Agent). x.held) (tells a (synced k a at)))
+    by false e = each_map (λ (a : Agent). after_change (w.history.version + 1) c a) (λ (a : Agent). a.held ≡ Some (w.history.version + 1)) w.agents (λ k a at. ap (λ (x : Agent). x.held) (tells a (synced k a at)))

@@ -9,7 +9,7 @@ use Rattle.api_types.specs.Rows.{Fits, after}
 use Rattle.api_types.specs.declared.change.Item.{Item}
 use Rattle.net_settings.specs.Rules.{MeetsRules}
 use Rattle.net_settings.specs.Settings.{SettingsParts}
-use Rattle.net_settings.specs.declared.settings.Host.{Host as Carrier}
+use Rattle.net_settings.specs.declared.settings.Host as config
 use Rattle.api_types.proofs.ListLemmas.{none_some, some_equal}
 use Rattle.plane_types.specs.Hosts.{is_named}
 use Rattle.plane_types.specs.Attached.{IsAttached}
@@ -19,11 +19,10 @@ use Rattle.plane_types.specs.declared.verdict.Made.{Made}
 use Rattle.plane_laws.proofs.KeptLaw.{stay-placed}
 use Rattle.bus_core.specs.History.{History, IsHistory, accepted, change_at, history_from}
 use Rattle.bus_core.proofs.HistoryLaw.{accepted_history, history_starts, newest_kept}
-use Rattle.plane_types.specs.Node.{follows}
-use Rattle.world_laws.specs.Agents.{Agent, first_agent, forgotten, restarted, rewired, seat, told}
+use Rattle.plane_types.specs.Node.{Agent, after_change, after_forget, after_restart, after_resync, first_agent, follows, host_of}
 use Rattle.world_laws.specs.Lead.{AreNamed, IsWorld}
-use Rattle.world_laws.specs.Steps.{Accept, Deliver, Forget, May, MayRun, Resync, Restart, Send, Settle, Step, accept, add_from, at_host, deliver_by, deliver_kept, holds, is_among, run, settled, step}
-use Rattle.world_laws.specs.World.{AreSound, World, opened, seats}
+use Rattle.world_laws.specs.Steps.{Accept, Deliver, Forget, May, MayRun, Resync, Restart, Send, Settle, Step, accept, add_from, at_host, deliver_by, deliver_kept, holds, is_among, run, after_settle, step}
+use Rattle.world_laws.specs.World.{AreSound, World, first_world, hosts_of}
 use Rattle.world_laws.proofs.AgentLaw.{IsAgent, entered_agent, forgotten_agent, left_agent, restarted_agent, resynced_agent, started_agent, told_agent}
 use Rattle.world_laws.proofs.HostNames.{one_of}
 use Rattle.world_laws.proofs.Lists.{count_map, each_map, map_each, map_map, map_same}
@@ -75,8 +74,8 @@ one_by w name f named goes s =
     (λ a. cond_name (bytes_eq name a.name) a (f a) a (named a) refl)
     (λ a h. cond_agent w.settings w.history (bytes_eq name a.name) (f a) a (goes a h) h) s
 
-told_name : (n : ℕ) (c : List Item) (a : Agent) → (told n c a).name ≡ a.name
-told_name n c a = cond_name (follows n a.held) a (rewired n (after a.rows c) a) a refl refl
+told_name : (n : ℕ) (c : List Item) (a : Agent) → (after_change n c a).name ≡ a.name
+told_name n c a = cond_name (follows n a.held) a (after_resync n (after a.rows c) a) a refl refl
 
 -- a change is accepted
 pub accepted_holds : (w : World) (c : List Item) → Fits w.history.rows c → AreSound w.settings (after w.history.rows c) → Holds w → Holds (record w { history = accepted w.history c })
@@ -102,54 +101,54 @@ accept_holds w left_out c fits sound s = by w.manual
     by : (b : Bool) → Holds (record v { agents = deliver_by b left_out (w.history.version + 1) c w.agents })
     by true = start
     by false =
-        each_by v (λ (a : Agent). cond (is_among left_out a.name) a (told (w.history.version + 1) c a))
-        (λ a. cond_name (is_among left_out a.name) a a (told (w.history.version + 1) c a) refl (told_name (w.history.version + 1) c a))
-        (λ a h. cond_agent v.settings v.history (is_among left_out a.name) a (told (w.history.version + 1) c a) h (told_agent v.settings v.history start.history a (w.history.version + 1) c kept h)) start
+        each_by v (λ (a : Agent). cond (is_among left_out a.name) a (after_change (w.history.version + 1) c a))
+        (λ a. cond_name (is_among left_out a.name) a a (after_change (w.history.version + 1) c a) refl (told_name (w.history.version + 1) c a))
+        (λ a h. cond_agent v.settings v.history (is_among left_out a.name) a (after_change (w.history.version + 1) c a) h (told_agent v.settings v.history start.history a (w.history.version + 1) c kept h)) start
 
 deliver_holds : (w : World) (name : List ℕ) (n : ℕ) (o : Option (List Item)) → change_at w.history n ≡ o → Holds w → Holds (deliver_kept w name n o)
 deliver_holds w name n None at s = s
-deliver_holds w name n (Some c) at s = one_by w name (told n c) (told_name n c) (λ a h. told_agent w.settings w.history s.history a n c at h) s
+deliver_holds w name n (Some c) at s = one_by w name (after_change n c) (told_name n c) (λ a h. told_agent w.settings w.history s.history a n c at h) s
 
 -- an event makes entries
-seats_added : (place : ℕ) (agents : List Agent) (fresh : List Made) → map seat (add_from place agents fresh) ≡ with_made_from place (map seat agents) fresh
-seats_added place [] fresh = refl
-seats_added place (a ∷ rest) fresh = λ j. record { name = a.name; tables = a.tables; entries = a.entries ++ filter_map (made_at place) fresh } ∷ seats_added (suc place) rest fresh j
+hosts_added : (place : ℕ) (agents : List Agent) (fresh : List Made) → map host_of (add_from place agents fresh) ≡ with_made_from place (map host_of agents) fresh
+hosts_added place [] fresh = refl
+hosts_added place (a ∷ rest) fresh = λ j. record { name = a.name; tables = a.tables; entries = a.entries ++ filter_map (made_at place) fresh } ∷ hosts_added (suc place) rest fresh j
 
 names_added : (place : ℕ) (agents : List Agent) (fresh : List Made) → map (λ (a : Agent). a.name) (add_from place agents fresh) ≡ map (λ (a : Agent). a.name) agents
 names_added place [] fresh = refl
 names_added place (a ∷ rest) fresh = λ j. a.name ∷ names_added (suc place) rest fresh j
 
-added_agents : (settings : SettingsParts) (h : History) → IsHistory (AreSound settings) h → (place : ℕ) (agents : List Agent) (fresh : List Made) → Each (IsAgent settings h) agents → Each (λ (a : Agent). IsAttached (seat a)) (add_from place agents fresh) → Each (IsAgent settings h) (add_from place agents fresh)
+added_agents : (settings : SettingsParts) (h : History) → IsHistory (AreSound settings) h → (place : ℕ) (agents : List Agent) (fresh : List Made) → Each (IsAgent settings h) agents → Each (λ (a : Agent). IsAttached (host_of a)) (add_from place agents fresh) → Each (IsAgent settings h) (add_from place agents fresh)
 added_agents settings h is place [] fresh each placed k a at = none_some a _ at
 added_agents settings h is place (x ∷ rest) fresh each placed zero a at =
     subst (IsAgent settings h) (some_equal _ a at) (entered_agent settings h is x (x.entries ++ filter_map (made_at place) fresh) (each 0 x refl) (placed 0 (record x { entries = x.entries ++ filter_map (made_at place) fresh }) refl))
 added_agents settings h is place (x ∷ rest) fresh each placed (suc k) a at = added_agents settings h is (suc place) rest fresh (λ i b g. each (suc i) b g) (λ i b g. placed (suc i) b g) k a at
 
-pub seat_names : (w : World) → MeetsRules w.settings → AreNamed w → (name : List ℕ) → count_by (is_named name) (seats w) ≤ 1
-seat_names w rules named name =
-    subst (λ n. n ≤ 1) (sym (count_map (is_named name) seat w.agents ∙ sym (count_map (bytes_eq name) (λ (a : Agent). a.name) w.agents) ∙ ap (count_by (bytes_eq name)) named))
-    (one_of name (map (λ (d : Carrier). d.name) w.settings.hosts) rules.host_names_differ)
+pub host_names : (w : World) → MeetsRules w.settings → AreNamed w → (name : List ℕ) → count_by (is_named name) (hosts_of w) ≤ 1
+host_names w rules named name =
+    subst (λ n. n ≤ 1) (sym (count_map (is_named name) host_of w.agents ∙ sym (count_map (bytes_eq name) (λ (a : Agent). a.name) w.agents) ∙ ap (count_by (bytes_eq name)) named))
+    (one_of name (map (λ (d : config.Host). d.name) w.settings.hosts) rules.host_names_differ)
 
 send_holds : (w : World) (event : Event) → Holds w → Holds (step w (Send event))
 send_holds w event s =
-    let fresh = (fabric_verdict (seats w) event).fresh in
-    let placed : Each IsAttached (hosts_after (seats w) event) = stay-placed (seats w) (seat_names w s.rules s.named) (each_map seat IsAttached w.agents (λ k a at. (s.agents k a at).placed)) event in
+    let fresh = (fabric_verdict (hosts_of w) event).fresh in
+    let placed : Each IsAttached (hosts_after (hosts_of w) event) = stay-placed (hosts_of w) (host_names w s.rules s.named) (each_map host_of IsAttached w.agents (λ k a at. (s.agents k a at).placed)) event in
     record {
       rules = s.rules;
       named = names_added 0 w.agents fresh ∙ s.named;
       history = s.history;
-      agents = added_agents w.settings w.history s.history 0 w.agents fresh s.agents (map_each seat IsAttached (add_from 0 w.agents fresh) (subst (Each IsAttached) (sym (seats_added 0 w.agents fresh)) placed));
+      agents = added_agents w.settings w.history s.history 0 w.agents fresh s.agents (map_each host_of IsAttached (add_from 0 w.agents fresh) (subst (Each IsAttached) (sym (hosts_added 0 w.agents fresh)) placed));
     }
 
 step_holds : (w : World) (s : Step) → May w s → Holds w → Holds (step w s)
 step_holds w (Accept left_out c) may h = accept_holds w left_out c may.0 may.1 h
 step_holds w (Deliver name n) may h = deliver_holds w name n (change_at w.history n) refl h
-step_holds w (Resync name) may h = one_by w name (rewired w.history.version w.history.rows) (λ a. refl) (λ a g. resynced_agent w.settings w.history h.history a g) h
-step_holds w (Restart name) may h = one_by w name restarted (λ a. refl) (λ a g. restarted_agent w.settings w.history h.history a g) h
-step_holds w (Forget name) may h = one_by w name forgotten (λ a. refl) (λ a g. forgotten_agent w.settings w.history h.history a g) h
+step_holds w (Resync name) may h = one_by w name (after_resync w.history.version w.history.rows) (λ a. refl) (λ a g. resynced_agent w.settings w.history h.history a g) h
+step_holds w (Restart name) may h = one_by w name after_restart (λ a. refl) (λ a g. restarted_agent w.settings w.history h.history a g) h
+step_holds w (Forget name) may h = one_by w name after_forget (λ a. refl) (λ a g. forgotten_agent w.settings w.history h.history a g) h
 step_holds w Settle may h =
-    each_by w (settled w.history) (λ a. cond_name (holds w.history.version a.held) a a (rewired w.history.version w.history.rows a) refl refl)
-    (λ a g. cond_agent w.settings w.history (holds w.history.version a.held) a (rewired w.history.version w.history.rows a) g (resynced_agent w.settings w.history h.history a g)) h
+    each_by w (after_settle w.history.version w.history.rows) (λ a. cond_name (holds w.history.version a.held) a a (after_resync w.history.version w.history.rows a) refl refl)
+    (λ a g. cond_agent w.settings w.history (holds w.history.version a.held) a (after_resync w.history.version w.history.rows a) g (resynced_agent w.settings w.history h.history a g)) h
 step_holds w (Send event) may h = send_holds w event h
 
 pub step_kept : (w : World) (s : Step) → IsWorld w → May w s → IsWorld (step w s)
@@ -160,15 +159,15 @@ unfolding run MayRun
 run_kept w [] is may = is
 run_kept w (s ∷ ss) is may = run_kept (step w s) ss (step_kept w s is may.0) may.1
 
-pub opened_stands : (settings : SettingsParts) (manual : Bool) (rows : RowLists) → MeetsRules settings → AreSound settings rows → IsWorld (opened settings manual rows)
+pub opened_stands : (settings : SettingsParts) (manual : Bool) (rows : RowLists) → MeetsRules settings → AreSound settings rows → IsWorld (first_world settings manual rows)
 opened_stands settings manual rows rules sound =
     let start = history_starts (AreSound settings) rows 0 sound in
-    world_of (opened settings manual rows) (record {
+    world_of (first_world settings manual rows) (record {
       rules = rules;
-      named = map_map (λ (a : Agent). a.name) (λ (d : Carrier). first_agent rows 0 d.name) settings.hosts;
+      named = map_map (λ (a : Agent). a.name) (λ (d : config.Host). first_agent rows 0 d.name) settings.hosts;
       history = start;
-      agents = each_map (λ (d : Carrier). first_agent rows 0 d.name) (IsAgent settings (history_from rows 0)) settings.hosts (λ k d at. started_agent settings (history_from rows 0) start d.name);
+      agents = each_map (λ (d : config.Host). first_agent rows 0 d.name) (IsAgent settings (history_from rows 0)) settings.hosts (λ k d at. started_agent settings (history_from rows 0) start d.name);
     })
 
-pub all_runs : (settings : SettingsParts) (manual : Bool) (rows : RowLists) → MeetsRules settings → AreSound settings rows → (ss : List Step) → MayRun (opened settings manual rows) ss → IsWorld (run (opened settings manual rows) ss)
-all_runs settings manual rows rules sound ss may = run_kept (opened settings manual rows) ss (opened_stands settings manual rows rules sound) may
+pub all_runs : (settings : SettingsParts) (manual : Bool) (rows : RowLists) → MeetsRules settings → AreSound settings rows → (ss : List Step) → MayRun (first_world settings manual rows) ss → IsWorld (run (first_world settings manual rows) ss)
+all_runs settings manual rows rules sound ss may = run_kept (first_world settings manual rows) ss (opened_stands settings manual rows rules sound) may

@@ -3,11 +3,11 @@ use Rattle.std.specs.Prelude.{◌≡◌, ℕ, ◌+◌, ◌≤◌, Some, map}
 use Rattle.api_types.specs.Lists.{Each}
 use Rattle.net_settings.specs.Rules.{MeetsRules}
 use Rattle.net_settings.specs.Settings.{SettingsParts}
-use Rattle.net_settings.specs.declared.settings.Host.{Host as Carrier}
+use Rattle.net_settings.specs.declared.settings.Host as config
 use Rattle.plane_types.specs.Attached.{IsAttached}
 use Rattle.plane_types.specs.Realises.{Realises}
 use Rattle.bus_core.specs.History.{History, IsHistory, first_kept, rows_at}
-use Rattle.world_laws.specs.Agents.{Agent, seat}
+use Rattle.plane_types.specs.Node.{Agent, host_of}
 use Rattle.world_laws.specs.World.{AreSound, World}
 
 -- the wired rows are sound, and are those of their version while these can be told; what is held
@@ -24,7 +24,7 @@ pub record Lead (w : World) : Type 0 where
 
 -- each entry is of a tap or router of its host, and no two translations can be confused
 abbrev pub Placed : World → Type 0
-Placed w = Each (λ (a : Agent). IsAttached (seat a)) w.agents
+Placed w = Each (λ (a : Agent). IsAttached (host_of a)) w.agents
 
 -- each host's tables are those that its wired rows give to it
 abbrev pub Realised : World → Type 0
@@ -32,7 +32,8 @@ Realised w = Each (λ (a : Agent). Realises a.rows a.name a.tables) w.agents
 
 -- the hosts are those of the settings, in their order
 abbrev pub AreNamed : World → Type 0
-AreNamed w = map (λ (a : Agent). a.name) w.agents ≡ map (λ (d : Carrier). d.name) w.settings.hosts
+AreNamed w =
+    map (λ (a : Agent). a.name) w.agents ≡ map (λ (d : config.Host). d.name) w.settings.hosts
 
 pub record IsWorld (w : World) : Type 0 where
   pub rules : MeetsRules w.settings

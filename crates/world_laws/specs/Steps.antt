@@ -1,16 +1,17 @@
 -- The steps of the world. What a step isn't said to change stays.
-use Rattle.std.specs.Prelude.{ℕ, suc, ◌+◌, ◌==◌, Bool, true, false, List, [], ◌∷◌, ◌++◌, Option, Some, None, map, ⊤, if◌then◌else◌}
+use Rattle.std.specs.Prelude.{◌≡◌, ◌⊎◌, ℕ, suc, ◌+◌, ◌==◌, Bool, true, false, List, [], ◌∷◌, ◌++◌, Option, Some, None, map, ⊤, if◌then◌else◌}
 use Rattle.std.specs.List.{filter_map, list_any}
 use Rattle.std.specs.Option.{option_eq}
 use Rattle.std.specs.Str.{bytes_eq}
+use Rattle.api_types.specs.RowLists.{RowLists}
 use Rattle.api_types.specs.Rows.{Fits, after}
 use Rattle.api_types.specs.declared.change.Item.{Item}
 use Rattle.plane_types.specs.Verdicts.{fabric_verdict, made_at}
 use Rattle.plane_types.specs.declared.event.Event.{Event}
 use Rattle.plane_types.specs.declared.verdict.Made.{Made}
-use Rattle.world_laws.specs.Agents.{Agent, forgotten, restarted, rewired, told}
+use Rattle.plane_types.specs.Node.{Agent, after_change, after_forget, after_restart, after_resync}
 use Rattle.bus_core.specs.History.{History, accepted, change_at}
-use Rattle.world_laws.specs.World.{AreSound, World, seats}
+use Rattle.world_laws.specs.World.{AreSound, World, hosts_of}
 
 pub data Step : Type 0 where
   -- a change is accepted; in automatic delivery each host is told it but those of these names,
@@ -34,11 +35,24 @@ at_host name f agents = map (λ (a : Agent). if bytes_eq name a.name then f a el
 -- each host but those that are left out, in order
 abbrev pub tell_all : List (List ℕ) → ℕ → List Item → List Agent → List Agent
 tell_all left_out n c agents =
-    map (λ (a : Agent). if is_among left_out a.name then a else told n c a) agents
+    map (λ (a : Agent). if is_among left_out a.name then a else after_change n c a) agents
 
 abbrev pub deliver_by : Bool → List (List ℕ) → ℕ → List Item → List Agent → List Agent
 deliver_by true left_out n c agents = agents
 deliver_by false left_out n c agents = tell_all left_out n c agents
+
+-- each host heard the change, or found no memory and is as it was
+abbrev pub MayHaveHeard : ℕ → List Item → List Agent → List Agent → Type 0
+MayHaveHeard n c [] [] = ⊤
+MayHaveHeard n c [] (y ∷ new) = ⊥
+MayHaveHeard n c (x ∷ old) [] = ⊥
+MayHaveHeard n c (x ∷ old) (y ∷ new) =
+    ((y ≡ after_change n c x) ⊎ (y ≡ x)) × MayHaveHeard n c old new
+
+-- by hand alone no host hears it
+abbrev pub DeliversBy : Bool → ℕ → List Item → List Agent → List Agent → Type 0
+DeliversBy true n c old new = new ≡ old
+DeliversBy false n c old new = MayHaveHeard n c old new
 
 abbrev pub accept : World → List (List ℕ) → List Item → World
 accept w left_out c = record w {
@@ -49,14 +63,14 @@ accept w left_out c = record w {
 -- a change that is no longer kept, or not yet, reaches nobody
 abbrev pub deliver_kept : World → List ℕ → ℕ → Option (List Item) → World
 deliver_kept w name n None = w
-deliver_kept w name n (Some c) = record w { agents = at_host name (told n c) w.agents }
+deliver_kept w name n (Some c) = record w { agents = at_host name (after_change n c) w.agents }
 
 abbrev pub holds : ℕ → Option ℕ → Bool
 holds version held = option_eq (λ a b. a == b) held (Some version)
 
--- given the rows of now, where they aren't held
-abbrev pub settled : History → Agent → Agent
-settled h a = if holds h.version a.held then a else rewired h.version h.rows a
+-- given the rows of a version, where it isn't held
+abbrev pub after_settle : ℕ → RowLists → Agent → Agent
+after_settle version rows a = if holds version a.held then a else after_resync version rows a
 
 -- each entry that an event made is added at the host that made it
 abbrev pub add_from : ℕ → List Agent → List Made → List Agent
@@ -69,12 +83,12 @@ abbrev pub step : World → Step → World
 step w (Accept left_out c) = accept w left_out c
 step w (Deliver name n) = deliver_kept w name n (change_at w.history n)
 step w (Resync name) =
-    record w { agents = at_host name (rewired w.history.version w.history.rows) w.agents }
-step w (Restart name) = record w { agents = at_host name restarted w.agents }
-step w (Forget name) = record w { agents = at_host name forgotten w.agents }
-step w Settle = record w { agents = map (settled w.history) w.agents }
+    record w { agents = at_host name (after_resync w.history.version w.history.rows) w.agents }
+step w (Restart name) = record w { agents = at_host name after_restart w.agents }
+step w (Forget name) = record w { agents = at_host name after_forget w.agents }
+step w Settle = record w { agents = map (after_settle w.history.version w.history.rows) w.agents }
 step w (Send event) =
-    record w { agents = add_from 0 w.agents (fabric_verdict (seats w) event).fresh }
+    record w { agents = add_from 0 w.agents (fabric_verdict (hosts_of w) event).fresh }
 
 -- an accepted change fits the rows and leads to sound ones; the other steps are free
 abbrev pub May : World → Step → Type 0

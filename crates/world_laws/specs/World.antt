@@ -6,12 +6,12 @@ use Rattle.api_types.specs.Consistent.Carried.{AreCarried}
 use Rattle.api_types.specs.Lists.{Each}
 use Rattle.api_types.specs.RowLists.{RowLists}
 use Rattle.net_settings.specs.Settings.{SettingsParts}
-use Rattle.net_settings.specs.declared.settings.Host.{Host as Carrier}
+use Rattle.net_settings.specs.declared.settings.Host as config
 use Rattle.call_parts.specs.Typed.{AreTyped}
 use Rattle.api_ml2.specs.Carrying.{carries}
 use Rattle.plane_types.specs.Hosts.{Host}
 use Rattle.bus_core.specs.History.{History, history_from}
-use Rattle.world_laws.specs.Agents.{Agent, first_agent, seat}
+use Rattle.plane_types.specs.Node.{Agent, first_agent, host_of}
 
 pub record World : Type 0 where
   pub settings : SettingsParts
@@ -21,8 +21,8 @@ pub record World : Type 0 where
   -- in the order of the settings' hosts
   pub agents : List Agent
 
-abbrev pub seats : World → List Host
-seats w = map seat w.agents
+abbrev pub hosts_of : World → List Host
+hosts_of w = map host_of w.agents
 
 -- consistent rows, as the types of their values have them, each bound port of which is on a host
 -- that can carry its network
@@ -32,14 +32,14 @@ pub record AreSound (settings : SettingsParts) (rows : RowLists) : Type 0 where
   pub carried : AreCarried (carries settings.hosts) rows.networks rows.ports
 
 -- each host of the settings holds the rows at version 0, and no change is kept
-abbrev pub opened : SettingsParts → Bool → RowLists → World
-opened settings manual rows = record {
+abbrev pub first_world : SettingsParts → Bool → RowLists → World
+first_world settings manual rows = record {
   settings = settings;
   manual = manual;
   history = history_from rows 0;
-  agents = map (λ (d : Carrier). first_agent rows 0 d.name) settings.hosts;
+  agents = map (λ (d : config.Host). first_agent rows 0 d.name) settings.hosts;
 }
 
--- every host holds the version of now
+-- every host holds the current version
 abbrev pub IsSynced : World → Type 0
 IsSynced w = Each (λ (a : Agent). a.held ≡ Some w.history.version) w.agents

@@ -19,11 +19,11 @@ ghost use Rattle.plane_types.specs.Realises.{Realises};
 ghost use Rattle.plane_types.specs.Verdicts.{fabric_verdicts, rows_verdicts, without_hosts};
 ghost use Rattle.plane_types.specs.declared.event.Event.{Event};
 ghost use Rattle.bus_core.specs.History.{change_at, first_kept, rows_at};
-ghost use Rattle.world_laws.specs.Agents.{Agent, rewired as rewired_by};
+ghost use Rattle.plane_types.specs.Node.{Agent, after_resync};
 ghost use Rattle.world_laws.specs.Alike.{AreAlike, accepts};
 ghost use Rattle.world_laws.specs.Lead.{IsWorld, Lead, Placed, Realised};
 ghost use Rattle.world_laws.specs.Steps.{Accept, May, MayRun, Settle, Step, run, step};
-ghost use Rattle.world_laws.specs.World.{AreSound, IsSynced, World, opened, seats};
+ghost use Rattle.world_laws.specs.World.{AreSound, IsSynced, World, first_world, hosts_of};
 
 /// After every list of steps the wired rows of each host are those of its version, where these can
 /// be told, its tables are those that its rows give to it, and its entries are placed. The kept
@@ -32,8 +32,8 @@ pub fn worlds_stay_led()
     ensures step { (w : World) (s : Step) → IsWorld w → May w s → IsWorld (step w s) }
     ensures lists { (settings : SettingsParts) (manual : Bool) (rows : RowLists) → MeetsRules settings →
         AreSound settings rows → (steps : List Step) →
-        MayRun (opened settings manual rows) steps →
-        IsWorld (run (opened settings manual rows) steps) }
+        MayRun (first_world settings manual rows) steps →
+        IsWorld (run (first_world settings manual rows) steps) }
 {}
 
 /// A host that holds a version has the rows of that version, where they can be told, and one that
@@ -62,14 +62,14 @@ pub fn next_changes_fit()
 /// Ports let in and out what their groups and guards allow, and answers to it.
 pub fn synced_hosts_mean_rows()
     ensures verdicts { (w : World) → IsWorld w → IsSynced w → (events : List Event) →
-        map without_hosts (fabric_verdicts (seats w) events) ≡ rows_verdicts w.history.rows
-        (all_entries (seats w)) events }
+        map without_hosts (fabric_verdicts (hosts_of w) events) ≡ rows_verdicts w.history.rows
+        (all_entries (hosts_of w)) events }
     ensures paths { (w : World) → IsWorld w → IsSynced w → (events : List Event) →
-        Each (CrossesAtRouters w.history.rows) (fabric_verdicts (seats w) events) }
+        Each (CrossesAtRouters w.history.rows) (fabric_verdicts (hosts_of w) events) }
     ensures lets_in { (w : World) → IsWorld w → IsSynced w → (events : List Event) →
-        Each (IsLetIn w.history.rows) (fabric_verdicts (seats w) events) }
+        Each (IsLetIn w.history.rows) (fabric_verdicts (hosts_of w) events) }
     ensures lets_out { (w : World) → IsWorld w → IsSynced w → (events : List Event) →
-        AreLetOut w.history.rows events (fabric_verdicts (seats w) events) }
+        AreLetOut w.history.rows events (fabric_verdicts (hosts_of w) events) }
 {}
 
 /// Worlds with the same settings and hosts, and the same rows now and at each version that can be
@@ -91,7 +91,7 @@ pub fn hosts_come_to_now()
     ensures settled { (w : World) → IsSynced (step w Settle) }
     ensures rewired { (w : World) (c : List Item) → IsWorld w → w.manual ≡ false → IsSynced w →
         (step w (Accept [] c)).agents ≡
-        map (rewired_by (w.history.version + 1) (after w.history.rows c)) w.agents }
+        map (after_resync (w.history.version + 1) (after w.history.rows c)) w.agents }
     ensures automatic { (w : World) (c : List Item) → w.manual ≡ false → IsSynced w →
         IsSynced (step w (Accept [] c)) }
 {}

@@ -7,6 +7,6 @@ use Rattle.lab_world.proofs.each.add_made.Given as goal
 -- those so far are added, with those that are left they are all, and there is room for these
 abbrev pub invariant-loop-made : goal.invariant-loop-made
 invariant-loop-made l =
-    (l.node ≡ with_entries l.fn.node l.node.entries l.node.spare)
-    × (l.node.entries ++ filter_map (made_at l.at) (drop l.made-index l.fresh) ≡ l.fn.node.entries ++ filter_map (made_at l.at) l.fresh)
-    × (length (drop l.made-index l.fresh) ≤ l.node.spare)
+    (l.node.agent ≡ with_entries l.node.agent.entries l.fn.node.agent)
+    × (l.node.agent.entries ++ filter_map (made_at l.at) (drop l.made-index l.fresh) ≡ l.fn.node.agent.entries ++ filter_map (made_at l.at) l.fresh)
+    × (length (drop l.made-index l.fresh) ≤ l.node.spare.entries)

@@ -1,4 +1,4 @@
-use Rattle.lab_world.specs.Steps.{IsKeptAt}
+use Rattle.lab_world.proofs.Seen.{IsKeptAt}
 use Rattle.lab_world.proofs.SoFar.{SoFar}
 use Rattle.lab_world.proofs.each.keep_all.Given as goal
 

@@ -1,5 +1,5 @@
 use Rattle.std.proofs.Common.{◌≡◌, drop}
-use Rattle.lab_world.specs.Steps.{IsSettledAt}
+use Rattle.lab_world.proofs.Seen.{IsSettledAt}
 use Rattle.lab_world.proofs.SoFar.{SoFar}
 use Rattle.lab_world.proofs.each.settle_all.Given as goal
 

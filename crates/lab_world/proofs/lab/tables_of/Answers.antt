@@ -5,16 +5,16 @@ use Rattle.api_types.specs.declared.refusal.Refusal.TheVariants.{NoHost}
 use Rattle.plane_types.specs.Node.{Node}
 use Rattle.plane_types.specs.declared.ask.LabAnswer.TheVariants.{Tables}
 use Rattle.plane_types.specs.declared.lists.TableLists.{TableLists}
-use Rattle.lab_world.specs.Steps.{named_node}
+use Rattle.lab_world.specs.Hosts.{named_node}
 use Rattle.lab_world.proofs.lab.tables_of.Goals as goal
 
-there : (o : Option Node) (t : TableLists) → Some t ≡ option_map (λ (n : Node). n.tables) o → (n : Node) × (o ≡ Some n) × (t ≡ n.tables)
+there : (o : Option Node) (t : TableLists) → Some t ≡ option_map (λ (n : Node). n.agent.tables) o → (n : Node) × (o ≡ Some n) × (t ≡ n.agent.tables)
 there None t h = absurd cc
-there (Some n) t h = (n, refl, some_equal t n.tables h)
+there (Some n) t h = (n, refl, some_equal t n.agent.tables h)
 
-nowhere : (o : Option Node) → None ≡ option_map (λ (n : Node). n.tables) o → o ≡ None
+nowhere : (o : Option Node) → None ≡ option_map (λ (n : Node). n.agent.tables) o → o ≡ None
 nowhere None h = refl
-nowhere (Some n) h = none_some n.tables _ h
+nowhere (Some n) h = none_some n.agent.tables _ h
 
 pub returns-in_ok-lists-in-Some-clause-ok : goal.returns-in_ok-lists-in-Some-clause-ok
 returns-in_ok-lists-in-Some-clause-ok c =

@@ -1,6 +1,6 @@
 use Rattle.std.proofs.Common.{◌∙◌, ◌+◌, ◌-◌, ◌^◌, ◌++◌, ◌∷◌, [], ap, inl, inr, min, option_map, subst, sym}
 use Rattle.keeper_core.specs.Counts.{RoseBy, Tells}
-use Rattle.world_laws.specs.World.{opened as opened_world}
+use Rattle.world_laws.specs.World.{first_world}
 use Rattle.std.specs.Prelude.{Err}
 use Rattle.std.proofs.lemmas.Result.{err_from_is_err_and}
 use Rattle.keeper_core.specs.declared.ask.DeskAsk.TheVariants.{Store}
@@ -44,7 +44,7 @@ returns-in-Ok-clause-ok g c =
         stored = stored_rows c.args.opening.now.store _ _ _ l.0 c.settings_for.ensures.stores c.in_ok-store.ensures.rows l.1;
         consistent = l.3;
       },
-      l.2 ∙ ap (λ m. opened_world c.in_ok-settings.settings m l.0) c.is_manual.ensures,
+      l.2 ∙ ap (λ m. first_world c.in_ok-settings.settings m l.0) c.is_manual.ensures,
       subst (λ k. Tells k l.0) (sym c.loaded.ensures.kept) l.1,
     )
 

@@ -10,7 +10,8 @@ pub invariant_of-self : goal.invariant_of-self
 invariant_of-self c =
     let node = c.self.inside in
     let ready = c.ready.inside in
-    let same : ready.name ≡ node.name = ap (λ (r : Ready). r.name) c.ready.view_is ∙ c.requires.name ∙ sym (ap (λ (n : Node). n.name) c.self.view_is) in
+    let same : ready.name ≡ node.name =
+    ap (λ (r : Ready). r.name) c.ready.view_is ∙ c.requires.name ∙ sym (ap (λ (n : Node). n.agent.name) c.self.view_is) in
     record {
       consistent = c.ready.invariant.consistent;
       realised = subst (λ name. Realises ready.rows name ready.tables.lists) same c.ready.invariant.realised;

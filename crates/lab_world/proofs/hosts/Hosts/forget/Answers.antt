@@ -1,18 +1,10 @@
-use Rattle.std.proofs.Common.{rules, ◌≡◌, ◌<◌, ◌∙◌, List, Some, ap, length, slice_get, slice_index_or, slice_set, subst, sym}
-use Rattle.std.proofs.lemmas.Option.{slice_get-get_or}
-use Rattle.plane_types.specs.Node.{Node}
+use Rattle.std.proofs.Common.{rules, ◌≡◌, ap, slice_index_or}
+use Rattle.plane_types.specs.Node.{Node, after_forget}
+use Rattle.lab_world.proofs.One.{done_at}
 use Rattle.lab_world.proofs.hosts.Hosts.forget.Goals as goal
 
 pub returns : goal.returns
 returns c =
     let n : Node = c.index_mut.result.now in
     let is : n ≡ slice_index_or c.self.inside.nodes.items c.args.at n = search (rules, c.index_mut.ensures.value) in
-    let within : c.args.at < length c.self.inside.nodes.items = subst (λ (ns : List Node). c.args.at < length ns) (sym c.self.view_is) c.requires in
-    let at : slice_get c.args.self.now c.args.at ≡ Some n = subst (λ (ns : List Node). slice_get ns c.args.at ≡ Some n) c.self.view_is (slice_get-get_or c.self.inside.nodes.items c.args.at n within ∙ ap Some (sym is)) in
-    record {
-      before = n;
-      behind = c.forget.new.self;
-      at = at;
-      is = c.forget.ensures.node;
-      put = ap (λ (ns : List Node). slice_set ns c.args.at c.forget.new.self) c.self.view_is;
-    }
+    done_at after_forget c.args.self.now c.self.inside.nodes.items c.args.at n c.forget.new.self c.self.view_is is c.requires c.forget.ensures.agent

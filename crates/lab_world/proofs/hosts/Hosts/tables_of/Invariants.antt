@@ -1,5 +1,5 @@
 use Rattle.std.proofs.Common.{◌≡◌, drop}
-use Rattle.lab_world.specs.Steps.{named_node}
+use Rattle.lab_world.specs.Hosts.{named_node}
 use Rattle.lab_world.proofs.hosts.Hosts.tables_of.Given as goal
 
 -- none so far has the name

@@ -35,11 +35,11 @@ invariant_of-self-2 c =
     let i = c.self.inside in
     let kept : change_of i.machine.version i.bus.changes c.args.number ≡ Some c.in_ok-change.change.now =
     subst (λ (n : ℕ). change_of n i.bus.changes c.args.number ≡ Some c.in_ok-change.change.now) c.self.invariant.numbered c.in_ok-change.ensures.ok in
-    (delivers i.machine.settings i.machine.rows i.machine.version i.bus i.hosts i.manual c.self.invariant c.args.caller.now c.args.name.now c.in_ok-at.at c.args.number c.in_ok-change.change.now c.in_ok-heard.heard c.deliver.new.self c.args.self.now c.self.view_is c.in_ok-bar_tenant.ensures.ok c.in_ok-at.ensures.ok kept c.in_ok-heard.ensures.ok).0
+    (delivers i.machine.settings i.machine.rows i.machine.version i.bus i.hosts i.manual c.self.invariant c.args.caller.now c.args.name.now c.in_ok-at.at c.args.number c.in_ok-change.change.now c.in_ok-heard.heard c.deliver.new.self c.args.self.now c.self.view_is c.in_ok-bar_tenant.ensures.ok c.in_ok-at.ensures.ok kept c.in_ok-heard.ensures.heard c.in_ok-heard.ensures.ok).0
 
 pub returns-clause-ok : goal.returns-clause-ok
 returns-clause-ok c =
     let i = c.self.inside in
     let kept : change_of i.machine.version i.bus.changes c.args.number ≡ Some c.in_ok-change.change.now =
     subst (λ (n : ℕ). change_of n i.bus.changes c.args.number ≡ Some c.in_ok-change.change.now) c.self.invariant.numbered c.in_ok-change.ensures.ok in
-    (delivers i.machine.settings i.machine.rows i.machine.version i.bus i.hosts i.manual c.self.invariant c.args.caller.now c.args.name.now c.in_ok-at.at c.args.number c.in_ok-change.change.now c.in_ok-heard.heard c.deliver.new.self c.args.self.now c.self.view_is c.in_ok-bar_tenant.ensures.ok c.in_ok-at.ensures.ok kept c.in_ok-heard.ensures.ok).1
+    (delivers i.machine.settings i.machine.rows i.machine.version i.bus i.hosts i.manual c.self.invariant c.args.caller.now c.args.name.now c.in_ok-at.at c.args.number c.in_ok-change.change.now c.in_ok-heard.heard c.deliver.new.self c.args.self.now c.self.view_is c.in_ok-bar_tenant.ensures.ok c.in_ok-at.ensures.ok kept c.in_ok-heard.ensures.heard c.in_ok-heard.ensures.ok).1

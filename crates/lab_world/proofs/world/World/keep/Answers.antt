@@ -5,13 +5,12 @@ use Rattle.api_types.specs.RowLists.{RowLists}
 use Rattle.api_types.specs.Rows.{Fits, after}
 use Rattle.api_machine.specs.Kept.{AreKept}
 use Rattle.api_machine.specs.Machine.{MachineParts}
-use Rattle.plane_types.specs.Node.{CanFollow, Node}
+use Rattle.plane_types.specs.Node.{CanFollow, Node, agents_of}
 use Rattle.bus_core.specs.Kept.{Kept}
 use Rattle.keeper_core.specs.Counts.{Tells}
-use Rattle.world_laws.specs.Steps.{Accept, step}
+use Rattle.world_laws.specs.Steps.{Accept, DeliversBy, step}
 use Rattle.world_laws.specs.World.{World}
 use Rattle.lab_world.specs.Parts.{AreParts, world_seen}
-use Rattle.lab_world.specs.Steps.{AreTold}
 use Rattle.lab_world.proofs.Keeping.{tells_after, told_after}
 use Rattle.lab_world.proofs.Parts.{accepted, can_follow, sound_after}
 use Rattle.lab_world.proofs.world.World.keep.Goals as goal
@@ -24,7 +23,7 @@ tell-requires g c =
     let fits : Fits m.rows change = subst (λ (w : World). Fits w.history.rows change) (sym c.self.view_is) c.requires.fits in
     let kept : AreKept m.settings m.rows (after m.rows change) = subst (λ (w : World). AreKept w.settings w.history.rows (after w.history.rows change)) (sym c.self.view_is) c.requires.sound in
     let number_is = c.version.ensures ∙ (λ j. (c.accept.ensures j).version) ∙ (λ j. (c.prepare.ensures.same j).version + 1) in
-    subst (λ (n : ℕ). Each (λ (x : Node). CanFollow x n change) i.hosts) (sym number_is) (can_follow m.settings m.rows m.version i.bus i.hosts i.manual c.self.invariant change fits kept.consistent)
+    subst (λ (n : ℕ). Each (λ (x : Node). CanFollow x.agent n change) i.hosts) (sym number_is) (can_follow m.settings m.rows m.version i.bus i.hosts i.manual c.self.invariant change fits kept.consistent)
 
 pub invariant_of-self-in-Ok : goal.invariant_of-self-in-Ok
 invariant_of-self-in-Ok g c =
@@ -36,7 +35,8 @@ invariant_of-self-in-Ok g c =
     let put : c.accept.new.self ≡ record { settings = m.settings; rows = after m.rows change; version = m.version + 1 } =
     c.accept.ensures ∙ (λ j. record { settings = (c.prepare.ensures.same j).settings; rows = (c.in_ok-ready.ensures.ready j).rows; version = (c.prepare.ensures.same j).version + 1 }) in
     let number_is : c.version.result ≡ m.version + 1 = c.version.ensures ∙ (λ j. (put j).version) in
-    let told : AreTold i.manual (m.version + 1) change i.hosts c.tell.new.self = subst (λ (n : ℕ). AreTold i.manual n change i.hosts c.tell.new.self) number_is c.tell.ensures in
+    let told : DeliversBy i.manual (m.version + 1) change (agents_of i.hosts) (agents_of c.tell.new.self) =
+    subst (λ (n : ℕ). DeliversBy i.manual n change (agents_of i.hosts) (agents_of c.tell.new.self)) number_is c.tell.ensures in
     let both = accepted m.settings m.rows m.version i.bus i.hosts i.manual c.self.invariant change c.tell.new.self fits (sound_after m.settings m.rows m.version i.bus i.hosts i.manual c.self.invariant (after m.rows change) kept) told in
     subst (λ (n : MachineParts). AreParts n.settings n.rows n.version c.push-number.new.self c.tell.new.self i.manual) (sym put)
     (subst (λ (k : Kept). AreParts m.settings (after m.rows change) (m.version + 1) k c.tell.new.self i.manual) (sym c.push-number.ensures.bus) both.0)
@@ -51,7 +51,8 @@ returns-in-Ok-clause-ok g c =
     let put : c.accept.new.self ≡ record { settings = m.settings; rows = after m.rows change; version = m.version + 1 } =
     c.accept.ensures ∙ (λ j. record { settings = (c.prepare.ensures.same j).settings; rows = (c.in_ok-ready.ensures.ready j).rows; version = (c.prepare.ensures.same j).version + 1 }) in
     let number_is : c.version.result ≡ m.version + 1 = c.version.ensures ∙ (λ j. (put j).version) in
-    let told : AreTold i.manual (m.version + 1) change i.hosts c.tell.new.self = subst (λ (n : ℕ). AreTold i.manual n change i.hosts c.tell.new.self) number_is c.tell.ensures in
+    let told : DeliversBy i.manual (m.version + 1) change (agents_of i.hosts) (agents_of c.tell.new.self) =
+    subst (λ (n : ℕ). DeliversBy i.manual n change (agents_of i.hosts) (agents_of c.tell.new.self)) number_is c.tell.ensures in
     let both = accepted m.settings m.rows m.version i.bus i.hosts i.manual c.self.invariant change c.tell.new.self fits (sound_after m.settings m.rows m.version i.bus i.hosts i.manual c.self.invariant (after m.rows change) kept) told in
     (both.1.0, (λ j. world_seen (put j).settings (put j).rows (put j).version (c.push-number.ensures.bus j) c.tell.new.self i.manual) ∙ both.1.1 ∙ ap (λ (w : World). step w (Accept both.1.0 change)) c.self.view_is)
 

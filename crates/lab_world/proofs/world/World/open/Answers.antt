@@ -3,14 +3,12 @@ use Rattle.api_types.specs.Consistent.{IsConsistent}
 use Rattle.api_machine.specs.Kept.{HostsCarry}
 use Rattle.call_parts.specs.Typed.{AreTyped}
 use Rattle.net_settings.specs.Rules.{MeetsRules}
-use Rattle.plane_types.specs.Node.{Node, first_node}
+use Rattle.plane_types.specs.Node.{Agent, agents_of, first_agent}
 use Rattle.bus_core.specs.Kept.{Kept}
-use Rattle.world_laws.specs.Agents.{Agent}
 use Rattle.world_laws.specs.Lead.{IsWorld}
-use Rattle.world_laws.specs.World.{opened}
+use Rattle.world_laws.specs.World.{first_world}
 use Rattle.world_laws.proofs.StepLaw.{opened_stands}
 use Rattle.lab_world.specs.Parts.{AreParts, world_seen}
-use Rattle.lab_world.proofs.Seen.{first_seen, unspared}
 use Rattle.lab_world.proofs.world.World.open.Goals as goal
 
 pub invariant_of-result : goal.invariant_of-result
@@ -19,15 +17,14 @@ invariant_of-result c =
     let settings = c.args.settings in
     let settings_is = c.settings.ensures.value ∙ (λ j. (made j).settings) in
     let rows_is = c.rows.ensures.rows ∙ (λ j. (made j).rows) in
-    let same : map unspared c.in_ok-hosts.hosts ≡ map (λ d. first_node d.name 0 c.args.rows 0) settings.hosts =
-    c.in_ok-hosts.ensures ∙ (λ j. map (λ d. first_node d.name 0 (rows_is j) 0) ((c.hosts.ensures.value ∙ (λ k. (settings_is k).hosts)) j)) in
+    let first : agents_of c.in_ok-hosts.hosts ≡ map (λ d. first_agent c.args.rows 0 d.name) settings.hosts =
+    c.in_ok-hosts.ensures ∙ (λ j. map (λ d. first_agent (rows_is j) 0 d.name) ((c.hosts.ensures.value ∙ (λ k. (settings_is k).hosts)) j)) in
     let rules : MeetsRules settings = subst MeetsRules (λ j. (made j).settings) c.settings.ensures.rules in
     let consistent : IsConsistent c.args.rows = subst IsConsistent (λ j. (made j).rows) c.rows.ensures.consistent in
     let typed : AreTyped c.args.rows = subst AreTyped (λ j. (made j).rows) c.rows.ensures.typed in
     let carried : HostsCarry settings c.args.rows = subst (λ (m : _). HostsCarry m.settings m.rows) made c.rows.ensures.carried in
-    let first = first_seen settings c.args.rows c.in_ok-hosts.hosts same in
     let stands : AreParts settings c.args.rows 0 (record { last = 0; changes = [] }) c.in_ok-hosts.hosts c.args.manual = record {
-      world = subst (λ (agents : List Agent). IsWorld (record (opened settings c.args.manual c.args.rows) { agents = agents })) (sym first)
+      world = subst (λ (agents : List Agent). IsWorld (record (first_world settings c.args.manual c.args.rows) { agents = agents })) (sym first)
           (opened_stands settings c.args.manual c.args.rows rules (record { consistent = consistent; typed = typed; carried = carried }));
       numbered = refl;
     } in
@@ -40,7 +37,7 @@ returns-clause-ok c =
     let settings = c.args.settings in
     let settings_is = c.settings.ensures.value ∙ (λ j. (made j).settings) in
     let rows_is = c.rows.ensures.rows ∙ (λ j. (made j).rows) in
-    let same : map unspared c.in_ok-hosts.hosts ≡ map (λ d. first_node d.name 0 c.args.rows 0) settings.hosts =
-    c.in_ok-hosts.ensures ∙ (λ j. map (λ d. first_node d.name 0 (rows_is j) 0) ((c.hosts.ensures.value ∙ (λ k. (settings_is k).hosts)) j)) in
+    let first : agents_of c.in_ok-hosts.hosts ≡ map (λ d. first_agent c.args.rows 0 d.name) settings.hosts =
+    c.in_ok-hosts.ensures ∙ (λ j. map (λ d. first_agent (rows_is j) 0 d.name) ((c.hosts.ensures.value ∙ (λ k. (settings_is k).hosts)) j)) in
     (λ j. world_seen (made j).settings (made j).rows (made j).version (c.in_ok-bus.ensures j) c.in_ok-hosts.hosts c.args.manual)
-    ∙ (λ j. record (opened settings c.args.manual c.args.rows) { agents = first_seen settings c.args.rows c.in_ok-hosts.hosts same j })
+    ∙ (λ j. record (first_world settings c.args.manual c.args.rows) { agents = first j })

@@ -1,11 +1,10 @@
-use Rattle.std.proofs.Common.{◌≡◌, ◌∙◌, ℕ, Some, map, refl, subst}
+use Rattle.std.proofs.Common.{◌≡◌, ◌∙◌, Some, map, refl}
 use Rattle.std.proofs.lemmas.Option.{slice_get_within}
 use Rattle.std.proofs.lemmas.Result.{err_from_is_err_and}
-use Rattle.api_types.specs.RowLists.{RowLists}
-use Rattle.plane_types.specs.Node.{after_resync}
+use Rattle.plane_types.specs.Node.{after_resync, agents_of}
 use Rattle.world_laws.specs.Steps.{Resync}
 use Rattle.lab_world.specs.Lab.{stepped}
-use Rattle.lab_world.specs.Steps.{IsDoneAt, state_with}
+use Rattle.lab_world.specs.Hosts.{at_place, state_with}
 use Rattle.lab_world.proofs.MessageLaws.{barred, resyncs}
 use Rattle.lab_world.proofs.world.World.resync.Goals as goal
 
@@ -21,19 +20,17 @@ resync-requires-clause-within c = let named = c.in_ok-at.ensures.ok in slice_get
 pub invariant_of-self-2 : goal.invariant_of-self-2
 invariant_of-self-2 c =
     let i = c.self.inside in
-    let told : c.in_ok-states.states ≡ map (state_with c.args.name.now (Some i.machine.version)) i.hosts =
-    c.in_ok-states.ensures ∙ (λ j. map (state_with c.args.name.now (Some (c.version-version.ensures j))) i.hosts) in
-    let done : IsDoneAt (λ n m. m ≡ after_resync n i.machine.version i.machine.rows m.spare) c.in_ok-at.at i.hosts c.resync.new.self =
-    subst (λ (v : ℕ). IsDoneAt (λ n m. m ≡ after_resync n v i.machine.rows m.spare) c.in_ok-at.at i.hosts c.resync.new.self) c.version-version.ensures
-    (subst (λ (r : RowLists). IsDoneAt (λ n m. m ≡ after_resync n c.version-version.result r m.spare) c.in_ok-at.at i.hosts c.resync.new.self) c.rows.ensures.rows c.in_ok-resync.ensures.ok) in
+    let told : c.in_ok-states.states ≡ map (state_with c.args.name.now (Some i.machine.version)) (agents_of i.hosts) =
+    c.in_ok-states.ensures ∙ (λ j. map (state_with c.args.name.now (Some (c.version-version.ensures j))) (agents_of i.hosts)) in
+    let done : agents_of c.resync.new.self ≡ at_place c.in_ok-at.at (after_resync i.machine.version i.machine.rows) (agents_of i.hosts) =
+    c.in_ok-resync.ensures.ok ∙ (λ j. at_place c.in_ok-at.at (after_resync (c.version-version.ensures j) (c.rows.ensures.rows j)) (agents_of i.hosts)) in
     (resyncs i.machine.settings i.machine.rows i.machine.version i.bus i.hosts i.manual c.self.invariant c.args.caller.now c.args.name.now c.in_ok-at.at c.in_ok-states.states c.resync.new.self c.args.self.now c.self.view_is c.in_ok-bar_tenant.ensures.ok c.in_ok-at.ensures.ok told done).0
 
 pub returns-clause-ok : goal.returns-clause-ok
 returns-clause-ok c =
     let i = c.self.inside in
-    let told : c.in_ok-states.states ≡ map (state_with c.args.name.now (Some i.machine.version)) i.hosts =
-    c.in_ok-states.ensures ∙ (λ j. map (state_with c.args.name.now (Some (c.version-version.ensures j))) i.hosts) in
-    let done : IsDoneAt (λ n m. m ≡ after_resync n i.machine.version i.machine.rows m.spare) c.in_ok-at.at i.hosts c.resync.new.self =
-    subst (λ (v : ℕ). IsDoneAt (λ n m. m ≡ after_resync n v i.machine.rows m.spare) c.in_ok-at.at i.hosts c.resync.new.self) c.version-version.ensures
-    (subst (λ (r : RowLists). IsDoneAt (λ n m. m ≡ after_resync n c.version-version.result r m.spare) c.in_ok-at.at i.hosts c.resync.new.self) c.rows.ensures.rows c.in_ok-resync.ensures.ok) in
+    let told : c.in_ok-states.states ≡ map (state_with c.args.name.now (Some i.machine.version)) (agents_of i.hosts) =
+    c.in_ok-states.ensures ∙ (λ j. map (state_with c.args.name.now (Some (c.version-version.ensures j))) (agents_of i.hosts)) in
+    let done : agents_of c.resync.new.self ≡ at_place c.in_ok-at.at (after_resync i.machine.version i.machine.rows) (agents_of i.hosts) =
+    c.in_ok-resync.ensures.ok ∙ (λ j. at_place c.in_ok-at.at (after_resync (c.version-version.ensures j) (c.rows.ensures.rows j)) (agents_of i.hosts)) in
     (resyncs i.machine.settings i.machine.rows i.machine.version i.bus i.hosts i.manual c.self.invariant c.args.caller.now c.args.name.now c.in_ok-at.at c.in_ok-states.states c.resync.new.self c.args.self.now c.self.view_is c.in_ok-bar_tenant.ensures.ok c.in_ok-at.ensures.ok told done).1

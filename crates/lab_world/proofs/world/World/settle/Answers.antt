@@ -1,8 +1,8 @@
-use Rattle.std.proofs.Common.{◌≡◌, ◌∙◌, ℕ, List, map, refl, subst, sym}
+use Rattle.std.proofs.Common.{◌≡◌, ◌∙◌, List, map, refl, subst, sym}
 use Rattle.api_types.specs.Lists.{Each}
-use Rattle.plane_types.specs.Node.{Ready}
+use Rattle.plane_types.specs.Node.{Ready, agents_of, ready_for}
 use Rattle.world_laws.proofs.Lists.{each_map}
-use Rattle.lab_world.specs.Steps.{AreFor, IsSettledAt, Stepwise, ready_for, state_at_version}
+use Rattle.lab_world.specs.Hosts.{AreFor, settle_each, state_at_version}
 use Rattle.lab_world.proofs.MessageLaws.{settles}
 use Rattle.lab_world.proofs.Seen.{ready_matches}
 use Rattle.lab_world.proofs.world.World.settle.Goals as goal
@@ -13,26 +13,26 @@ settle-requires-clause-each c = subst (λ (ready : List Ready). AreFor ready c.s
 pub settle-requires-clause-version : goal.settle-requires-clause-version
 settle-requires-clause-version c =
     subst (λ (ready : List Ready). Each (λ (r : Ready). r.version ≡ c.version-version.result) ready) (sym c.in_ok-ready.ensures)
-    (each_map (ready_for c.version-version.result c.rows.result.now) (λ (r : Ready). r.version ≡ c.version-version.result) c.self.inside.hosts (λ k n at. refl))
+    (each_map (ready_for c.version-version.result c.rows.result.now) (λ (r : Ready). r.version ≡ c.version-version.result) (agents_of c.self.inside.hosts) (λ k a at. refl))
 
 pub invariant_of-self : goal.invariant_of-self
 invariant_of-self c =
     let i = c.self.inside in
-    let told : c.in_ok-states.states ≡ map (state_at_version i.machine.version) i.hosts = c.in_ok-states.ensures ∙ (λ j. map (state_at_version (c.version-version.ensures j)) i.hosts) in
-    let ready : c.in_ok-ready.ready.items ≡ map (ready_for i.machine.version i.machine.rows) i.hosts =
-    c.in_ok-ready.ensures ∙ (λ j. map (ready_for (c.version-version.ensures j) (c.rows.ensures.rows j)) i.hosts) in
-    let put : Stepwise (IsSettledAt i.machine.version (map (ready_for i.machine.version i.machine.rows) i.hosts)) i.hosts c.settle.new.self =
-    subst (λ (r : List Ready). Stepwise (IsSettledAt i.machine.version r) i.hosts c.settle.new.self) ready
-    (subst (λ (v : ℕ). Stepwise (IsSettledAt v c.in_ok-ready.ready.items) i.hosts c.settle.new.self) c.version-version.ensures c.settle.ensures) in
+    let told : c.in_ok-states.states ≡ map (state_at_version i.machine.version) (agents_of i.hosts) =
+    c.in_ok-states.ensures ∙ (λ j. map (state_at_version (c.version-version.ensures j)) (agents_of i.hosts)) in
+    let ready : c.in_ok-ready.ready.items ≡ map (ready_for i.machine.version i.machine.rows) (agents_of i.hosts) =
+    c.in_ok-ready.ensures ∙ (λ j. map (ready_for (c.version-version.ensures j) (c.rows.ensures.rows j)) (agents_of i.hosts)) in
+    let put : agents_of c.settle.new.self ≡ settle_each i.machine.version (map (ready_for i.machine.version i.machine.rows) (agents_of i.hosts)) (agents_of i.hosts) =
+    c.settle.ensures ∙ (λ j. settle_each (c.version-version.ensures j) (ready j) (agents_of i.hosts)) in
     (settles i.machine.settings i.machine.rows i.machine.version i.bus i.hosts i.manual c.self.invariant c.args.caller.now c.in_ok-states.states c.settle.new.self c.args.self.now c.self.view_is c.in_ok-bar_tenant.ensures.ok told put).0
 
 pub returns-clause-ok : goal.returns-clause-ok
 returns-clause-ok c =
     let i = c.self.inside in
-    let told : c.in_ok-states.states ≡ map (state_at_version i.machine.version) i.hosts = c.in_ok-states.ensures ∙ (λ j. map (state_at_version (c.version-version.ensures j)) i.hosts) in
-    let ready : c.in_ok-ready.ready.items ≡ map (ready_for i.machine.version i.machine.rows) i.hosts =
-    c.in_ok-ready.ensures ∙ (λ j. map (ready_for (c.version-version.ensures j) (c.rows.ensures.rows j)) i.hosts) in
-    let put : Stepwise (IsSettledAt i.machine.version (map (ready_for i.machine.version i.machine.rows) i.hosts)) i.hosts c.settle.new.self =
-    subst (λ (r : List Ready). Stepwise (IsSettledAt i.machine.version r) i.hosts c.settle.new.self) ready
-    (subst (λ (v : ℕ). Stepwise (IsSettledAt v c.in_ok-ready.ready.items) i.hosts c.settle.new.self) c.version-version.ensures c.settle.ensures) in
+    let told : c.in_ok-states.states ≡ map (state_at_version i.machine.version) (agents_of i.hosts) =
+    c.in_ok-states.ensures ∙ (λ j. map (state_at_version (c.version-version.ensures j)) (agents_of i.hosts)) in
+    let ready : c.in_ok-ready.ready.items ≡ map (ready_for i.machine.version i.machine.rows) (agents_of i.hosts) =
+    c.in_ok-ready.ensures ∙ (λ j. map (ready_for (c.version-version.ensures j) (c.rows.ensures.rows j)) (agents_of i.hosts)) in
+    let put : agents_of c.settle.new.self ≡ settle_each i.machine.version (map (ready_for i.machine.version i.machine.rows) (agents_of i.hosts)) (agents_of i.hosts) =
+    c.settle.ensures ∙ (λ j. settle_each (c.version-version.ensures j) (ready j) (agents_of i.hosts)) in
     (settles i.machine.settings i.machine.rows i.machine.version i.bus i.hosts i.manual c.self.invariant c.args.caller.now c.in_ok-states.states c.settle.new.self c.args.self.now c.self.view_is c.in_ok-bar_tenant.ensures.ok told put).1
