@@ -31,6 +31,7 @@ fn lease_row_by(
     match tags.tag_of(port.network) {
         None => Ok(None),
         Some(tag) => Ok(Some(LeaseRow {
+            port: port.id,
             tag,
             mac: port.mac,
             lease,

@@ -158,6 +158,7 @@ fn add_sets(tables: &mut TableLists) -> Result<(), OutOfMemory> {
 
 fn lease(alloc: Global, n: u8) -> LeaseRow {
     LeaseRow {
+        port: id(n),
         tag: HERE,
         mac: mac(n),
         lease: Lease {

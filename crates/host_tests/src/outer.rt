@@ -28,6 +28,8 @@ pub(crate) const OUTSIDE: u8 = 51;
 
 pub(crate) const INSIDE: u8 = 52;
 
+const FLOATING: u8 = 54;
+
 pub(crate) fn outer(n: u8) -> Addr4 {
     Addr4(OUTER + u32::from(n))
 }
@@ -148,6 +150,7 @@ pub(crate) fn routing_host(alloc: Global) -> Result<TableLists, OutOfMemory> {
 /// A floating address of the second instance, 203.0.113.3.
 pub(crate) fn add_float(tables: &mut TableLists) -> Result<(), OutOfMemory> {
     tables.floats.push(FloatRow {
+        id: id(FLOATING),
         router: id(ROUTER),
         floating: outer(3),
         fixed: inner(SECOND),

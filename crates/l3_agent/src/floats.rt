@@ -30,6 +30,7 @@ fn float_row(rows: &Rows, host: &Text, floating: &FloatingRow) -> Option<FloatRo
         return None;
     }
     Some(FloatRow {
+        id: floating.id,
         router: target.router,
         floating: floating.address,
         fixed: target.fixed,

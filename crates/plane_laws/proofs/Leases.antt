@@ -49,6 +49,11 @@ use Rattle.plane_types.specs.declared.verdict.Outcome.TheVariants.{Answered, Dro
 use Rattle.plane_types.specs.declared.verdict.Toward.TheVariants.{Dhcp as TowardDhcp}
 use Rattle.plane_laws.proofs.Facts.{AllOf, FrameFacts, HostFacts, SyncedFacts}
 
+-- the row by which a port with a tag and a MAC gets a lease
+abbrev given_lease : ℕ → ℕ → PortRow → Option Lease → Option LeaseRow
+given_lease tag mac q o =
+    option_map (λ lease. record { port = q.id; tag = tag; mac = mac; lease = lease }) o
+
 module _ (rows : RowLists) (host : List ℕ) (t : TableLists) (real : HostFacts rows host t) (good : FrameFacts rows) (n : Ident) (tag : ℕ) (tagged_by : tag_of t.tags n ≡ Some tag) where
   dhcp_hit : (q : PortRow) (row : BridgeRow) → dhcp_row rows host t.tags q ≡ Some row → ((row.tag == tag) && bridge_key_eq row.key AtDhcp) ≡ is_live_dhcp_of rows n q
   dhcp_hit q row h = go (is_dhcp q.owner) (is_live rows q) (end_of rows host q) (tag_of t.tags q.network) refl refl refl h
@@ -110,16 +115,16 @@ module _ (rows : RowLists) (host : List ℕ) (t : TableLists) (real : HostFacts 
       lease_hit : (q : PortRow) (row : LeaseRow) → lease_row rows host t.tags q ≡ Some row → ((row.tag == tag) && (row.mac == mac)) ≡ has_mac rows n mac q
       lease_hit q row h = go (is_live rows q) (dhcp_port rows q.network) refl h
         where
-          inner : is_live rows q ≡ true → (l : Option Lease) (o : Option ℕ) → tag_of t.tags q.network ≡ o → option_and_then (λ lease. option_map (λ tag. record { tag = tag; mac = q.mac; lease = lease }) o) l ≡ Some row → ((row.tag == tag) && (row.mac == mac)) ≡ has_mac rows n mac q
+          inner : is_live rows q ≡ true → (l : Option Lease) (o : Option ℕ) → tag_of t.tags q.network ≡ o → option_and_then (λ lease. option_map (λ tag. record { port = q.id; tag = tag; mac = q.mac; lease = lease }) o) l ≡ Some row → ((row.tag == tag) && (row.mac == mac)) ≡ has_mac rows n mac q
           inner e None o f h = cc
           inner e (Some l) None f h = cc
           inner e (Some l) (Some other) f h =
-              let is : record { tag = other; mac = q.mac; lease = l } ≡ row = cc in
+              let is : record { port = q.id; tag = other; mac = q.mac; lease = l } ≡ row = cc in
               let same = tag-apart rows host t.tags real.tags n q.network tag other tagged_by f in
               subst (λ (r : LeaseRow). ((r.tag == tag) && (r.mac == mac)) ≡ has_mac rows n mac q) is
               (ap (λ b. b && (q.mac == mac)) same ∙ sym (and_true (ident_eq n q.network && (q.mac == mac))) ∙ ap (λ b. (ident_eq n q.network && (q.mac == mac)) && b) (sym e))
 
-          at : is_live rows q ≡ true → (x : PortRow) (b : Bool) → (if b then option_and_then (λ lease. option_map (λ tag. record { tag = tag; mac = q.mac; lease = lease }) (tag_of t.tags q.network)) (lease_for rows x q) else None) ≡ Some row → ((row.tag == tag) && (row.mac == mac)) ≡ has_mac rows n mac q
+          at : is_live rows q ≡ true → (x : PortRow) (b : Bool) → (if b then option_and_then (λ lease. option_map (λ tag. record { port = q.id; tag = tag; mac = q.mac; lease = lease }) (tag_of t.tags q.network)) (lease_for rows x q) else None) ≡ Some row → ((row.tag == tag) && (row.mac == mac)) ≡ has_mac rows n mac q
           at e x false h = cc
           at e x true h = inner e (lease_for rows x q) (tag_of t.tags q.network) refl h
 
@@ -128,7 +133,8 @@ module _ (rows : RowLists) (host : List ℕ) (t : TableLists) (real : HostFacts 
           go true None e h = cc
           go true (Some x) e h = at e x (is_at host x) h
 
-      pub lease-located : lease_at t tag mac ≡ option_map (λ l. record { tag = tag; mac = mac; lease = l }) (option_and_then (lease_for rows d) (port_at rows n mac))
+      pub lease-located : lease_at t tag mac
+          ≡ option_and_then (λ q. given_lease tag mac q (lease_for rows d q)) (port_at rows n mac)
       unfolding lease_rows
       lease-located =
           ap (find (λ (r : LeaseRow). (r.tag == tag) && (r.mac == mac))) real.leases
@@ -136,11 +142,11 @@ module _ (rows : RowLists) (host : List ℕ) (t : TableLists) (real : HostFacts 
           (AtMostOne-less (λ (p : PortRow). ident_eq n p.network && (p.mac == mac)) (has_mac rows n mac) rows.ports (λ q e. (and_parts (ident_eq n q.network && (q.mac == mac)) (is_live rows q) e).0) (good.macs n mac))
           ∙ go (port_at rows n mac) refl
         where
-          value : (q : PortRow) (l : Option Lease) → q.mac ≡ mac → option_and_then {U = LeaseRow} (λ lease. option_map (λ tag. record { tag = tag; mac = q.mac; lease = lease }) (Some tag)) l ≡ option_map {U = LeaseRow} (λ l. record { tag = tag; mac = mac; lease = l }) l
+          value : (q : PortRow) (l : Option Lease) → q.mac ≡ mac → option_and_then {U = LeaseRow} (λ lease. option_map (λ tag. record { port = q.id; tag = tag; mac = q.mac; lease = lease }) (Some tag)) l ≡ given_lease tag mac q l
           value q None e = refl
-          value q (Some l) e = ap (λ m. Some (record { tag = tag; mac = m; lease = l })) e
+          value q (Some l) e = ap (λ m. Some (record { port = q.id; tag = tag; mac = m; lease = l })) e
 
-          go : (o : Option PortRow) → port_at rows n mac ≡ o → option_and_then (lease_row rows host t.tags) o ≡ option_map (λ l. record { tag = tag; mac = mac; lease = l }) (option_and_then (lease_for rows d) o)
+          go : (o : Option PortRow) → port_at rows n mac ≡ o → option_and_then (lease_row rows host t.tags) o ≡ option_and_then (λ q. given_lease tag mac q (lease_for rows d q)) o
           go None e = refl
           go (Some q) e =
               let parts = and_parts (ident_eq n q.network && (q.mac == mac)) (is_live rows q) (find-passes (has_mac rows n mac) rows.ports q e) in
@@ -148,8 +154,8 @@ module _ (rows : RowLists) (host : List ℕ) (t : TableLists) (real : HostFacts 
               let same : n ≡ q.network = ident_same n q.network names.0 in
               ap (λ b. if b then lease_row_by rows host t.tags q (dhcp_port rows q.network) else None) parts.1
               ∙ ap (lease_row_by rows host t.tags q) (ap (dhcp_port rows) (sym same) ∙ found)
-              ∙ ap (λ b. if b then option_and_then {U = LeaseRow} (λ lease. option_map (λ tag. record { tag = tag; mac = q.mac; lease = lease }) (tag_of t.tags q.network)) (lease_for rows d q) else None) here
-              ∙ ap (λ o. option_and_then {U = LeaseRow} (λ lease. option_map (λ tag. record { tag = tag; mac = q.mac; lease = lease }) o) (lease_for rows d q)) (ap (tag_of t.tags) (sym same) ∙ tagged_by)
+              ∙ ap (λ b. if b then option_and_then {U = LeaseRow} (λ lease. option_map (λ tag. record { port = q.id; tag = tag; mac = q.mac; lease = lease }) (tag_of t.tags q.network)) (lease_for rows d q) else None) here
+              ∙ ap (λ o. option_and_then {U = LeaseRow} (λ lease. option_map (λ tag. record { port = q.id; tag = tag; mac = q.mac; lease = lease }) o) (lease_for rows d q)) (ap (tag_of t.tags) (sym same) ∙ tagged_by)
               ∙ value q (lease_for rows d q) (eqb-true q.mac mac names.1)
 
 -- a DHCP port is no router's
@@ -167,11 +173,21 @@ module _ (rows : RowLists) (hosts : List Host) (good : FrameFacts rows) (synced 
     at-leases steps tag run is more =
         ap meant (walk-on hosts steps x (DhcpIn tag (dhcp_frame a)) run more)
         ∙ ap (λ o. meant (fate_after hosts (walk hosts (steps - 1)) x (DhcpIn tag (dhcp_frame a)) run (plain (lease_answer o)))) (lease-located rows x.name x.tables real good n tag is d found here a.src)
-        ∙ go (option_and_then (lease_for rows d) (port_at rows n a.src))
+        ∙ go (port_at rows n a.src)
       where
-        go : (o : Option Lease) → meant (fate_after hosts (walk hosts (steps - 1)) x (DhcpIn tag (dhcp_frame a)) run (plain (lease_answer (option_map (λ l. record { tag = tag; mac = a.src; lease = l }) o)))) ≡ end_fate (trace_of run) (lease_outcome o)
+        by : (q : PortRow) (o : Option Lease)
+            → meant (fate_after hosts (walk hosts (steps - 1)) x (DhcpIn tag (dhcp_frame a)) run
+                (plain (lease_answer (given_lease tag a.src q o))))
+            ≡ end_fate (trace_of run) (lease_outcome o)
+        by q None = ap (λ t. end_fate t (Dropped NoLease)) (trace-plain x (DhcpIn tag (dhcp_frame a)) (drops NoLease) run refl)
+        by q (Some l) = ap (λ t. end_fate t (Answered (LeaseAnswer l))) (trace-plain x (DhcpIn tag (dhcp_frame a)) (stops (Answered (LeaseAnswer l))) run refl)
+
+        go : (o : Option PortRow)
+            → meant (fate_after hosts (walk hosts (steps - 1)) x (DhcpIn tag (dhcp_frame a)) run
+                (plain (lease_answer (option_and_then (λ q. given_lease tag a.src q (lease_for rows d q)) o))))
+            ≡ end_fate (trace_of run) (lease_outcome (option_and_then (lease_for rows d) o))
         go None = ap (λ t. end_fate t (Dropped NoLease)) (trace-plain x (DhcpIn tag (dhcp_frame a)) (drops NoLease) run refl)
-        go (Some l) = ap (λ t. end_fate t (Answered (LeaseAnswer l))) (trace-plain x (DhcpIn tag (dhcp_frame a)) (stops (Answered (LeaseAnswer l))) run refl)
+        go (Some q) = by q (lease_for rows d q)
 
     tag_there : (tag : ℕ) × (tag_of x.tables.tags n ≡ Some tag)
     tag_there =

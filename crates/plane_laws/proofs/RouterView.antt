@@ -110,7 +110,7 @@ module _ (rows : RowLists) (host : List ℕ) (t : TableLists) (real : HostFacts 
       go None h = h
       go (Some x) h = by (ident_eq r.id x.router) (is_hosted host (router_with rows x.router)) refl refl
         where
-          by : (b c : Bool) → ident_eq r.id x.router ≡ b → is_hosted host (router_with rows x.router) ≡ c → floats_at_router r.id (cons_option (if c then Some (record { router = x.router; floating = f.address; fixed = x.fixed }) else None) (filter_map (λ (f : FloatingRow). float_row_by rows host f f.target) fs)) ≡ cons_option (if b then Some (record { floating = f.address; fixed = x.fixed }) else None) (filter_map (λ (f : FloatingRow). float_by r.id f f.target) fs)
+          by : (b c : Bool) → ident_eq r.id x.router ≡ b → is_hosted host (router_with rows x.router) ≡ c → floats_at_router r.id (cons_option (if c then Some (record { id = f.id; router = x.router; floating = f.address; fixed = x.fixed }) else None) (filter_map (λ (f : FloatingRow). float_row_by rows host f f.target) fs)) ≡ cons_option (if b then Some (record { floating = f.address; fixed = x.fixed }) else None) (filter_map (λ (f : FloatingRow). float_by r.id f f.target) fs)
           by true true e k = ap (λ b. cons_option (if b then Some (record { floating = f.address; fixed = x.fixed }) else None) (floats_at_router r.id (filter_map (λ (f : FloatingRow). float_row_by rows host f f.target) fs))) e ∙ ap (λ l. record { floating = f.address; fixed = x.fixed } ∷ l) h
           by false true e k = ap (λ b. cons_option (if b then Some (record { floating = f.address; fixed = x.fixed }) else None) (floats_at_router r.id (filter_map (λ (f : FloatingRow). float_row_by rows host f f.target) fs))) e ∙ h
           by false false e k = h

@@ -3,20 +3,16 @@ use Rattle.std.proofs.Common.{◌≡◌, ◌∙◌, ◌+◌, ◌-◌, List, [], 
 use Rattle.std.specs.Prelude.{◌&&◌, ◌||◌, find, is_some, if◌then◌else◌}
 use Rattle.std.specs.List.{cons_option, filter, filter_map, list_any}
 use Rattle.std.specs.Str.{bytes_eq}
-use Rattle.std.proofs.lemmas.List.{append-nil, drop-drop, take-append-drop}
-use Rattle.std.proofs.lemmas.List.Elements.{filter-append}
 use Rattle.api_types.proofs.TableLemmas.{ident_eq-sym}
 use Rattle.api_types.specs.Ident.{Ident}
 use Rattle.api_types.specs.Table.{ident_eq}
 use Rattle.api_types.specs.Wires.{tag_eq}
 use Rattle.api_types.specs.declared.wire.Wire.{Wire}
 use Rattle.plane_types.specs.InwardKeys.{is_by}
-use Rattle.plane_types.specs.Runs.{IsRun}
 use Rattle.plane_types.specs.TableStep.{carrier_eq}
 use Rattle.plane_types.specs.declared.keys.InwardKey.TheVariants.{Tag}
 use Rattle.plane_types.specs.declared.table.Carrier.{Carrier}
 use Rattle.plane_types.specs.declared.table.Carrier.TheVariants.{Tunnel as ByTunnel, Wire as ByWire}
-use Rattle.plane_types.specs.declared.run.Run.{Run}
 
 pub ident_turned : (a b : Ident) → ident_eq a b ≡ ident_eq b a
 ident_turned a b = ident_eq-sym a b
@@ -31,18 +27,6 @@ wire_tagged v (ByWire w) h = go (bytes_eq v.physical w.physical) h
     go false e = absurd (true≢false (sym e))
 
 module _ {X : Type 0} (test : X → Bool) where
-  -- the elements of a run are all that pass
-  pub all_in_run : (xs : List X) (r : Run) → IsRun test xs r → filter test (take (r.behind - r.from) (drop r.from xs)) ≡ filter test xs
-  all_in_run xs r run =
-      let n = r.behind - r.from in
-      let ys = drop r.from xs in
-      let there : r.from + n ≡ r.behind = omega (arith, run.order) in
-      let whole : filter test xs ≡ filter test (take r.from xs) ++ filter test ys = ap (filter test) (sym (take-append-drop r.from xs)) ∙ filter-append test (take r.from xs) ys in
-      let front : filter test (take r.from xs) ++ filter test ys ≡ filter test ys = ap (λ zs. zs ++ filter test ys) run.before in
-      let parts : filter test ys ≡ filter test (take n ys) ++ filter test (drop n ys) = ap (filter test) (sym (take-append-drop n ys)) ∙ filter-append test (take n ys) (drop n ys) in
-      let back : filter test (drop n ys) ≡ [] = ap (filter test) (drop-drop n r.from xs ∙ ap (λ k. drop k xs) there) ∙ run.after in
-      sym (whole ∙ front ∙ parts ∙ ap (λ zs. filter test (take n ys) ++ zs) back ∙ append-nil (filter test (take n ys)))
-
   abbrev first : List X → Option X
   first [] = None
   first (x ∷ xs) = Some x

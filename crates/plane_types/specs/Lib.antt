@@ -26,4 +26,10 @@ pub mod NewTags
 pub mod TablesOfRows
 pub mod Node
 pub mod Parts
+pub mod Delta
+pub mod Edits
+pub mod Keyed
+pub mod KeyedTables
+pub mod Numbered
+pub mod NumberedRows
 pub mod Room

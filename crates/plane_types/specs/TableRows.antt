@@ -270,7 +270,7 @@ abbrev pub float_row_by : RowLists → Text → FloatingRow → Option Target �
 float_row_by rows host f None = None
 float_row_by rows host f (Some t) =
     if is_hosted host (router_with rows t.router)
-    then Some (record { router = t.router; floating = f.address; fixed = t.fixed })
+    then Some (record { id = f.id; router = t.router; floating = f.address; fixed = t.fixed })
     else None
 
 unfoldable pub float_rows : RowLists → Text → List FloatRow
@@ -283,8 +283,10 @@ abbrev pub lease_row_by : RowLists → Text → List TagRow → PortRow → Opti
 lease_row_by rows host tags q None = None
 lease_row_by rows host tags q (Some d) =
     if is_at host d
-    then option_and_then (λ lease.
-    option_map (λ tag. record { tag = tag; mac = q.mac; lease = lease }) (tag_of tags q.network))
+    then option_and_then
+    (λ lease. option_map
+    (λ tag. record { port = q.id; tag = tag; mac = q.mac; lease = lease })
+    (tag_of tags q.network))
     (lease_for rows d q)
     else None
 

@@ -11,6 +11,8 @@
 
 mod ascending;
 mod ask;
+mod delta;
+mod edit_laws;
 mod ends;
 mod entries;
 mod entry;
@@ -27,9 +29,11 @@ mod order;
 mod packet;
 mod pairs;
 mod routing;
+mod row_list;
 mod run;
 mod runs;
 mod spare_vec;
+mod steps;
 mod table;
 mod tables;
 mod tag_map;
@@ -39,6 +43,8 @@ mod verdict;
 
 pub use ascending::Ascending;
 pub use ask::{Ask, Heard, HostState, LabAnswer, LabCall, Reply};
+pub use delta::{Delta, Edit, Edits, L2Delta, L3Delta, LeaseDelta};
+pub use edit_laws::{edits_are_few, edits_lead};
 pub use ends::Ends;
 pub use entries::{Entries, Fresh};
 pub use entry::Entry;
@@ -54,6 +60,7 @@ pub use routing::{
     Changed, Destined, Sourced, answered_to, kept_source, lower, rank_number, sourced_at, with_ends,
 };
 pub use spare_vec::SpareVec;
+pub use steps::Steps;
 pub use table::{
     BridgeKey, BridgeRow, BridgeTo, Carrier, FilterRow, FloatRow, InwardRow, LeaseRow,
     NeighbourRow, RouteRow, RouterPort, RouterTable, SetRow, TagRow, TapRow,

@@ -3,6 +3,6 @@
 /// The items from a place on, up to the one before another place.
 #[derive(Clone, Copy)]
 pub(crate) struct Run {
-    pub(crate) from: usize,
-    pub(crate) behind: usize,
+    pub(crate) start: usize,
+    pub(crate) end: usize,
 }

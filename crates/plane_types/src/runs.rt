@@ -1,11 +1,12 @@
 //! Rows in their order, with the part of the list in which the rows of a key stand.
 
-ghost use Rattle.std.specs.Prelude.{◌≡◌, Some, IfOk, OnOk, find, if◌then◌else◌, option_copied};
-ghost use Rattle.std.specs.HashMap.{get};
+ghost use Rattle.std.specs.Prelude.{◌≡◌, ◌+◌, ◌-◌, ◌^◌, ◌<◌, ◌≤◌, ◌++◌, ◌∷◌, [], ℕ, IfOk, None, OnOk, Some, false, find, if◌then◌else◌, insert, length, option_copied, remove, slice_set};
+ghost use Rattle.std.specs.HashMap.{get, spare};
 ghost use Rattle.std.specs.List.{filter, list_any};
-ghost use Rattle.plane_types.specs.Runs.{IsRunOf, longer_run};
+ghost use Rattle.plane_types.specs.Runs.{IsOneMore, IsRunOf, run_with};
 
 use crate::keyed::Keyed;
+use crate::row_list::RowList;
 use crate::run::Run;
 use crate::spare_vec::SpareVec;
 use net_addr::OutOfMemory;
@@ -18,81 +19,153 @@ use std::marker::Model;
 /// their spare.
 ///
 /// Beside the list stands a map from each key to a run: the part of the list that begins with the
-/// first row of the key and ends with the last one. Rows of a key that stand together are looked up
-/// without a step over another.
+/// first row of the key and ends with the last one, as it was when the runs were made. Since then
+/// each row that was put in moved a run's end by one at most, and each that was taken out its
+/// start: a run is read as wide as that.
 pub(crate) struct Runs<R: Keyed> {
     rows: SpareVec<R>,
     runs: HashMap<R::Key, Run>,
+    // how many rows were put in before the end, and taken out, since the runs were made
+    wide: usize,
+    lost: usize,
 }
 
 impl<R: Keyed> Model for Runs<R> {
-    ghost use Rattle.std.specs.HashMap.{get};
+    ghost use Rattle.std.specs.Prelude.{min};
+    ghost use Rattle.std.specs.HashMap.{get, spare};
     ghost use Rattle.plane_types.specs.Spare.{WithSpare};
     ghost use Rattle.plane_types.specs.Runs.{IsRunOf};
 
     ghost Value = { WithSpare R };
 
-    ghost view = { λ a. a.rows };
+    ghost view = { λ a. record { items = a.rows.items; spare = min a.rows.spare (spare a.runs) } };
 
     ghost invariant = { λ a.
-        (k : R.Key) → IsRunOf (R.is_at k) a.rows.items (get R.Key.eq a.runs k) };
+        (k : R.Key) → IsRunOf (R.is_at k) a.rows.items a.wide a.lost (get R.Key.eq a.runs k) };
 }
 
 impl<R: Keyed> Drop for Runs<R> {
     fn drop(self) {
-        let Runs { rows: _, runs: _ } = self;
+        let Runs {
+            rows: _,
+            runs: _,
+            wide: _,
+            lost: _,
+        } = self;
     }
 }
 
-// Makes the run of a key reach up to a place, where it has one, and else begin at another.
-fn reach<K: Eq + Hash + Copy>(
-    runs: &mut HashMap<K, Run>,
-    key: K,
-    place: usize,
-    behind: usize,
-) -> Result<(), OutOfMemory>
-    ensures { OnOk result
-        ((q : K)
-        → get K.eq runs.new q
-        ≡ (if K.eq key q
-        then Some (longer_run place behind (get K.eq runs.old q))
-        else get K.eq runs.old q)) }
+// How many rows may come, and how many go, until the runs are made anew with the next room.
+const WIDEST: usize = 64;
+
+// Makes room for the run of one more key.
+fn make_room_for_run<K: Eq + Hash + Copy>(runs: &mut HashMap<K, Run>) -> Result<(), OutOfMemory>
+    ensures found { (q : K) → get K.eq runs.new q ≡ get K.eq runs.old q }
+    ensures spare { OnOk result (0 < spare runs.new) }
 {
-    let from = match runs.get(&key) {
-        Some(run) => run.from,
-        None => place,
-    };
-    runs.insert(key, Run { from, behind })?;
+    runs.reserve(1)?;
     Ok(())
 }
 
-// Takes in the row at a place, of which the runs have those in front.
-fn take_in<R: Keyed>(
-    runs: &mut HashMap<R::Key, Run>,
-    row: &R,
-    place: usize,
-    behind: usize,
-) -> Result<(), OutOfMemory>
-    ensures { OnOk result
-        ((k : R.Key)
-        → get R.Key.eq runs.new k
-        ≡ (if R.is_at k row.now
-        then Some (longer_run place behind (get R.Key.eq runs.old k))
-        else get R.Key.eq runs.old k)) }
+// A run that has a place too.
+fn stretch(run: Run, place: usize) -> Run
+    requires { place < 2 ^ 64 - 1 }
+    ensures { result ≡ run_with place (Some run) }
 {
-    match row.key() {
-        Some(key) => reach(runs, key, place, behind),
-        None => Ok(()),
+    Run {
+        start: run.start.min(place),
+        end: run.end.max(place + 1),
     }
+}
+
+// Makes the run of a key reach over a place, where it has one, and be that place otherwise. It
+// takes no memory.
+fn reach<K: Eq + Hash + Copy>(runs: &mut HashMap<K, Run>, key: K, place: usize)
+    requires room { 0 < spare runs.old }
+    requires within { place < 2 ^ 64 - 1 }
+    ensures found { (q : K)
+        → get K.eq runs.new q
+        ≡ (if K.eq key q
+        then Some (run_with place (get K.eq runs.old q))
+        else get K.eq runs.old q) }
+    ensures spare { spare runs.old ≤ spare runs.new + 1 }
+{
+    let run = match runs.get(&key) {
+        Some(run) => stretch(*run, place),
+        None => Run {
+            start: place,
+            end: place + 1,
+        },
+    };
+    match runs.insert(key, run) {
+        Ok(_) => {}
+        Err(_) => unreachable!(),
+    }
+}
+
+// Makes the run of a key, if there is one, reach over a place.
+fn take_in<K: Eq + Hash + Copy>(runs: &mut HashMap<K, Run>, key: Option<K>, place: usize)
+    requires room { 0 < spare runs.old }
+    requires within { place < 2 ^ 64 - 1 }
+    ensures found { (q : K)
+        → get K.eq runs.new q
+        ≡ (if elim key [ None ↦ false | Some own ↦ K.eq own q ]
+        then Some (run_with place (get K.eq runs.old q))
+        else get K.eq runs.old q) }
+    ensures spare { spare runs.old ≤ spare runs.new + 1 }
+{
+    if let Some(key) = key {
+        reach(runs, key, place);
+    }
+}
+
+// How many there are.
+fn count<R: Drop>(rows: &[R]) -> usize
+    ensures len { result ≡ length rows.now }
+    ensures fits { length rows.now < 2 ^ 64 }
+{
+    rows.len()
+}
+
+// A run as it is now, cut to a list.
+fn part_of(run: Run, wide: usize, lost: usize, len: usize) -> Run
+    requires { run.start ≤ run.end }
+    ensures low { result.start ≤ run.start - lost }
+    ensures order { result.start ≤ result.end }
+    ensures within { result.end ≤ len }
+    ensures reaches { (n : ℕ) → n ≤ len → n ≤ run.end + wide → n ≤ result.end }
+{
+    let start = run.start.saturating_sub(lost);
+    let end = run.end.saturating_add(wide);
+    if end < len {
+        Run { start, end }
+    } else if start < len {
+        Run { start, end: len }
+    } else {
+        Run {
+            start: len,
+            end: len,
+        }
+    }
+}
+
+// One more, up to the greatest count.
+fn one_more(count: usize) -> usize
+    ensures { IsOneMore count result }
+{
+    count.saturating_add(1)
 }
 
 // The run of each key.
 fn runs_of<R: Keyed>(alloc: Global, rows: &[R]) -> Result<HashMap<R::Key, Run>, OutOfMemory>
-    ensures { IfOk result (λ m. (k : R.Key) → IsRunOf (R.is_at k) rows.now (get R.Key.eq m k)) }
+    ensures { IfOk result
+        (λ m. (k : R.Key) → IsRunOf (R.is_at k) rows.now 0 0 (get R.Key.eq m k)) }
 {
     let mut runs = HashMap::new(alloc);
+    let _len = count(rows); // for the proof: places are numbers of a word
     for place in 0..rows.len() {
-        take_in(&mut runs, &rows[place], place, place + 1)?;
+        make_room_for_run(&mut runs)?;
+        take_in(&mut runs, rows[place].key(), place);
     }
     Ok(runs)
 }
@@ -138,6 +211,8 @@ impl<R: Keyed> Runs<R> {
         Ok(Runs {
             runs: runs_of(alloc, &rows)?,
             rows: SpareVec::from_vec(rows),
+            wide: 0,
+            lost: 0,
         })
     }
 
@@ -148,14 +223,25 @@ impl<R: Keyed> Runs<R> {
         self.rows.as_slice()
     }
 
+    /// How many rows there are.
+    pub(crate) fn len(&self) -> usize
+        ensures { result ≡ length self.now.items }
+    {
+        count(self.rows.as_slice())
+    }
+
     /// Rows in their order, among which are all that have the key: from the first to the last of
-    /// them. Its cost is the same however many rows there are.
+    /// them, and as many more as rows came and went since the runs were made. Its cost is the same
+    /// however many rows there are.
     pub(crate) fn near(&self, key: R::Key) -> &[R]
         ensures { filter (R.is_at key) result.now ≡ filter (R.is_at key) self.now.items }
     {
         let rows = self.rows.as_slice();
         match self.runs.get(&key) {
-            Some(run) => &rows[run.from..run.behind],
+            Some(run) => {
+                let part = part_of(*run, self.wide, self.lost, rows.len());
+                &rows[part.start..part.end]
+            }
             None => &[],
         }
     }
@@ -174,5 +260,93 @@ impl<R: Keyed> Runs<R> {
         ensures { result ≡ list_any (R.is_at key) self.now.items }
     {
         any_at(self.near(key), key)
+    }
+
+    // Makes the runs anew. Its cost grows with the rows.
+    fn renew(&mut self, alloc: Global) -> Result<(), OutOfMemory>
+        ensures { self.new.items ≡ self.old.items }
+    {
+        self.runs = runs_of(alloc, self.rows.as_slice())?;
+        self.wide = 0;
+        self.lost = 0;
+        Ok(())
+    }
+
+    fn reserve(&mut self, more: usize) -> Result<(), OutOfMemory>
+        ensures items { self.new.items ≡ self.old.items }
+        ensures spare { OnOk result (more ≤ self.new.spare) }
+    {
+        self.rows.reserve(more)?;
+        self.runs.reserve(more)?;
+        Ok(())
+    }
+
+    /// Makes room for so many more rows. Its cost grows with the rows after many edits alone.
+    pub(crate) fn make_room(&mut self, alloc: Global, more: usize) -> Result<(), OutOfMemory>
+        ensures items { self.new.items ≡ self.old.items }
+        ensures spare { OnOk result (more ≤ self.new.spare) }
+    {
+        if self.wide > WIDEST || self.lost > WIDEST {
+            self.renew(alloc)?;
+        }
+        self.reserve(more)
+    }
+
+    // Adds a row at the end. Runs need not be read wider than before.
+    fn add(&mut self, row: R)
+        requires { 0 < self.old.spare }
+        ensures items { self.new.items ≡ self.old.items ++ row ∷ [] }
+        ensures spare { self.old.spare ≤ self.new.spare + 1 }
+    {
+        let key = row.key();
+        let place = count(self.rows.as_slice());
+        self.rows.add(row);
+        let _len = count(self.rows.as_slice()); // for the proof: places are numbers of a word
+        take_in(&mut self.runs, key, place);
+    }
+
+    // Puts a row in at a place in the list.
+    fn put_within(&mut self, place: usize, row: R)
+        requires room { 0 < self.old.spare }
+        requires within { place ≤ length self.old.items }
+        ensures items { self.new.items ≡ insert self.old.items place row }
+        ensures spare { self.old.spare ≤ self.new.spare + 1 }
+    {
+        let key = row.key();
+        self.rows.put(place, row);
+        let _len = count(self.rows.as_slice()); // for the proof: places are numbers of a word
+        take_in(&mut self.runs, key, place);
+        self.wide = one_more(self.wide);
+    }
+}
+
+impl<R: Keyed> RowList for Runs<R> {
+    type Row = R;
+
+    ghost seen = { λ rows. rows };
+
+    fn len(&self) -> usize {
+        self.len()
+    }
+
+    fn take_out(&mut self, place: usize) {
+        self.rows.take_out(place);
+        self.lost = one_more(self.lost);
+    }
+
+    #[tactic(auto, using(crate::proofs::RunEdits::insert_last))]
+    fn put(&mut self, place: usize, row: R) {
+        if place < self.len() {
+            self.put_within(place, row);
+        } else {
+            self.add(row);
+        }
+    }
+
+    fn set(&mut self, place: usize, row: R) {
+        let key = row.key();
+        let _len = count(self.rows.as_slice()); // for the proof: places are numbers of a word
+        self.rows.set(place, row);
+        take_in(&mut self.runs, key, place);
     }
 }

@@ -1,7 +1,8 @@
 //! A list that shows how much room it has.
 
-ghost use Rattle.std.specs.Prelude.{◌≡◌, ◌+◌, ◌<◌, ◌≤◌, [], ◌∷◌, ◌++◌, OnOk};
+ghost use Rattle.std.specs.Prelude.{◌≡◌, ◌+◌, ◌<◌, ◌≤◌, [], ◌∷◌, ◌++◌, OnOk, insert, length, remove, slice_set};
 
+use crate::row_list::RowList;
 use net_addr::OutOfMemory;
 use std::alloc::Global;
 use std::marker::Model;
@@ -60,10 +61,86 @@ impl<T> SpareVec<T> {
         }
     }
 
+    // Puts an item in at a place in the list.
+    fn put_within(&mut self, place: usize, item: T)
+        requires room { 0 < self.old.spare }
+        requires within { place ≤ length self.old.items }
+        ensures items { self.new.items ≡ insert self.old.items place item }
+        ensures spare { self.old.spare ≤ self.new.spare + 1 }
+    {
+        match self.items.insert(place, item) {
+            Ok(()) => {}
+            Err(_) => unreachable!(),
+        }
+    }
+
+    /// Puts an item in at a place, or at the end where the place is past it. It takes no memory.
+    #[tactic(auto, using(crate::proofs::RunEdits::insert_last))]
+    pub(crate) fn put(&mut self, place: usize, item: T)
+        requires { 0 < self.old.spare }
+        ensures items { self.new.items ≡ insert self.old.items place item }
+        ensures spare { self.old.spare ≤ self.new.spare + 1 }
+    {
+        if place < self.len() {
+            self.put_within(place, item);
+        } else {
+            self.add(item);
+        }
+    }
+
+    /// How many items there are.
+    pub(crate) fn len(&self) -> usize
+        ensures { result ≡ length self.now.items }
+    {
+        self.items.len()
+    }
+
     /// The items.
     pub fn as_slice(&self) -> &[T]
         ensures { result.now ≡ self.now.items }
     {
         self.items.as_slice()
+    }
+}
+
+impl<T: Drop> SpareVec<T> {
+    /// Takes the item at a place out.
+    pub(crate) fn take_out(&mut self, place: usize)
+        requires { place < length self.old.items }
+        ensures items { self.new.items ≡ remove self.old.items place }
+        ensures spare { self.old.spare ≤ self.new.spare }
+    {
+        let _ = self.items.remove(place);
+    }
+
+    /// Puts an item in the place of another.
+    pub(crate) fn set(&mut self, place: usize, item: T)
+        requires { place < length self.old.items }
+        ensures items { self.new.items ≡ slice_set self.old.items place item }
+        ensures spare { self.new.spare ≡ self.old.spare }
+    {
+        self.items[place] = item;
+    }
+}
+
+impl<T: Drop> RowList for SpareVec<T> {
+    type Row = T;
+
+    ghost seen = { λ rows. rows };
+
+    fn len(&self) -> usize {
+        self.len()
+    }
+
+    fn take_out(&mut self, place: usize) {
+        self.take_out(place);
+    }
+
+    fn put(&mut self, place: usize, row: T) {
+        self.put(place, row);
+    }
+
+    fn set(&mut self, place: usize, row: T) {
+        self.set(place, row);
     }
 }

@@ -145,6 +145,8 @@ pub struct RouteRow {
 /// An associated floating address of a router of this host.
 #[derive(Clone, Copy, PartialEq, Eq)]
 pub struct FloatRow {
+    /// The floating address's own id. It isn't printed.
+    pub id: Id,
     pub router: Id,
     pub floating: Addr4,
     pub fixed: Addr4,
@@ -153,6 +155,8 @@ pub struct FloatRow {
 /// What the DHCP port of this host answers a MAC.
 #[derive(Drop)]
 pub struct LeaseRow {
+    /// The port that it is for. It isn't printed.
+    pub port: Id,
     pub tag: u16,
     pub mac: Mac,
     pub lease: Lease,
@@ -282,6 +286,7 @@ impl Copies for FloatRow {
 impl Copies for LeaseRow {
     fn copy(&self, alloc: Global) -> Result<LeaseRow, OutOfMemory> {
         Ok(LeaseRow {
+            port: self.port,
             tag: self.tag,
             mac: self.mac,
             lease: self.lease.copy(alloc)?,

@@ -50,6 +50,7 @@ fn are_ports(ports: &[RouterPort], with_gateway: bool) -> bool {
 
 fn are_floats(floats: &[FloatRow]) -> bool {
     let float = FloatRow {
+        id: id(52),
         router: id(ROUTER),
         floating: Addr4(OUTER + 52),
         fixed: Addr4(INNER + 52),
