@@ -78,7 +78,8 @@ pub record RunsOpened (opening : Opening) (a b : DeskSeen) (x y : Ends) (end : S
   pub taken : ℕ
   pub within : taken ≤ 2 ^ 40
   pub promises : Promises (2 ^ 40)
-      (moment (first_world settings (is_manual opening.delivery) rows) [] x.left x.written x.flushed
+      (moment (first_world settings (is_manual opening.delivery) rows) [] x.left x.written
+      x.flushed
       before 0)
       (moment world buffer y.left y.written y.flushed behind taken) end
   pub closed : Closed opening world.history.rows behind a b
@@ -101,7 +102,8 @@ pub record ServesOpened (opening : Opening) (address : Text) (most : ℕ) (a b :
   pub before : ℕ
   pub behind : ℕ
   pub world : World
-  pub listens : Listens status address most (first_world settings (is_manual opening.delivery) rows)
+  pub listens : Listens status address most
+      (first_world settings (is_manual opening.delivery) rows)
       before
       (line x.to_come x.returned (option_map (λ asks. asks ++ opening_asks opening) a.asks))
       a.faults world behind y b.faults

@@ -177,14 +177,14 @@ module _ (rows : RowLists) (hosts : List Host) (good : FrameFacts rows) (synced 
       where
         by : (q : PortRow) (o : Option Lease)
             → meant (fate_after hosts (walk hosts (steps - 1)) x (DhcpIn tag (dhcp_frame a)) run
-                (plain (lease_answer (given_lease tag a.src q o))))
+            (plain (lease_answer (given_lease tag a.src q o))))
             ≡ end_fate (trace_of run) (lease_outcome o)
         by q None = ap (λ t. end_fate t (Dropped NoLease)) (trace-plain x (DhcpIn tag (dhcp_frame a)) (drops NoLease) run refl)
         by q (Some l) = ap (λ t. end_fate t (Answered (LeaseAnswer l))) (trace-plain x (DhcpIn tag (dhcp_frame a)) (stops (Answered (LeaseAnswer l))) run refl)
 
         go : (o : Option PortRow)
             → meant (fate_after hosts (walk hosts (steps - 1)) x (DhcpIn tag (dhcp_frame a)) run
-                (plain (lease_answer (option_and_then (λ q. given_lease tag a.src q (lease_for rows d q)) o))))
+            (plain (lease_answer (option_and_then (λ q. given_lease tag a.src q (lease_for rows d q)) o))))
             ≡ end_fate (trace_of run) (lease_outcome (option_and_then (lease_for rows d) o))
         go None = ap (λ t. end_fate t (Dropped NoLease)) (trace-plain x (DhcpIn tag (dhcp_frame a)) (drops NoLease) run refl)
         go (Some q) = by q (lease_for rows d q)

@@ -57,8 +57,8 @@ module _ {K R : Type 0} (before : K → K → Bool) where
   Differ old new (o ∷ os) =
       (row_at before o.0 old ≡ row_at before o.0 new → ⊥) × Differ old new os
 
-  -- the rows that are written are at most those that stand in one of the two tables alone: all rows
-  -- of both, less any that stand in both
+  -- the rows that are written are at most those that stand in one of the two tables alone: all
+  -- rows of both, less any that stand in both
   abbrev pub AreFew : List (K × R) → List (K × R) → List (Edit R) → Type 0
   AreFew old new edits =
       (both : List (K × R))

@@ -176,7 +176,8 @@ keyed_ways n r =
 
 abbrev pub router_routes : NumberedRows → List ℕ → RouterRow → List (WayKey × RouteRow)
 router_routes n host r =
-    if is_on_host host r then map (λ (x : WayKey × Way). (x.0, route_row r.id x.1)) (keyed_ways n r)
+    if is_on_host host r
+    then map (λ (x : WayKey × Way). (x.0, route_row r.id x.1)) (keyed_ways n r)
     else []
 
 abbrev pub keyed_routes : NumberedRows → List ℕ → List (RouteKey × RouteRow)
