@@ -143,7 +143,8 @@ impl AgentNode {
     /// the entries.
     pub fn resync(&mut self, alloc: Global, version: u64, rows: &Rows) -> Result<(), OutOfMemory>
         requires { IsConsistent rows.now }
-        ensures node { OnOk result (self.new ≡ after_resync self.old version rows.now self.new.spare) }
+        ensures node { OnOk result
+            (self.new ≡ after_resync self.old version rows.now self.new.spare) }
         ensures spare { OnOk result (self.old.spare ≤ self.new.spare) }
         ensures same { OnErr result (self.new ≡ self.old) }
     {
@@ -194,7 +195,8 @@ impl AgentNode {
     ) -> Result<Heard, OutOfMemory>
         requires { CanFollow self.old number change.now }
         ensures heard { IfOk result (λ h. h ≡ heard_of number self.old.held) }
-        ensures node { OnOk result (self.new ≡ after_change self.old number change.now self.new.spare) }
+        ensures node { OnOk result
+            (self.new ≡ after_change self.old number change.now self.new.spare) }
         ensures spare { OnOk result (self.old.spare ≤ self.new.spare) }
         ensures same { OnErr result (self.new ≡ self.old) }
     {
