@@ -207,8 +207,8 @@ fn verdict_of(alloc: Global, position: &Position<'_>, run: Run) -> Result<Verdic
 // How an event begins, and how many look-ups it may have.
 fn begin<'f, F: Fleet>(fleet: &'f F, event: &'f Event) -> Position<'f>
     ensures within { IsWithin (F.hosts fleet.now) result }
-    ensures begun { position_fate (F.hosts fleet.now) (walk (F.hosts fleet.now) (looks_of event.now))
-        result (begun_with (start_path (F.hosts fleet.now) result))
+    ensures begun { position_fate (F.hosts fleet.now)
+        (walk (F.hosts fleet.now) (looks_of event.now)) result (begun_with (start_path (F.hosts fleet.now) result))
         ≡ fabric_fate (F.hosts fleet.now) event.now }
 {
     match event {

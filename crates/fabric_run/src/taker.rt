@@ -44,7 +44,8 @@ fn is_here(found: Option<&BridgeRow>) -> bool
 // DHCP port is here, and an ask for an address that it knows.
 fn takes(host: &HostAt<'_>, physical: &Text, tag: Option<u16>, frame: &Frame) -> bool
     ensures { result
-        ≡ taken_by (record { physical = physical.now; tag = tag }) frame.now (view_of_host host.now) }
+        ≡ taken_by (record { physical = physical.now; tag = tag }) frame.now
+        (view_of_host host.now) }
 {
     let Some(row) = host.tables.inward_wire(physical, tag) else {
         return false;

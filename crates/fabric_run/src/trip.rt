@@ -24,7 +24,8 @@ pub(crate) fn travel<'f, F: Fleet>(
     requires begun { (run.old.fresh.items ≡ []) × (run.old.made ≡ []) × (run.old.trail ≡ []) }
     requires room { 258 ≤ run.old.fresh.spare }
     requires bounded { length
-        (position_fate (F.hosts fleet.now) (walk (F.hosts fleet.now) many) position.old (begun_with run.old.path)).run.fresh
+        (position_fate (F.hosts fleet.now) (walk (F.hosts fleet.now) many) position.old
+        (begun_with run.old.path)).run.fresh
         ≤ 256 }
     ensures { OnOk result
         (IsFate (F.hosts fleet.now) position.new run.new

@@ -189,7 +189,8 @@ pub(crate) fn inward_step<'t>(
     frame: Frame,
     found: Option<&'t InwardRow>,
 ) -> Step<'t>
-    ensures { view_of_step result ≡ bridged_inward tables.now.lists frame (option_copied found.entry) }
+    ensures { view_of_step result
+        ≡ bridged_inward tables.now.lists frame (option_copied found.entry) }
 {
     match found {
         Some(row) => bridge_step(tables, true, row.tag, frame),

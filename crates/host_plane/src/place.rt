@@ -68,10 +68,12 @@ pub fn step<'t>(
 ) -> Step<'t>
     requires { 2 ≤ fresh.old.spare }
     ensures step { view_of_step result
-        ≡ (table_step tables.now.lists (entries.now.items ++ fresh.old.items) (view_of_place place.now)).step }
+        ≡ (table_step tables.now.lists (entries.now.items ++ fresh.old.items)
+        (view_of_place place.now)).step }
     ensures made { fresh.new.items
         ≡ fresh.old.items
-        ++ (table_step tables.now.lists (entries.now.items ++ fresh.old.items) (view_of_place place.now)).made }
+        ++ (table_step tables.now.lists (entries.now.items ++ fresh.old.items)
+        (view_of_place place.now)).made }
     ensures room { fresh.old.spare + length fresh.old.items
         ≤ fresh.new.spare + length fresh.new.items }
 {

@@ -68,7 +68,8 @@ fn add_group(
 // Adds an index.
 fn mark(indices: &mut BTreeSet<usize>, place: usize) -> Result<(), OutOfMemory>
     ensures { OnOk result
-        ((p : ℕ) → contains nat_cmp indices.new p ≡ ((place == p) || contains nat_cmp indices.old p)) }
+        ((p : ℕ)
+        → contains nat_cmp indices.new p ≡ ((place == p) || contains nat_cmp indices.old p)) }
 {
     indices.insert(place)?;
     Ok(())

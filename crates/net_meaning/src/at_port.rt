@@ -57,7 +57,8 @@ fn receive<'r>(
     packet: &Packet,
 ) -> AtPort<'r>
     ensures { (on : Onward) (t : TheTrace) → t.fresh ≡ fresh.now
-        → at_port_fate on t result ≡ received_by rows.now entries.now port.now (packet_of packet.now) t }
+        → at_port_fate on t result
+        ≡ received_by rows.now entries.now port.now (packet_of packet.now) t }
 {
     let passage = passage_at(rows, entries, fresh, port, Direction::Ingress, packet);
     let outcome = if passage.passes {
