@@ -89,7 +89,8 @@ fn is_own_address(port: &PortRow, address: &Addr, subnet: &SubnetRow) -> bool
 
 fn is_host_of_port(port: &PortRow, address: &Addr, subnet: &SubnetRow) -> bool
     ensures { result
-        ≡ (is_host_of subnet.now.prefix address.now && own_address port.now address.now subnet.now) }
+        ≡ (is_host_of subnet.now.prefix address.now
+        && own_address port.now address.now subnet.now) }
 {
     subnet.prefix.is_host(*address) && is_own_address(port, address, subnet)
 }

@@ -148,7 +148,8 @@ impl Machine {
     pub fn prepare(&mut self, alloc: Global, change: &Change) -> Result<Ready, OutOfMemory>
         requires fits { Fits self.old.rows change.now }
         ensures ready { IfOk result
-            (λ r. r ≡ record { rows = after self.old.rows change.now; version = self.old.version }) }
+            (λ r. r
+            ≡ record { rows = after self.old.rows change.now; version = self.old.version }) }
         ensures same { self.new ≡ self.old }
     {
         let mut rows = self.rows.copy(alloc)?;

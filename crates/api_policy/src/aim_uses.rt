@@ -51,7 +51,8 @@ pub fn leading<'r>(
     address: &Addr,
 ) -> Option<&'r FloatingRow>
     ensures { option_copied result
-        ≡ find (stands_at network port (number address.now)) (other_floatings own.now floatings.now) }
+        ≡ find (stands_at network port (number address.now))
+        (other_floatings own.now floatings.now) }
 {
     for floating in floatings {
         if is_other(own, floating) && stands_for(network, port, address, floating) {

@@ -18,7 +18,8 @@ fn router_named<'r>(
     routers: &'r [Shared<RouterRow>],
     device: &Text,
 ) -> Option<&'r Shared<RouterRow>>
-    ensures { option_copied result ≡ find (λ (r : TheRouter). names_id device.now r.id) routers.now }
+    ensures { option_copied result
+        ≡ find (λ (r : TheRouter). names_id device.now r.id) routers.now }
 {
     routers.iter().find(|router| router.id.is_printed(device))
 }

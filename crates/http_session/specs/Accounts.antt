@@ -2,8 +2,7 @@
 use Rattle.std.specs.Prelude.{◌≡◌, List, [], ◌∷◌, ⊤}
 use Rattle.net_addr.specs.Words.{Bytes}
 use Rattle.http_heads.specs.Heads.{Asked}
-use Rattle.http_session.specs.Told.{Told, Answered, StoreFailed, NoMemory}
-use Rattle.http_session.specs.Told.{Transition}
+use Rattle.http_session.specs.Told.{Told, Answered, StoreFailed, NoMemory, Transition}
 
 -- every answer is the machine's
 abbrev pub AllAnswered : List Told → Type 0

@@ -2,10 +2,9 @@
 use Rattle.std.specs.Prelude.{◌≡◌, ℕ, true}
 use Rattle.net_addr.specs.Words.{Bytes}
 use Rattle.http_heads.specs.Heads.{Asked}
-use Rattle.http_session.specs.Told.{Fixed, Moves, Answered, StoreFailed}
+use Rattle.http_session.specs.Told.{Fixed, Moves, Answered, StoreFailed, Transition}
 use Rattle.http_session.specs.declared.handler.Answer.{Answer}
 use Rattle.http_session.specs.declared.handler.Answer.TheVariants.{Reply, StoreFault, NoMemory, Unwritten}
-use Rattle.http_session.specs.Told.{Transition}
 
 -- how the world moved. Where the reply could not be written, the step was made for some reply
 abbrev pub MovesBy : {W : Type 0} → Transition W → Fixed W → W → Asked → Answer → W → Type 0

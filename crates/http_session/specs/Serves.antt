@@ -6,10 +6,9 @@ use Rattle.net_addr.specs.Words.{Bytes}
 use Rattle.http_heads.specs.Heads.{Asked, Takes, Decides, Refuses, IsWaiting}
 use Rattle.http_heads.specs.Fields.{closes}
 use Rattle.keeper_core.specs.Counts.{RoseBy}
-use Rattle.http_session.specs.Told.{Told, told_bytes, told_faults, replies, faults, Fixed, Moves}
+use Rattle.http_session.specs.Told.{Told, told_bytes, told_faults, replies, faults, Fixed, Moves, Transition}
 use Rattle.http_session.specs.declared.session_end.SessionEnd.{SessionEnd}
 use Rattle.http_session.specs.declared.session_end.SessionEnd.TheVariants.{Done, ReadFault, WriteFault, Budget, OutOfMemory}
-use Rattle.http_session.specs.Told.{Transition}
 
 -- a moment of a session: the world, the bytes that are read and not answered, what the two ends
 -- tell, and counts

@@ -4,12 +4,11 @@ use Rattle.std.specs.Io.KnownBytes.{Appends}
 use Rattle.net_addr.specs.Words.{Bytes}
 use Rattle.http_heads.specs.Heads.{Asked}
 use Rattle.keeper_core.specs.Counts.{RoseBy}
-use Rattle.http_session.specs.Told.{Told, told_bytes, told_faults, Fixed, Moves}
+use Rattle.http_session.specs.Told.{Told, told_bytes, told_faults, Fixed, Moves, Transition}
 use Rattle.http_session.specs.Serves.{Moment, Goes, Ending}
 use Rattle.http_session.specs.declared.session_end.SessionEnd.TheVariants.{Done, ReadFault, WriteFault, Budget, OutOfMemory}
 use Rattle.http_session.specs.declared.turn.Turn.{Turn}
 use Rattle.http_session.specs.declared.turn.Turn.TheVariants.{Again, Ends}
-use Rattle.http_session.specs.Told.{Transition}
 
 -- all of the reply is written and flushed
 pub record Whole (old new : Option Bytes) (flushed : Option ℕ) (reply : Bytes) : Type 0 where

@@ -52,9 +52,11 @@ fn read_behind<I: Source>(
 ) -> Result<usize, Failed>
     requires room { len < length bytes.old }
     requires some { 0 < at_most }
-    ensures ok { IfOk result (λ n. (piece : List ℕ) × (take (len + n) bytes.new ≡ take len bytes.old ++ piece)
+    ensures ok { IfOk result (λ n.
+        (piece : List ℕ) × (take (len + n) bytes.new ≡ take len bytes.old ++ piece)
         × (length piece ≡ n) × (len + n ≤ length bytes.old) × (n ≤ at_most)
-        × Consumes (I.left input.old) (I.left input.new) piece × (n ≡ 0 → IsAtEnd (I.left input.new))) }
+        × Consumes (I.left input.old) (I.left input.new) piece
+        × (n ≡ 0 → IsAtEnd (I.left input.new))) }
     ensures err { OnErr result
         ((take len bytes.new ≡ take len bytes.old) × Keeps (I.left input.old) (I.left input.new)) }
     ensures cause { HasCause (I.faults input.old) (I.faults input.new) result }
@@ -103,7 +105,8 @@ impl Buffer {
         requires some { 0 < at_most }
         ensures ok { IfOk result (λ n. (piece : List ℕ) × (self.new ≡ self.old ++ piece)
             × (length piece ≡ n) × (n ≤ at_most)
-            × Consumes (I.left input.old) (I.left input.new) piece × (n ≡ 0 → IsAtEnd (I.left input.new))) }
+            × Consumes (I.left input.old) (I.left input.new) piece
+            × (n ≡ 0 → IsAtEnd (I.left input.new))) }
         ensures err { OnErr result
             ((self.new ≡ self.old) × Keeps (I.left input.old) (I.left input.new)) }
         ensures cause { HasCause (I.faults input.old) (I.faults input.new) result }

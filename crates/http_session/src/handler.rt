@@ -56,7 +56,8 @@ pub trait Handler: Drop {
     ) -> Answer
         requires kept { Tells (K.kept keeper.old) (rows world.old) }
         requires begins { BeginsWith bytes.now request }
-        ensures moves { (asked : Asked) (rest : List ℕ) → Takes bytes.now asked rest → IsRequest bytes.now request asked
+        ensures moves { (asked : Asked) (rest : List ℕ) → Takes bytes.now asked rest
+            → IsRequest bytes.now request asked
             → MovesBy steps fixed world.old asked result world.new }
         ensures faults { RoseBy (answer_faults result) (K.faults keeper.old) (K.faults keeper.new) }
         ensures kept { Tells (K.kept keeper.new) (rows world.new) }

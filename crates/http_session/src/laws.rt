@@ -12,7 +12,9 @@ use crate::handler::Handler;
 /// left are the same.
 pub fn session_laws<H: Handler>()
     ensures { IsFunctional H.steps
-        → (w x y : _) (bytes left rest : List ℕ) (ts us : List Told) → AllAnswered ts → AllAnswered us
-        → Answers H.steps H.fixed w bytes ts x left → IsWaiting left → Answers H.steps H.fixed w bytes us y rest → IsWaiting rest
+        → (w x y : _) (bytes left rest : List ℕ) (ts us : List Told) → AllAnswered ts
+        → AllAnswered us
+        → Answers H.steps H.fixed w bytes ts x left → IsWaiting left
+        → Answers H.steps H.fixed w bytes us y rest → IsWaiting rest
         → (ts ≡ us) × (x ≡ y) × (left ≡ rest) }
 {}

@@ -30,9 +30,12 @@ pub fn session<H: Handler, K: Keeper, I: Source, O: Sink>(
     limit: u64,
 ) -> SessionEnd
     requires { Tells (K.kept keeper.old) (H.rows world.old) }
-    ensures serves { (buffer : List ℕ) × (taken : ℕ) × (taken ≤ limit) × Serves H.steps H.fixed limit
-        (moment world.old [] (I.left input.old) (O.written output.old) (O.flushed output.old) (K.faults keeper.old) 0)
-        (moment world.new buffer (I.left input.new) (O.written output.new) (O.flushed output.new) (K.faults keeper.new) taken) result }
+    ensures serves { (buffer : List ℕ) × (taken : ℕ) × (taken ≤ limit)
+        × Serves H.steps H.fixed limit
+        (moment world.old [] (I.left input.old) (O.written output.old) (O.flushed output.old)
+        (K.faults keeper.old) 0)
+        (moment world.new buffer (I.left input.new) (O.written output.new) (O.flushed output.new)
+        (K.faults keeper.new) taken) result }
     ensures kept { Tells (K.kept keeper.new) (H.rows world.new) }
     ensures told { is_some (K.kept keeper.new) ≡ is_some (K.kept keeper.old) }
     ensures read_later { I.faults input.old ≤ I.faults input.new }

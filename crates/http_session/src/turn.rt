@@ -56,9 +56,12 @@ fn answered<H: Handler, K: Keeper, O: Sink>(
 ) -> Turn
     requires kept { Tells (K.kept keeper.old) (H.rows world.old) }
     requires begins { BeginsWith bytes.now request }
-    ensures is { (asked : Asked) (rest : List ℕ) → Takes bytes.now asked rest → IsRequest bytes.now request asked
-        → IsAnswered H.steps H.fixed world.old world.new asked (K.faults keeper.old) (K.faults keeper.new)
-        (O.written output.old) (O.written output.new) (O.flushed output.old) (O.flushed output.new) request.close result }
+    ensures is { (asked : Asked) (rest : List ℕ) → Takes bytes.now asked rest
+        → IsRequest bytes.now request asked
+        → IsAnswered H.steps H.fixed world.old world.new asked (K.faults keeper.old)
+        (K.faults keeper.new)
+        (O.written output.old) (O.written output.new) (O.flushed output.old) (O.flushed output.new)
+        request.close result }
     ensures kept { Tells (K.kept keeper.new) (H.rows world.new) }
     ensures told { is_some (K.kept keeper.new) ≡ is_some (K.kept keeper.old) }
     ensures later { O.faults output.old ≤ O.faults output.new }
@@ -104,8 +107,10 @@ pub(crate) fn take_turn<H: Handler, K: Keeper, I: Source, O: Sink>(
     requires kept { Tells (K.kept keeper.old) (H.rows world.old) }
     requires within { taken.old ≤ limit }
     ensures is { IsTurn H.steps H.fixed limit
-        (moment world.old buffer.old (I.left input.old) (O.written output.old) (O.flushed output.old) (K.faults keeper.old) taken.old)
-        (moment world.new buffer.new (I.left input.new) (O.written output.new) (O.flushed output.new) (K.faults keeper.new) taken.new) result }
+        (moment world.old buffer.old (I.left input.old) (O.written output.old)
+        (O.flushed output.old) (K.faults keeper.old) taken.old)
+        (moment world.new buffer.new (I.left input.new) (O.written output.new)
+        (O.flushed output.new) (K.faults keeper.new) taken.new) result }
     ensures kept { Tells (K.kept keeper.new) (H.rows world.new) }
     ensures told { is_some (K.kept keeper.new) ≡ is_some (K.kept keeper.old) }
     ensures within { taken.new ≤ limit }

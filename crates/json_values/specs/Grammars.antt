@@ -4,7 +4,7 @@ use Rattle.std.specs.Prelude.{ℕ, ◌^◌, ◌-◌, ◌==◌, ◌&&◌, ◌||�
 use Rattle.std.specs.Char.{is_ascii_alphanumeric}
 use Rattle.std.specs.List.{list_all, starts_with}
 use Rattle.std.specs.Str.{bytes_eq, chars, str_to_ascii_lowercase}
-use Rattle.net_addr.specs.Words.{Text}
+use Rattle.net_addr.specs.Words.{Text, Version}
 use Rattle.serde_json.specs.Data.{Data, Members}
 use Rattle.serde_json.specs.Events.{members_len}
 use Rattle.serde_json.specs.Find.{as_str, as_object}
@@ -179,7 +179,7 @@ abbrev pub wire_tag : Data → Option ℕ
 wire_tag = whole_of 1 4094
 
 -- a number of 64 bits
-abbrev pub change_number : Data → Option ℕ
+abbrev pub change_number : Data → Option Version
 change_number = whole_of 0 (2 ^ 64 - 1)
 
 abbrev pub is_empty : Option Members → Bool

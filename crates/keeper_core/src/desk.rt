@@ -69,7 +69,8 @@ pub trait Desk {
             (λ told. Self.Store.kept store
             ≡ Some (opening_rows (option_copied name.entry) told))) }
         ensures opened { OnOk result
-            (stores self.new ≡ option_map (opened_as (option_copied name.entry)) (stores self.old)) }
+            (stores self.new
+            ≡ option_map (opened_as (option_copied name.entry)) (stores self.old)) }
         ensures refused { OnErr result (stores self.new ≡ stores self.old) }
         ensures asks { AddsAsk result (DeskAsk.Store (option_copied name.entry)) (asks self.old)
             (asks self.new) }

@@ -30,7 +30,8 @@ impl World {
         ensures ok { IfOk result
             (λ answer.
             IsHandled
-            (ByMachine (api_step self.old.settings (state_of self.old) caller.now call.now)) self.old
+            (ByMachine (api_step self.old.settings (state_of self.old) caller.now call.now))
+            self.old
             self.new (Reply.Done answer)) }
         ensures err { IfErr result
             (λ refusal. (self.new ≡ self.old)

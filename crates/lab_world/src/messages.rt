@@ -21,11 +21,13 @@ impl World {
     ) -> Result<LabAnswer, Refusal>
         ensures ok { IfOk result
             (λ answer.
-            IsHandled (ByLab (lab_outcome self.old caller.now (LabCall.Deliver name.now number))) self.old self.new
+            IsHandled (ByLab (lab_outcome self.old caller.now (LabCall.Deliver name.now number)))
+            self.old self.new
             (Reply.LabDone answer)) }
         ensures err { IfErr result
             (λ refusal. (self.new ≡ self.old)
-            × IsBarred (lab_outcome self.old caller.now (LabCall.Deliver name.now number)) refusal) }
+            × IsBarred (lab_outcome self.old caller.now (LabCall.Deliver name.now number))
+            refusal) }
     {
         bar_tenant(caller)?;
         let at = place_of(alloc, &self.hosts, name)?;
@@ -43,7 +45,8 @@ impl World {
     ) -> Result<LabAnswer, Refusal>
         ensures ok { IfOk result
             (λ answer.
-            IsHandled (ByLab (lab_outcome self.old caller.now (LabCall.Resync name.now))) self.old self.new
+            IsHandled (ByLab (lab_outcome self.old caller.now (LabCall.Resync name.now))) self.old
+            self.new
             (Reply.LabDone answer)) }
         ensures err { IfErr result
             (λ refusal. (self.new ≡ self.old)
@@ -66,7 +69,8 @@ impl World {
     ) -> Result<LabAnswer, Refusal>
         ensures ok { IfOk result
             (λ answer.
-            IsHandled (ByLab (lab_outcome self.old caller.now (LabCall.Restart name.now))) self.old self.new
+            IsHandled (ByLab (lab_outcome self.old caller.now (LabCall.Restart name.now))) self.old
+            self.new
             (Reply.LabDone answer)) }
         ensures err { IfErr result
             (λ refusal. (self.new ≡ self.old)
@@ -88,7 +92,8 @@ impl World {
     ) -> Result<LabAnswer, Refusal>
         ensures ok { IfOk result
             (λ answer.
-            IsHandled (ByLab (lab_outcome self.old caller.now (LabCall.Forget name.now))) self.old self.new
+            IsHandled (ByLab (lab_outcome self.old caller.now (LabCall.Forget name.now))) self.old
+            self.new
             (Reply.LabDone answer)) }
         ensures err { IfErr result
             (λ refusal. (self.new ≡ self.old)

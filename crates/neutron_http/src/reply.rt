@@ -81,9 +81,12 @@ fn assembled(
     body: &[u8],
 ) -> Result<Vec<u8>, OutOfMemory>
     requires { IsReplyCode code }
-    ensures { IfOk result (λ v. v.items ≡ codes "HTTP/1.1 " ++ decimal code ++ codes " " ++ phrase_of code ++ line_end
-        ++ field_lines (body_fields code (length body.now)) ++ field_lines (allow_fields code extra.now.allow)
-        ++ field_lines (caller_fields code) ++ field_lines (close_fields close) ++ line_end ++ body_of code body.now) }
+    ensures { IfOk result (λ v.
+        v.items ≡ codes "HTTP/1.1 " ++ decimal code ++ codes " " ++ phrase_of code ++ line_end
+        ++ field_lines (body_fields code (length body.now))
+        ++ field_lines (allow_fields code extra.now.allow)
+        ++ field_lines (caller_fields code) ++ field_lines (close_fields close) ++ line_end
+        ++ body_of code body.now) }
 {
     let first = format!(in alloc; "HTTP/1.1 {code} ")?;
     let about_body = body_text(alloc, code, body.len())?;

@@ -1,6 +1,6 @@
 -- What bodies of the lab ask. This server's own.
 use Rattle.std.specs.Prelude.{ℕ, List, if◌then◌else◌, Option, is_some, option_map, codes}
-use Rattle.net_addr.specs.Words.{Text}
+use Rattle.net_addr.specs.Words.{Text, Version}
 use Rattle.serde_json.specs.Data.{Data}
 use Rattle.serde_json.specs.Find.{get}
 use Rattle.api_types.specs.Ident.{Ident}
@@ -43,7 +43,7 @@ event_of d = if is_some (get (codes "port") d) then port_event d else wire_event
 abbrev pub host_of : Data → Option Text
 host_of d = member_of short_text (codes "host") d
 
-abbrev pub delivery : Text → ℕ → LabCall
+abbrev pub delivery : Text → Version → LabCall
 delivery host number = Deliver host number
 
 abbrev pub deliver_of : Data → Option LabCall

@@ -91,8 +91,10 @@ fn settings_for<D: Desk>(
     ensures ok { IfOk result (AreSettings (D.files desk.old) opening.now.settings) }
     ensures err { IfErr result (λ why.
         IsSettingsCause why opening.now
-        (desk_seen (D.asks desk.old) (D.files desk.old) (D.stores desk.old) (D.faults desk.old) (D.store_faults desk.old))
-        (desk_seen (D.asks desk.new) (D.files desk.new) (D.stores desk.new) (D.faults desk.new) (D.store_faults desk.new))) }
+        (desk_seen (D.asks desk.old) (D.files desk.old) (D.stores desk.old) (D.faults desk.old)
+        (D.store_faults desk.old))
+        (desk_seen (D.asks desk.new) (D.files desk.new) (D.stores desk.new) (D.faults desk.new)
+        (D.store_faults desk.new))) }
     ensures asked { OnOk result (D.asks desk.new
         ≡ option_map (λ asks. asks ++ settings_asks opening.now.settings) (D.asks desk.old)) }
     ensures made { IfErr result (λ why.
@@ -144,7 +146,8 @@ fn loaded<K: Keeper>(
     manual: bool,
 ) -> Result<World, Unopened>
     ensures ok { IfOk result (λ world. (rows : RowLists) × Tells (K.kept keeper.old) rows
-        × (world ≡ first_world settings manual rows) × (first_broken_of settings.hosts rows ≡ None)) }
+        × (world ≡ first_world settings manual rows)
+        × (first_broken_of settings.hosts rows ≡ None)) }
     ensures broken { result ≡ Err Unopened.Inconsistent → (rows : RowLists) × (broken : Broken)
         × Tells (K.kept keeper.old) rows × (first_broken_of settings.hosts rows ≡ Some broken) }
     ensures failed { result ≡ Err Unopened.Failed
@@ -164,25 +167,31 @@ pub(crate) fn opened<D: Desk>(
     opening: &Opening,
 ) -> Result<(World, D::Store), Unopened>
     ensures ok { IfOk result (λ o. (settings : SettingsParts) × (rows : RowLists)
-        × Opens (desk_seen (D.asks desk.old) (D.files desk.old) (D.stores desk.old) (D.faults desk.old) (D.store_faults desk.old))
+        × Opens (desk_seen (D.asks desk.old) (D.files desk.old) (D.stores desk.old)
+        (D.faults desk.old) (D.store_faults desk.old))
         opening.now settings rows
         × (o.0 ≡ first_world settings (is_manual_by opening.now.delivery) rows)
         × Tells (D.Store.kept o.1) rows) }
     ensures told { IfOk result (λ o.
         IfSome (D.stores desk.old) (λ _. is_some (D.Store.kept o.1) ≡ true)) }
     ensures asked { OnOk result
-        (D.asks desk.new ≡ option_map (λ asks. asks ++ opening_asks opening.now) (D.asks desk.old)) }
+        (D.asks desk.new
+        ≡ option_map (λ asks. asks ++ opening_asks opening.now) (D.asks desk.old)) }
     ensures stores { OnOk result
         (D.stores desk.new ≡ option_map (opened_as opening.now.store) (D.stores desk.old)) }
     ensures store_faults { OnOk result (D.store_faults desk.new ≡ D.store_faults desk.old) }
     ensures err { IfErr result (λ why.
         IsUnopened why opening.now
-        (desk_seen (D.asks desk.old) (D.files desk.old) (D.stores desk.old) (D.faults desk.old) (D.store_faults desk.old))
-        (desk_seen (D.asks desk.new) (D.files desk.new) (D.stores desk.new) (D.faults desk.new) (D.store_faults desk.new))) }
+        (desk_seen (D.asks desk.old) (D.files desk.old) (D.stores desk.old) (D.faults desk.old)
+        (D.store_faults desk.old))
+        (desk_seen (D.asks desk.new) (D.files desk.new) (D.stores desk.new) (D.faults desk.new)
+        (D.store_faults desk.new))) }
     ensures cause { IfErr result (λ why.
         IsCause why opening.now
-        (desk_seen (D.asks desk.old) (D.files desk.old) (D.stores desk.old) (D.faults desk.old) (D.store_faults desk.old))
-        (desk_seen (D.asks desk.new) (D.files desk.new) (D.stores desk.new) (D.faults desk.new) (D.store_faults desk.new))) }
+        (desk_seen (D.asks desk.old) (D.files desk.old) (D.stores desk.old) (D.faults desk.old)
+        (D.store_faults desk.old))
+        (desk_seen (D.asks desk.new) (D.files desk.new) (D.stores desk.new) (D.faults desk.new)
+        (D.store_faults desk.new))) }
     ensures to_come { D.to_come desk.new ≡ D.to_come desk.old }
     ensures returned { D.returned desk.new ≡ D.returned desk.old }
     ensures later { D.faults desk.old ≤ D.faults desk.new }

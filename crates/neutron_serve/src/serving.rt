@@ -30,10 +30,12 @@ pub(crate) enum Turn {
 fn serve_next<D: Desk>(alloc: Global, desk: &mut D, world: &mut World, store: &mut D::Store) -> Turn
     requires { Tells (D.Store.kept store.old) world.old.history.rows }
     ensures turn { TurnsBy result world.old (D.Store.faults store.old)
-        (line (option_map (map (end_of D.In.left D.In.faults D.Out.written D.Out.flushed D.Out.faults))
+        (line
+        (option_map (map (end_of D.In.left D.In.faults D.Out.written D.Out.flushed D.Out.faults))
         (D.to_come desk.old)) (D.returned desk.old) (D.asks desk.old))
         (D.faults desk.old) world.new (D.Store.faults store.new)
-        (line (option_map (map (end_of D.In.left D.In.faults D.Out.written D.Out.flushed D.Out.faults))
+        (line
+        (option_map (map (end_of D.In.left D.In.faults D.Out.written D.Out.flushed D.Out.faults))
         (D.to_come desk.new)) (D.returned desk.new) (D.asks desk.new))
         (D.faults desk.new) }
     ensures kept { Tells (D.Store.kept store.new) world.new.history.rows }
@@ -77,10 +79,12 @@ pub(crate) fn serve_all<D: Desk>(
 ) -> u8
     requires { Tells (D.Store.kept store.old) world.old.history.rows }
     ensures serves { ServesAll result connections world.old (D.Store.faults store.old)
-        (line (option_map (map (end_of D.In.left D.In.faults D.Out.written D.Out.flushed D.Out.faults))
+        (line
+        (option_map (map (end_of D.In.left D.In.faults D.Out.written D.Out.flushed D.Out.faults))
         (D.to_come desk.old)) (D.returned desk.old) (D.asks desk.old))
         (D.faults desk.old) world.new (D.Store.faults store.new)
-        (line (option_map (map (end_of D.In.left D.In.faults D.Out.written D.Out.flushed D.Out.faults))
+        (line
+        (option_map (map (end_of D.In.left D.In.faults D.Out.written D.Out.flushed D.Out.faults))
         (D.to_come desk.new)) (D.returned desk.new) (D.asks desk.new))
         (D.faults desk.new) }
     ensures kept { Tells (D.Store.kept store.new) world.new.history.rows }

@@ -32,8 +32,10 @@ pub fn session<K: Keeper, I: Source, O: Sink>(
 ) -> SessionEnd
     requires { Tells (K.kept keeper.old) world.old.history.rows }
     ensures promises { (buffer : List ℕ) × (taken : ℕ) × (taken ≤ limit) × Promises limit
-        (moment world.old [] (I.left input.old) (O.written output.old) (O.flushed output.old) (K.faults keeper.old) 0)
-        (moment world.new buffer (I.left input.new) (O.written output.new) (O.flushed output.new) (K.faults keeper.new) taken) result }
+        (moment world.old [] (I.left input.old) (O.written output.old) (O.flushed output.old)
+        (K.faults keeper.old) 0)
+        (moment world.new buffer (I.left input.new) (O.written output.new) (O.flushed output.new)
+        (K.faults keeper.new) taken) result }
     ensures kept { Tells (K.kept keeper.new) world.new.history.rows }
     ensures told { is_some (K.kept keeper.new) ≡ is_some (K.kept keeper.old) }
     ensures read_fault { result ≡ SessionEnd.ReadFault

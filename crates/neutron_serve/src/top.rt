@@ -53,18 +53,23 @@ fn run_session<D: Desk>(
     output: &mut D::Out,
 ) -> u8
     ensures runs { RunsSession opening.now
-        (desk_seen (D.asks desk.old) (D.files desk.old) (D.stores desk.old) (D.faults desk.old) (D.store_faults desk.old))
-        (desk_seen (D.asks desk.new) (D.files desk.new) (D.stores desk.new) (D.faults desk.new) (D.store_faults desk.new))
+        (desk_seen (D.asks desk.old) (D.files desk.old) (D.stores desk.old) (D.faults desk.old)
+        (D.store_faults desk.old))
+        (desk_seen (D.asks desk.new) (D.files desk.new) (D.stores desk.new) (D.faults desk.new)
+        (D.store_faults desk.new))
         (ends (D.In.left input.old) (D.Out.written output.old) (D.Out.flushed output.old))
         (ends (D.In.left input.new) (D.Out.written output.new) (D.Out.flushed output.new)) result }
     ensures read_fault { result ≡ 2 → RoseBy 1 (D.In.faults input.old) (D.In.faults input.new) }
-    ensures write_fault { result ≡ 3 → RoseBy 1 (D.Out.faults output.old) (D.Out.faults output.new) }
+    ensures write_fault { result ≡ 3
+        → RoseBy 1 (D.Out.faults output.old) (D.Out.faults output.new) }
     ensures bad_settings { result ≡ 5 → AreBadSettings (D.files desk.old) opening.now.settings }
     ensures broken_rows { result ≡ 6 → AreBroken
-        (desk_seen (D.asks desk.old) (D.files desk.old) (D.stores desk.old) (D.faults desk.old) (D.store_faults desk.old)) opening.now }
+        (desk_seen (D.asks desk.old) (D.files desk.old) (D.stores desk.old) (D.faults desk.old)
+        (D.store_faults desk.old)) opening.now }
     ensures outside { result ≡ 7 → RoseBy 1 (D.faults desk.old) (D.faults desk.new)
         ⊎ RoseBy 1 (D.store_faults desk.old) (D.store_faults desk.new) }
-    ensures connections { (D.to_come desk.new ≡ D.to_come desk.old) × (D.returned desk.new ≡ D.returned desk.old) }
+    ensures connections { (D.to_come desk.new ≡ D.to_come desk.old)
+        × (D.returned desk.new ≡ D.returned desk.old) }
 {
     match opened(alloc, desk, opening) {
         Ok((mut world, mut store)) => {
@@ -87,10 +92,12 @@ fn listened<D: Desk>(
 ) -> u8
     requires { Tells (D.Store.kept store.old) world.old.history.rows }
     ensures listens { Listens result address.now connections world.old (D.Store.faults store.old)
-        (line (option_map (map (end_of D.In.left D.In.faults D.Out.written D.Out.flushed D.Out.faults))
+        (line
+        (option_map (map (end_of D.In.left D.In.faults D.Out.written D.Out.flushed D.Out.faults))
         (D.to_come desk.old)) (D.returned desk.old) (D.asks desk.old))
         (D.faults desk.old) world.new (D.Store.faults store.new)
-        (line (option_map (map (end_of D.In.left D.In.faults D.Out.written D.Out.flushed D.Out.faults))
+        (line
+        (option_map (map (end_of D.In.left D.In.faults D.Out.written D.Out.flushed D.Out.faults))
         (D.to_come desk.new)) (D.returned desk.new) (D.asks desk.new))
         (D.faults desk.new) }
     ensures outside { result ≡ 7 → RoseBy 1 (D.faults desk.old) (D.faults desk.new) }
@@ -117,16 +124,21 @@ fn run_serve<D: Desk>(
     desk: &mut D,
 ) -> u8
     ensures runs { RunsServe opening.now address.now connections
-        (desk_seen (D.asks desk.old) (D.files desk.old) (D.stores desk.old) (D.faults desk.old) (D.store_faults desk.old))
-        (desk_seen (D.asks desk.new) (D.files desk.new) (D.stores desk.new) (D.faults desk.new) (D.store_faults desk.new))
-        (line (option_map (map (end_of D.In.left D.In.faults D.Out.written D.Out.flushed D.Out.faults))
+        (desk_seen (D.asks desk.old) (D.files desk.old) (D.stores desk.old) (D.faults desk.old)
+        (D.store_faults desk.old))
+        (desk_seen (D.asks desk.new) (D.files desk.new) (D.stores desk.new) (D.faults desk.new)
+        (D.store_faults desk.new))
+        (line
+        (option_map (map (end_of D.In.left D.In.faults D.Out.written D.Out.flushed D.Out.faults))
         (D.to_come desk.old)) (D.returned desk.old) (D.asks desk.old))
-        (line (option_map (map (end_of D.In.left D.In.faults D.Out.written D.Out.flushed D.Out.faults))
+        (line
+        (option_map (map (end_of D.In.left D.In.faults D.Out.written D.Out.flushed D.Out.faults))
         (D.to_come desk.new)) (D.returned desk.new) (D.asks desk.new))
         result }
     ensures bad_settings { result ≡ 5 → AreBadSettings (D.files desk.old) opening.now.settings }
     ensures broken_rows { result ≡ 6 → AreBroken
-        (desk_seen (D.asks desk.old) (D.files desk.old) (D.stores desk.old) (D.faults desk.old) (D.store_faults desk.old)) opening.now }
+        (desk_seen (D.asks desk.old) (D.files desk.old) (D.stores desk.old) (D.faults desk.old)
+        (D.store_faults desk.old)) opening.now }
     ensures outside { result ≡ 7 → RoseBy 1 (D.faults desk.old) (D.faults desk.new)
         ⊎ RoseBy 1 (D.store_faults desk.old) (D.store_faults desk.new) }
     ensures few { (result ≡ 0) ⊎ ((4 ≤ result) × (result ≤ 7)) }
@@ -176,8 +188,10 @@ pub fn run<D: Desk>(
         × (desk.new ≡ desk.old) × (input.new ≡ input.old) × (output.new ≡ output.old) }
     ensures session { (opening : TheOpening) → line_of words.now ≡ Some (TheSession opening)
         → (RunsSession opening
-        (desk_seen (D.asks desk.old) (D.files desk.old) (D.stores desk.old) (D.faults desk.old) (D.store_faults desk.old))
-        (desk_seen (D.asks desk.new) (D.files desk.new) (D.stores desk.new) (D.faults desk.new) (D.store_faults desk.new))
+        (desk_seen (D.asks desk.old) (D.files desk.old) (D.stores desk.old) (D.faults desk.old)
+        (D.store_faults desk.old))
+        (desk_seen (D.asks desk.new) (D.files desk.new) (D.stores desk.new) (D.faults desk.new)
+        (D.store_faults desk.new))
         (ends (D.In.left input.old) (D.Out.written output.old) (D.Out.flushed output.old))
         (ends (D.In.left input.new) (D.Out.written output.new) (D.Out.flushed output.new)) result
         × (D.to_come desk.new ≡ D.to_come desk.old) × (D.returned desk.new ≡ D.returned desk.old))
@@ -185,24 +199,32 @@ pub fn run<D: Desk>(
     ensures serve { (opening : TheOpening) (address : List ℕ) (connections : ℕ)
         → line_of words.now ≡ Some (TheServe opening address connections)
         → (RunsServe opening address connections
-        (desk_seen (D.asks desk.old) (D.files desk.old) (D.stores desk.old) (D.faults desk.old) (D.store_faults desk.old))
-        (desk_seen (D.asks desk.new) (D.files desk.new) (D.stores desk.new) (D.faults desk.new) (D.store_faults desk.new))
-        (line (option_map (map (end_of D.In.left D.In.faults D.Out.written D.Out.flushed D.Out.faults))
+        (desk_seen (D.asks desk.old) (D.files desk.old) (D.stores desk.old) (D.faults desk.old)
+        (D.store_faults desk.old))
+        (desk_seen (D.asks desk.new) (D.files desk.new) (D.stores desk.new) (D.faults desk.new)
+        (D.store_faults desk.new))
+        (line
+        (option_map (map (end_of D.In.left D.In.faults D.Out.written D.Out.flushed D.Out.faults))
         (D.to_come desk.old)) (D.returned desk.old) (D.asks desk.old))
-        (line (option_map (map (end_of D.In.left D.In.faults D.Out.written D.Out.flushed D.Out.faults))
+        (line
+        (option_map (map (end_of D.In.left D.In.faults D.Out.written D.Out.flushed D.Out.faults))
         (D.to_come desk.new)) (D.returned desk.new) (D.asks desk.new))
         result × (input.new ≡ input.old) × (output.new ≡ output.old))
         ⊎ IsUnasked result desk.old desk.new input.old input.new output.old output.new }
-    ensures drill { (start size : ℕ) (replies : Bool) → line_of words.now ≡ Some (TheDrill start size replies)
-        → RunsDrill start size replies (D.Out.written output.old) (D.Out.written output.new) (D.Out.flushed output.new) result
+    ensures drill { (start size : ℕ) (replies : Bool)
+        → line_of words.now ≡ Some (TheDrill start size replies)
+        → RunsDrill start size replies (D.Out.written output.old) (D.Out.written output.new)
+        (D.Out.flushed output.new) result
         × (desk.new ≡ desk.old) × (input.new ≡ input.old) }
     ensures read_fault { result ≡ 2 → RoseBy 1 (D.In.faults input.old) (D.In.faults input.new) }
     ensures write_fault { result ≡ 3
         → RoseBy 1 (D.Out.faults output.old) (D.Out.faults output.new) }
     ensures bad_settings { result ≡ 5 → HasBadSettings (opening_of (line_of words.now))
-        (desk_seen (D.asks desk.old) (D.files desk.old) (D.stores desk.old) (D.faults desk.old) (D.store_faults desk.old)) }
+        (desk_seen (D.asks desk.old) (D.files desk.old) (D.stores desk.old) (D.faults desk.old)
+        (D.store_faults desk.old)) }
     ensures broken_rows { result ≡ 6 → HasBrokenRows (opening_of (line_of words.now))
-        (desk_seen (D.asks desk.old) (D.files desk.old) (D.stores desk.old) (D.faults desk.old) (D.store_faults desk.old)) }
+        (desk_seen (D.asks desk.old) (D.files desk.old) (D.stores desk.old) (D.faults desk.old)
+        (D.store_faults desk.old)) }
     ensures outside { result ≡ 7 → RoseBy 1 (D.faults desk.old) (D.faults desk.new)
         ⊎ RoseBy 1 (D.store_faults desk.old) (D.store_faults desk.new) }
     ensures budget { result ≡ 8 → is_session_line (line_of words.now) ≡ true }

@@ -108,7 +108,8 @@ pub fn delete_network(
 ) -> Result<Draft, Refusal>
     ensures ok { let state : State = record { rows = rows.now; version = version } in
         IfOk result
-        (λ draft. Leads rows.now (network_deleted state caller.now name.now) draft (λ rows. NoRow)) }
+        (λ draft.
+        Leads rows.now (network_deleted state caller.now name.now) draft (λ rows. NoRow)) }
     ensures err { let state : State = record { rows = rows.now; version = version } in
         IfErr result (IsRefusalOf (network_deleted state caller.now name.now)) }
 {

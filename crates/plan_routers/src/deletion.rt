@@ -35,7 +35,8 @@ fn without_router(alloc: Global, rows: &Rows, router: &RouterRow) -> Result<Draf
     ensures start { IfOk result (λ d. d.start ≡ rows.now) }
     ensures rows { IfOk result
         (λ d. d.rows
-        ≡ made rows.now (gateway_gone router.now.gateway ++ DropRow RouterKind router.now.id ∷ [])) }
+        ≡ made rows.now
+        (gateway_gone router.now.gateway ++ DropRow RouterKind router.now.id ∷ [])) }
 {
     let draft = Draft::begin(alloc, rows)?;
     let draft = drop_gateway(alloc, draft, &router.gateway)?;
