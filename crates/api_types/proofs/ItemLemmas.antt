@@ -14,7 +14,7 @@ use Rattle.api_types.proofs.EditLemmas.{own_still, absent_removed}
 use Rattle.api_types.proofs.ChangeLemmas.{last_of}
 
 module _ {R : Type 0} where
-  -- a place after the one that closed up, and one before it
+  -- a place behind the one that closed up, and one in front of it
   got_past : (rows : List R) (q p : ℕ) → q ≤ p → slice_get (remove rows q) p ≡ slice_get rows (suc p)
   got_past [] zero p le = refl
   got_past [] (suc q) p le = refl
