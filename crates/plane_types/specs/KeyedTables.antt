@@ -5,6 +5,7 @@ use Rattle.std.specs.List.{filter}
 use Rattle.net_addr.specs.Ordered.{addr_before}
 use Rattle.net_addr.specs.Prefixes.{Prefix}
 use Rattle.net_addr.specs.declared.address.Addr.{Addr}
+use Rattle.net_addr.specs.Words.{Text}
 use Rattle.api_types.specs.Ascending.{ascending, prefix_before}
 use Rattle.api_types.specs.Holders.{gateway_port}
 use Rattle.api_types.specs.Live.{is_live}
@@ -49,10 +50,10 @@ keyed_inward n tags =
     rows_by_key nat_lt (λ w. option_and_then (inward_row n.rows) (tag_row_of tags w)) n.networks
 
 -- taps and leases: by port
-abbrev pub keyed_taps : NumberedRows → List ℕ → List TagRow → List (ℕ × TapRow)
+abbrev pub keyed_taps : NumberedRows → Text → List TagRow → List (ℕ × TapRow)
 keyed_taps n host tags = rows_by_key nat_lt (tap_row n.rows host tags) n.ports
 
-abbrev pub keyed_leases : NumberedRows → List ℕ → List TagRow → List (ℕ × LeaseRow)
+abbrev pub keyed_leases : NumberedRows → Text → List TagRow → List (ℕ × LeaseRow)
 keyed_leases n host tags = rows_by_key nat_lt (lease_row n.rows host tags) n.ports
 
 -- filters: by port, group and rule
@@ -66,11 +67,11 @@ abbrev pub group_filters : NumberedRows → PortRow → GroupRow → List (ℕ �
 group_filters n p g =
     if names_group g.id p.groups then rows_by_key nat_lt (filter_by p g) n.rules else []
 
-abbrev pub port_filters : NumberedRows → List ℕ → PortRow → List ((ℕ × ℕ) × FilterRow)
+abbrev pub port_filters : NumberedRows → Text → PortRow → List ((ℕ × ℕ) × FilterRow)
 port_filters n host p =
     if is_tap n.rows host p && p.secured then chunks (group_filters n p) n.groups else []
 
-abbrev pub keyed_filters : NumberedRows → List ℕ → List (FilterKey × FilterRow)
+abbrev pub keyed_filters : NumberedRows → Text → List (FilterKey × FilterRow)
 keyed_filters n host = chunks (port_filters n host) n.ports
 
 -- sets: by group and prefix
@@ -80,11 +81,11 @@ SetKey = ℕ × Prefix
 abbrev pub set_order : SetKey → SetKey → Bool
 set_order = pair_order nat_lt prefix_before
 
-abbrev pub group_sets : NumberedRows → List ℕ → GroupRow → List (Prefix × SetRow)
+abbrev pub group_sets : NumberedRows → Text → GroupRow → List (Prefix × SetRow)
 group_sets n host g =
     with_keys (λ (r : SetRow). r.prefix) (set_rows_of n.rows (filter_rows n.rows host) g)
 
-abbrev pub keyed_sets : NumberedRows → List ℕ → List (SetKey × SetRow)
+abbrev pub keyed_sets : NumberedRows → Text → List (SetKey × SetRow)
 keyed_sets n host = chunks (group_sets n host) n.groups
 
 -- bridge: by tag and what is sought
@@ -97,7 +98,7 @@ bridge_order a b = pair_before a.0 a.1 b.0 b.1
 abbrev pub bridge_key : BridgeRow → BridgeKeyAt
 bridge_key r = (r.tag, key_number r.key)
 
-abbrev pub keyed_bridge : NumberedRows → List ℕ → List TagRow → List (BridgeKeyAt × BridgeRow)
+abbrev pub keyed_bridge : NumberedRows → Text → List TagRow → List (BridgeKeyAt × BridgeRow)
 keyed_bridge n host tags = with_keys bridge_key (bridge_rows n.rows host tags)
 
 -- neighbours: by tag and address
@@ -110,15 +111,15 @@ neighbour_order a b = nat_lt a.0 b.0 || ((a.0 == b.0) && addr_before a.1 b.1)
 abbrev pub neighbour_key : NeighbourRow → NeighbourKey
 neighbour_key r = (r.tag, r.address)
 
-abbrev pub keyed_neighbours : NumberedRows → List ℕ → List TagRow
+abbrev pub keyed_neighbours : NumberedRows → Text → List TagRow
     → List (NeighbourKey × NeighbourRow)
 keyed_neighbours n host tags = with_keys neighbour_key (neighbour_rows n.rows host tags)
 
 -- routers: by router
-abbrev pub hosted_router : NumberedRows → List ℕ → List TagRow → RouterRow → Option RouterTable
+abbrev pub hosted_router : NumberedRows → Text → List TagRow → RouterRow → Option RouterTable
 hosted_router n host tags r = if is_on_host host r then Some (router_row n.rows tags r) else None
 
-abbrev pub keyed_routers : NumberedRows → List ℕ → List TagRow → List (ℕ × RouterTable)
+abbrev pub keyed_routers : NumberedRows → Text → List TagRow → List (ℕ × RouterTable)
 keyed_routers n host tags = rows_by_key nat_lt (hosted_router n host tags) n.routers
 
 -- routes: by router, and then by rank: connected ones (0) by port and address, extra ones (1) by
@@ -174,16 +175,16 @@ keyed_ways n r =
     under 0 (keyed_connected n r) ++ under 1 (keyed_extra n r)
     ++ under 2 (default_from n r (gateway_port n.rows r))
 
-abbrev pub router_routes : NumberedRows → List ℕ → RouterRow → List (WayKey × RouteRow)
+abbrev pub router_routes : NumberedRows → Text → RouterRow → List (WayKey × RouteRow)
 router_routes n host r =
     if is_on_host host r
     then map (λ (x : WayKey × Way). (x.0, route_row r.id x.1)) (keyed_ways n r)
     else []
 
-abbrev pub keyed_routes : NumberedRows → List ℕ → List (RouteKey × RouteRow)
+abbrev pub keyed_routes : NumberedRows → Text → List (RouteKey × RouteRow)
 keyed_routes n host = chunks (router_routes n host) n.routers
 
 -- floats: by floating address
-abbrev pub keyed_floats : NumberedRows → List ℕ → List (ℕ × FloatRow)
+abbrev pub keyed_floats : NumberedRows → Text → List (ℕ × FloatRow)
 keyed_floats n host =
     rows_by_key nat_lt (λ (f : FloatingRow). float_row_by n.rows host f f.target) n.floatings
