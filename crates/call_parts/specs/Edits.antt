@@ -4,13 +4,10 @@ use Rattle.api_types.specs.Ident.{Ident}
 use Rattle.api_types.specs.Outcome.{Moved, Outcome}
 use Rattle.api_types.specs.Printed.{Reply}
 use Rattle.api_types.specs.RowLists.{RowLists}
-use Rattle.api_types.specs.Rows.{project_id}
-use Rattle.api_types.specs.Table.{ident_eq}
-use Rattle.api_types.specs.declared.kind.Kind.TheVariants.{Project as ProjectKind, Network as NetworkKind, Subnet as SubnetKind, Port as PortKind, Group as GroupKind, Rule as RuleKind, Router as RouterKind, Floating as FloatingKind, Policy as PolicyKind}
+use Rattle.api_types.specs.WithRows.{with_added, with_put, without_row}
 use Rattle.api_types.specs.declared.kind.Kind.{Kind}
-use Rattle.api_types.specs.declared.kind.Row.TheVariants.{Project, Network, Subnet, Port, Group, Rule, Router, Floating, Policy}
 use Rattle.api_types.specs.declared.kind.Row.{Row}
-use Rattle.std.specs.Prelude.{List, [], filter, if◌then◌else◌, map, not, ◌++◌, ◌∷◌}
+use Rattle.std.specs.Prelude.{List, [], map, ◌∷◌}
 
 pub data Edit : Type 0 where
   -- a new row, last of its kind
