@@ -30,7 +30,8 @@ use Rattle.plane_types.specs.declared.table.TagRow.{TagRow}
 abbrev pub unkeyed : {K R : Type 0} → List (K × R) → List R
 unkeyed xs = map (λ x. x.1) xs
 
-pub with_keys-rows : {K R : Type 0} (key : R → K) (rows : List R) → unkeyed (with_keys key rows) ≡ rows
+pub with_keys-rows : {K R : Type 0} (key : R → K) (rows : List R)
+    → unkeyed (with_keys key rows) ≡ rows
 with_keys-rows key [] = refl
 with_keys-rows key (r ∷ rows) = ap (λ l. r ∷ l) (with_keys-rows key rows)
 
@@ -106,8 +107,9 @@ module _ (n : NumberedRows) (host : List ℕ) (tags : List TagRow) where
       → unkeyed (keyed_sets n host) ≡ set_rows n.rows (filter_rows n.rows host)
   unfolding set_rows
   sets-rows groups =
+      let named : GroupRow → List SetRow = set_rows_of n.rows (filter_rows n.rows host) in
       chunks-rows (group_sets n host) n.groups
-      ∙ (λ j. flat_map (λ g. with_keys-rows (λ (r : SetRow). r.prefix) (set_rows_of n.rows (filter_rows n.rows host) g) j) (groups j))
+      ∙ (λ j. flat_map (λ g. with_keys-rows (λ (r : SetRow). r.prefix) (named g) j) (groups j))
 
   pub bridge-rows : unkeyed (keyed_bridge n host tags) ≡ bridge_rows n.rows host tags
   bridge-rows = with_keys-rows bridge_key (bridge_rows n.rows host tags)
@@ -163,7 +165,8 @@ under-address a [] = refl
 under-address a (w ∷ ws) = ap (λ l. w ∷ l) (under-address a ws)
 
 routes-of : (r : Ident) (ws : List (WayKey × Way))
-    → unkeyed (map (λ (x : WayKey × Way). (x.0, route_row r x.1)) ws) ≡ map (route_row r) (unkeyed ws)
+    → unkeyed (map (λ (x : WayKey × Way). (x.0, route_row r x.1)) ws)
+    ≡ map (route_row r) (unkeyed ws)
 routes-of r [] = refl
 routes-of r (w ∷ ws) = ap (λ l. route_row r w.1 ∷ l) (routes-of r ws)
 
@@ -229,15 +232,16 @@ module _ (n : NumberedRows) (r : RouterRow) where
   ways-rows : unkeyed n.ports ≡ n.rows.ports → unkeyed (keyed_ways n r) ≡ ways_of n.rows r
   unfolding ways_of
   ways-rows ports =
-      append-rows (under 0 (keyed_connected n r) ++ under 1 (keyed_extra n r))
-      (under 2 (default_from n r (gateway_port n.rows r)))
+      let gateway : Option PortRow = gateway_port n.rows r in
+      let connected : List (WayKey × Way) = under 0 (keyed_connected n r) in
+      let extra : List (WayKey × Way) = under 1 (keyed_extra n r) in
+      let last : List (WayKey × Way) = under 2 (default_from n r gateway) in
+      append-rows (connected ++ extra) last
+      ∙ (λ j. append-rows connected extra j ++ under-alone {K = ℕ} 2 (default_from n r gateway) j)
       ∙ (λ j.
-      append-rows (under 0 (keyed_connected n r)) (under 1 (keyed_extra n r)) j
-      ++ under-alone 2 (default_from n r (gateway_port n.rows r)) j)
-      ∙ (λ j.
-      under-alone 0 (keyed_connected n r) j ++ under-alone 1 (keyed_extra n r) j
-      ++ default-rows (gateway_port n.rows r) j)
-      ∙ (λ j. connected-rows ports j ++ extra-rows j ++ default_of n.rows legs (gateway_port n.rows r))
+      under-alone {K = ℕ} 0 (keyed_connected n r) j ++ under-alone {K = ℕ} 1 (keyed_extra n r) j
+      ++ default-rows gateway j)
+      ∙ (λ j. connected-rows ports j ++ extra-rows j ++ default_of n.rows legs gateway)
 
 module _ (n : NumberedRows) (host : List ℕ) where
   router-routes : unkeyed n.ports ≡ n.rows.ports → (r : RouterRow)

@@ -93,7 +93,7 @@ TookRoom old new d = IsWithin old (room_sum new (puts_into d))
 
 -- in each table no row is written that stands there before and after, with the same key: the edits
 -- of a change to rows, for the tags before and after
-pub record AreFewEdits (host : List ℕ) (before after : NumberedRows) (old new : List TagRow)
+pub record AreFewEdits (host : Text) (before after : NumberedRows) (old new : List TagRow)
     (d : Delta) : Type 0 where
   pub tags : AreFew nat_lt (keyed_tags before old) (keyed_tags after new) d.l2.tag_edits
   pub taps : AreFew nat_lt (keyed_taps before host old) (keyed_taps after host new) d.l2.taps
