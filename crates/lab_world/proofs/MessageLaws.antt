@@ -1,5 +1,5 @@
 -- Calls of the lab with their answers, by what is done with the hosts.
-use Rattle.std.proofs.Common.{inl, inr, ◌⊎◌, ◌≡◌, ◌<◌, ℕ, List, [], Bool, true, None, Some, refl, ap, sym, subst, ◌∙◌, map, slice_get}
+use Rattle.std.proofs.Common.{inl, inr, ◌⊎◌, ◌≡◌, ◌<◌, ℕ, List, Bool, true, None, Some, refl, ap, sym, subst, ◌∙◌, map, slice_get}
 use Rattle.api_types.specs.RowLists.{RowLists}
 use Rattle.api_types.specs.declared.call.Caller.{Caller}
 use Rattle.api_types.specs.declared.change.Item.{Item}

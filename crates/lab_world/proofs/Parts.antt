@@ -1,16 +1,14 @@
 -- What calls do with the parts of the world is a step of the world.
-use Rattle.std.proofs.Common.{◌≡◌, ℕ, ◌+◌, ◌≤◌, List, [], Bool, true, false, Some, refl, ap, sym, subst, ◌∙◌, arith, map, slice_get}
+use Rattle.std.proofs.Common.{◌≡◌, ℕ, ◌+◌, ◌≤◌, List, [], Bool, true, false, Some, refl, ap, sym, subst, ◌∙◌, arith, map}
 use Rattle.std.specs.Prelude.{count_by}
-use Rattle.std.specs.Option.{option_map}
 use Rattle.std.specs.Str.{bytes_eq}
-use Rattle.std.proofs.lemmas.Option.{slice_get-map}
 use Rattle.api_types.specs.Consistent.{IsConsistent}
 use Rattle.api_types.specs.Lists.{Each}
 use Rattle.api_types.specs.RowLists.{RowLists}
 use Rattle.api_types.specs.Rows.{Fits, after}
 use Rattle.api_types.specs.declared.change.Item.{Item}
 use Rattle.net_settings.specs.Settings.{SettingsParts}
-use Rattle.plane_types.specs.Hosts.{Host, is_named}
+use Rattle.plane_types.specs.Hosts.{is_named}
 use Rattle.plane_types.specs.Attached.{IsAttached}
 use Rattle.plane_types.specs.Verdicts.{fabric_verdict, with_made as kept_at_hosts}
 use Rattle.plane_types.specs.declared.event.Event.{Event}

@@ -1,5 +1,5 @@
 -- What is done at one host of a list, and with all of them one by one.
-use Rattle.std.specs.Prelude.{◌≡◌, ℕ, zero, suc, Bool, true, List, [], ◌∷◌, Option, Some, find, map, slice_get, if◌then◌else◌}
+use Rattle.std.specs.Prelude.{◌≡◌, ℕ, zero, suc, true, List, [], ◌∷◌, Option, Some, find, map, slice_get, if◌then◌else◌}
 use Rattle.std.specs.Str.{bytes_eq}
 use Rattle.plane_types.specs.Node.{Agent, Node, Ready}
 use Rattle.plane_types.specs.declared.ask.HostState.{HostState}

@@ -1,6 +1,6 @@
 //! An event, by the rows: from a port, or from a wire. Begin here.
 
-ghost use Rattle.std.specs.Prelude.{◌≡◌, ◌++◌, [], ◌∷◌, IfOk, if◌then◌else◌, map, suc};
+ghost use Rattle.std.specs.Prelude.{◌≡◌, ◌++◌, [], ◌∷◌, IfOk, if◌then◌else◌, map, option_copied, suc};
 ghost use Rattle.api_types.specs.declared.group.Direction.TheVariants.{Egress as Outward};
 ghost use Rattle.api_types.specs.RowsWith.{port_with};
 ghost use Rattle.plane_types.specs.Meaning.{drop_fate as dropped_by, from_live as from_live_by, from_network as from_network_by, from_port as from_port_by, from_sender as from_sender_by, from_wire as from_wire_by, port_fate as got_by, life_of, none_so_far as nothing_so_far, on_path, rows_fate, rows_passage, sent_on as sent_on_by, sent_out as sent_out_by, wire_packet as wire_packet_by};
@@ -175,6 +175,14 @@ fn from_live(
     })
 }
 
+fn find_port(rows: &Rows, id: Id) -> Option<&PortRow>
+    ensures { option_copied result ≡ port_with rows.now id }
+{
+    let ports = rows.ports();
+    let _own_ids = ports.rows(); // for the proof: no two ports have one id
+    ports.get(id)
+}
+
 // The sender has to be there and live, and no router's port.
 fn from_port(
     alloc: Global,
@@ -188,9 +196,7 @@ fn from_port(
         ≡ from_port_by rows.now entries.now (life_of frame) frame
         (port_with rows.now port)) }
 {
-    let ports = rows.ports();
-    let _own_ids = ports.rows(); // for the proof: no two ports have one id
-    match ports.get(port) {
+    match find_port(rows, port) {
         Some(sender) => {
             if is_live(rows, sender) && !sender.is_router_port() {
                 from_live(alloc, rows, entries, sender, frame)

@@ -1,5 +1,5 @@
 -- How many rows edits put in.
-use Rattle.std.proofs.Common.{◌≡◌, ℕ, ◌+◌, ◌≤◌, List, [], ◌∷◌, length, Bool, true, false, refl, arith}
+use Rattle.std.proofs.Common.{ℕ, ◌≤◌, List, [], ◌∷◌, length, Bool, true, false, arith}
 use Rattle.std.specs.Prelude.{is_some}
 use Rattle.plane_types.specs.Edits.{all_puts, one_if}
 use Rattle.plane_types.specs.declared.delta.Edit.{Edit}

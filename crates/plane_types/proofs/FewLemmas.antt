@@ -1,5 +1,5 @@
 -- Edits at keys at which two tables differ write no more rows than stand in one of the two alone.
-use Rattle.std.proofs.Common.{◌≡◌, ◌∙◌, ℕ, suc, ◌+◌, ◌≤◌, List, [], ◌∷◌, ◌++◌, map, length, Option, Some, None, Bool, true, false, not, refl, sym, ap, subst}
+use Rattle.std.proofs.Common.{◌≡◌, ◌∙◌, suc, ◌+◌, ◌≤◌, List, [], ◌∷◌, ◌++◌, map, length, Option, Bool, false, refl, sym, ap, subst}
 use Rattle.std.specs.Prelude.{⊤, is_some}
 use Rattle.plane_types.specs.Keyed.{IsTotal, are_one, Others, AreApart, Rises, row_at, Say, AllBefore, Descends}
 use Rattle.plane_types.specs.Edits.{edit_at, all_writes, StandIn, Differ, AreFew}

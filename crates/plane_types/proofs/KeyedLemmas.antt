@@ -1,10 +1,9 @@
 -- Ascending keys: what is found at them, what a put at a key does to the list and to what is
 -- found.
-use Rattle.std.proofs.Common.{◌≡◌, ◌∙◌, ℕ, zero, suc, ◌+◌, ◌≤◌, List, [], ◌∷◌, ◌++◌, map, length, Option, Some, None, Bool, true, false, true≢false, cond, not, refl, sym, ap, subst, arith}
-use Rattle.std.specs.Prelude.{◌&&◌, ⊤, if◌then◌else◌, is_some, insert, remove}
+use Rattle.std.proofs.Common.{◌≡◌, ◌∙◌, ℕ, zero, suc, List, [], ◌∷◌, map, Option, Some, None, Bool, true, false, not, refl, sym, ap, subst}
+use Rattle.std.specs.Prelude.{◌&&◌, if◌then◌else◌, is_some}
 use Rattle.plane_types.specs.Keyed.{IsTotal, are_one, AllAfter, Rises, row_at, below, cons_at, put_at}
 use Rattle.plane_types.specs.Edits.{with_edit, edit_at}
-use Rattle.plane_types.specs.declared.delta.Edit.{Edit}
 
 abbrev some_or : {X : Type 0} → X → Option X → X
 some_or d None = d

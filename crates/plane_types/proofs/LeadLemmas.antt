@@ -1,9 +1,9 @@
 -- Edits at some keys lead from one list to another, are made at places of the first, and touch no
 -- row that stands in both.
-use Rattle.std.proofs.Common.{◌≡◌, ◌∙◌, ℕ, zero, suc, ◌+◌, ◌≤◌, List, [], ◌∷◌, ◌++◌, map, length, Option, Some, None, Bool, true, false, true≢false, cond, not, refl, sym, ap, subst, arith}
-use Rattle.std.specs.Prelude.{◌&&◌, ◌||◌, ⊤, if◌then◌else◌, is_some}
+use Rattle.std.proofs.Common.{◌≡◌, ◌∙◌, ℕ, zero, suc, ◌+◌, ◌≤◌, List, [], ◌∷◌, ◌++◌, map, length, Option, Some, None, Bool, true, false, true≢false, refl, sym, ap, arith}
+use Rattle.std.specs.Prelude.{◌||◌, ⊤, if◌then◌else◌, is_some}
 use Rattle.plane_types.specs.Keyed.{IsTotal, are_one, AllAfter, Rises, row_at, below, cons_at, put_at, put_all, names_key, Say, AllBefore, Descends, Others, AreApart, Enumerates}
-use Rattle.plane_types.specs.Edits.{with_edit, with_edits, edit_at, edits_of, one_if, writes, all_writes}
+use Rattle.plane_types.specs.Edits.{with_edits, edit_at, edits_of, one_if, all_writes}
 use Rattle.plane_types.specs.declared.delta.Edit.{Edit}
 use Rattle.plane_types.proofs.KeyedLemmas.{three_ways, one_both, apart_first, apart_second, none_after, after_chain, same_entries, rises_put, at_put_here, at_put_apart, rows_of, put_is_edit}
 

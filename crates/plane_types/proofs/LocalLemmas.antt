@@ -1,7 +1,7 @@
 -- On what a row of a table depends: of a port that stays as it is, its row stays where its
 -- network is as up, of the same segment and of
 -- the same tag.
-use Rattle.std.proofs.Common.{◌≡◌, ◌∙◌, ℕ, List, [], ◌∷◌, map, Option, Some, None, Bool, true, false, not, refl, sym, ap}
+use Rattle.std.proofs.Common.{◌≡◌, ◌∙◌, ℕ, List, [], Option, Some, None, not, refl, ap}
 use Rattle.std.specs.Prelude.{◌&&◌, if◌then◌else◌, option_map, option_and_then}
 use Rattle.api_types.specs.Ident.{Ident}
 use Rattle.api_types.specs.RowLists.{RowLists}
@@ -12,7 +12,7 @@ use Rattle.api_types.specs.Live.{is_live, is_at, joins, network_up, segment}
 use Rattle.api_types.specs.RowsWith.{network_with}
 use Rattle.api_types.specs.Owners.{is_dhcp, is_router_port}
 use Rattle.api_types.specs.declared.port.PortRow.{PortRow}
-use Rattle.plane_types.specs.TableRows.{tag_of, is_tap, tap_of, tap_row, bridge_by, to_router, to_there, end_of, bridge_row, mac_row, dhcp_row, neighbours_by, neighbours_of, filters_of, lease_row, lease_row_by}
+use Rattle.plane_types.specs.TableRows.{tag_of, tap_of, tap_row, bridge_by, to_router, to_there, bridge_row, dhcp_row, neighbours_by, neighbours_of, lease_row, lease_row_by}
 use Rattle.plane_types.specs.declared.table.BridgeKey.{BridgeKey}
 use Rattle.plane_types.specs.declared.table.BridgeKey.TheVariants.{Dhcp as AtDhcp}
 use Rattle.plane_types.specs.declared.table.BridgeTo.TheVariants.{Tap as ToTap}

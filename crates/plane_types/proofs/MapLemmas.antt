@@ -1,7 +1,7 @@
 -- A table that is put into ascending order of the rows' own keys, of which no two are one, is the
 -- partial function that finds a key among its rows.
-use Rattle.std.proofs.Common.{◌≡◌, ◌∙◌, List, [], ◌∷◌, map, Option, Some, None, Bool, true, false, true≢false, refl, sym, ap, subst}
-use Rattle.std.specs.Prelude.{⊤, if◌then◌else◌}
+use Rattle.std.proofs.Common.{◌≡◌, ◌∙◌, List, [], ◌∷◌, map, Some, Bool, true, false, true≢false, refl, sym, ap, subst}
+use Rattle.std.specs.Prelude.{if◌then◌else◌}
 use Rattle.api_types.specs.Ascending.{ascending, put_in}
 use Rattle.plane_types.specs.Keyed.{IsTotal, are_one, Others, AreApart, Rises, row_at, put_at, with_keys, Enumerates}
 use Rattle.plane_types.proofs.KeyedLemmas.{three_ways, one_both, apart_first, apart_second, rises_put, at_put_here, at_put_apart, put_later, put_front, rows_of}

@@ -1,13 +1,12 @@
 -- Numbers ascend through a change, and a row that no item names keeps its number and stays as it
 -- is.
-use Rattle.std.proofs.Common.{◌≡◌, ◌∙◌, ℕ, zero, suc, ◌+◌, ◌≤◌, ◌<◌, List, [], ◌∷◌, ◌++◌, map, length, Option, Some, None, Bool, true, false, true≢false, cond, not, refl, sym, ap, subst, slice_get, slice_set, remove, arith}
-use Rattle.std.specs.Prelude.{◌&&◌, ⊤, if◌then◌else◌, nat_lt}
+use Rattle.std.proofs.Common.{◌≡◌, ◌∙◌, ℕ, zero, suc, ◌+◌, ◌≤◌, List, [], ◌∷◌, ◌++◌, length, Option, Some, None, true, false, refl, sym, ap, slice_get, slice_set, remove, arith}
+use Rattle.std.specs.Prelude.{⊤, if◌then◌else◌, nat_lt}
 use Rattle.std.proofs.lemmas.Bool.Decides.{nat_tests}
-use Rattle.std.proofs.lemmas.List.{map-append, map_push}
 use Rattle.api_types.specs.Edits.{list_after_at}
 use Rattle.plane_types.specs.Keyed.{IsTotal, are_one, AllAfter, Rises, row_at}
 use Rattle.plane_types.specs.Numbered.{RowItem, rows_after, with_row, with_item, with_items, with_numbers, numbered_after}
-use Rattle.plane_types.proofs.KeyedLemmas.{three_ways, one_both, one_itself, apart_first, apart_second, none_after, after_chain, rows_of}
+use Rattle.plane_types.proofs.KeyedLemmas.{rows_of}
 
 -- numbers are in a total order
 pub number_order : IsTotal nat_lt

@@ -1,6 +1,6 @@
 -- Keys of two parts: a table that is made chunk by chunk is a partial function from pairs to its
 -- rows.
-use Rattle.std.proofs.Common.{◌≡◌, ◌∙◌, ℕ, List, [], ◌∷◌, ◌++◌, map, Option, Some, None, Bool, true, false, true≢false, cond, not, refl, sym, ap, subst}
+use Rattle.std.proofs.Common.{◌≡◌, ◌∙◌, List, [], ◌∷◌, ◌++◌, Some, None, Bool, true, false, true≢false, not, refl, sym, ap}
 use Rattle.std.specs.Prelude.{◌&&◌, ⊤, if◌then◌else◌, option_and_then, flat_map}
 use Rattle.plane_types.specs.Keyed.{IsTotal, are_one, AllAfter, Rises, row_at, Enumerates, pair_order, chunks, under}
 use Rattle.plane_types.proofs.KeyedLemmas.{never, three_ways, one_both, apart_first, apart_second, none_after, rows_of}

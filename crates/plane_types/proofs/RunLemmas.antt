@@ -1,5 +1,5 @@
 -- What is found and asked of those elements of a list that pass a test is found and asked of a part that has them all.
-use Rattle.std.proofs.Common.{◌≡◌, ◌∙◌, ◌+◌, ◌-◌, List, [], ◌∷◌, ◌++◌, Bool, true, false, cond, Option, Some, None, take, drop, map, true≢false, refl, ap, sym, arith}
+use Rattle.std.proofs.Common.{◌≡◌, ◌∙◌, List, [], ◌∷◌, Bool, true, false, cond, Option, Some, None, map, true≢false, refl, ap, sym}
 use Rattle.std.specs.Prelude.{◌&&◌, ◌||◌, find, is_some, if◌then◌else◌}
 use Rattle.std.specs.List.{cons_option, filter, filter_map, list_any}
 use Rattle.std.specs.Str.{bytes_eq}

@@ -1,7 +1,7 @@
 -- A map made of touched and untouched sources: what is found at a key is found among one or the
 -- other.
-use Rattle.std.proofs.Common.{◌≡◌, ◌∙◌, List, [], ◌∷◌, ◌++◌, map, Option, Some, None, Bool, true, false, true≢false, cond, not, refl, sym, ap, subst}
-use Rattle.std.specs.Prelude.{⊤, if◌then◌else◌, flat_map, is_some}
+use Rattle.std.proofs.Common.{◌≡◌, ◌∙◌, List, [], ◌∷◌, ◌++◌, Option, Some, None, Bool, true, false, true≢false, cond, not, refl, sym, ap}
+use Rattle.std.specs.Prelude.{if◌then◌else◌, flat_map, is_some}
 use Rattle.std.specs.List.{filter}
 use Rattle.plane_types.specs.Keyed.{IsTotal, are_one, Others, AreApart, row_at, with_keys}
 use Rattle.plane_types.proofs.KeyedLemmas.{three_ways, one_itself, apart_first, apart_second}

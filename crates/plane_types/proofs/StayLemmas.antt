@@ -1,8 +1,7 @@
 -- Tags stay where the same networks have one and their wires are the same; and the rows of a kind
 -- after a change, item by item.
-use Rattle.std.proofs.Common.{◌≡◌, ◌∙◌, ℕ, List, [], ◌∷◌, map, Option, Some, None, refl, sym, ap}
+use Rattle.std.proofs.Common.{◌≡◌, ◌∙◌, ℕ, List, [], ◌∷◌, map, Some, refl, sym, ap}
 use Rattle.std.specs.Prelude.{⊤, if◌then◌else◌}
-use Rattle.api_types.specs.Ident.{Ident}
 use Rattle.api_types.specs.Live.{segment}
 use Rattle.api_types.specs.Parts.{port_of}
 use Rattle.api_types.specs.RowLists.{RowLists}
@@ -11,8 +10,7 @@ use Rattle.api_types.specs.Wires.{wire_of}
 use Rattle.api_types.specs.declared.change.Item.{Item}
 use Rattle.api_types.specs.declared.kind.Kind.{Kind}
 use Rattle.api_types.specs.declared.kind.Kind.TheVariants.{Project, Network, Subnet, Port, Group, Rule, Router, Floating, Policy}
-use Rattle.api_types.specs.declared.port.PortRow.{PortRow}
-use Rattle.plane_types.specs.NewTags.{free_tags, in_turn, kept_tags, next_tag, new_tags, tag_row, tagged_networks, with_tag}
+use Rattle.plane_types.specs.NewTags.{free_tags, in_turn, kept_tags, next_tag, new_tags, tagged_networks, with_tag}
 use Rattle.plane_types.specs.TableRows.{tag_of}
 use Rattle.plane_types.specs.declared.table.TagRow.{TagRow}
 use Rattle.plane_types.specs.Numbered.{rows_after}

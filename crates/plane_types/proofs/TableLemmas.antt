@@ -1,9 +1,9 @@
 -- A table that is made row by row of keyed rows is a partial function from keys to its rows.
-use Rattle.std.proofs.Common.{◌≡◌, ◌∙◌, ℕ, zero, suc, ◌+◌, ◌≤◌, ◌<◌, List, [], ◌∷◌, ◌++◌, map, length, Option, Some, None, Bool, true, false, true≢false, cond, not, refl, sym, ap, subst, arith}
-use Rattle.std.specs.Prelude.{◌&&◌, ⊤, if◌then◌else◌, option_and_then, nat_lt}
+use Rattle.std.proofs.Common.{◌≡◌, ◌∙◌, List, [], ◌∷◌, Option, Some, None, Bool, false, refl, sym, ap}
+use Rattle.std.specs.Prelude.{if◌then◌else◌, option_and_then}
 use Rattle.std.specs.List.{filter_map, cons_option}
 use Rattle.plane_types.specs.Keyed.{IsTotal, are_one, AllAfter, Rises, row_at, cons_at, rows_by_key, Enumerates}
-use Rattle.plane_types.proofs.KeyedLemmas.{three_ways, one_both, apart_first, apart_second, none_after, after_cons, rises_cons, at_cons_here, at_cons_apart, rows_of}
+use Rattle.plane_types.proofs.KeyedLemmas.{three_ways, one_both, apart_first, apart_second, after_cons, rises_cons, at_cons_here, at_cons_apart, rows_of}
 
 module _ {K X R : Type 0} (before : K → K → Bool) (order : IsTotal before) (h : X → Option R) where
   rows_cons : (k : K) (o : Option R) (xs : List (K × R))

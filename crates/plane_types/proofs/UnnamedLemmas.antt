@@ -1,14 +1,13 @@
 -- A row that no item of a change names keeps its number and stays as it is.
-use Rattle.std.proofs.Common.{◌≡◌, ◌∙◌, ℕ, zero, suc, ◌+◌, ◌≤◌, ◌<◌, List, [], ◌∷◌, ◌++◌, map, length, Option, Some, None, Bool, true, false, true≢false, cond, not, refl, sym, ap, subst, slice_get, slice_set, remove, arith}
-use Rattle.std.specs.Prelude.{◌&&◌, ◌||◌, ⊤, if◌then◌else◌, nat_lt}
-use Rattle.std.proofs.lemmas.Bool.Decides.{nat_tests}
+use Rattle.std.proofs.Common.{◌≡◌, ◌∙◌, ℕ, zero, suc, List, [], ◌∷◌, Option, Some, None, Bool, true, false, true≢false, refl, sym, ap, subst, slice_get}
+use Rattle.std.specs.Prelude.{◌||◌, ⊤, if◌then◌else◌, nat_lt}
 use Rattle.api_types.specs.Ident.{Ident}
 use Rattle.api_types.specs.Edits.{FitsAt, list_after_at}
 use Rattle.api_types.specs.Table.{ident_eq}
 use Rattle.api_types.proofs.NameLemmas.{ident_itself}
-use Rattle.plane_types.specs.Keyed.{IsTotal, are_one, AllAfter, Rises, row_at}
-use Rattle.plane_types.specs.Numbered.{RowItem, rows_after, with_row, with_item, with_items, with_numbers, numbered_after}
-use Rattle.plane_types.proofs.KeyedLemmas.{three_ways, one_both, one_itself, apart_first, apart_second, none_after, after_chain}
+use Rattle.plane_types.specs.Keyed.{are_one, AllAfter, Rises, row_at}
+use Rattle.plane_types.specs.Numbered.{RowItem, with_item, with_items}
+use Rattle.plane_types.proofs.KeyedLemmas.{three_ways, one_itself, apart_first, apart_second}
 use Rattle.plane_types.proofs.NumberedLemmas.{number_order, plain, plain_item, AllBelow, item_rises, kept_remove, kept_set, kept_push}
 
 module _ {R : Type 0} (id_of : R → Ident) where

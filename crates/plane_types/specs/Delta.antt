@@ -1,10 +1,11 @@
 -- The edits of all tables of a host: what they lead to, how many rows they write, what room they
 -- need, and that they write no more rows than they have to.
 use Rattle.std.specs.Prelude.{◌≤◌, ℕ, ◌+◌, nat_lt, List}
+use Rattle.net_addr.specs.Words.{Text}
 use Rattle.plane_types.specs.Edits.{AreFew, all_puts, all_writes, with_edits}
 use Rattle.plane_types.specs.KeyedTables.{bridge_order, filter_order, keyed_bridge, keyed_filters, keyed_floats, keyed_inward, keyed_leases, keyed_neighbours, keyed_routers, keyed_routes, keyed_sets, keyed_tags, keyed_taps, neighbour_order, route_order, set_order}
 use Rattle.plane_types.specs.NumberedRows.{NumberedRows}
-use Rattle.plane_types.specs.Tables.{TableRoom}
+use Rattle.plane_types.specs.Room.{TableRoom}
 use Rattle.plane_types.specs.declared.delta.Delta.{Delta}
 use Rattle.plane_types.specs.declared.lists.TableLists.{TableLists}
 use Rattle.plane_types.specs.declared.table.TagRow.{TagRow}

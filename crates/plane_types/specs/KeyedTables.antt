@@ -1,6 +1,6 @@
 -- The tables of a host with the keys of their rows. The key of a row begins with the number of the
 -- row of the API from which it comes; a row of the maps, bridge and neighbours, has its own key.
-use Rattle.std.specs.Prelude.{ℕ, ◌==◌, ◌&&◌, ◌||◌, nat_lt, Bool, List, [], ◌++◌, map, Option, Some, None, find, flat_map, option_and_then, option_map, if◌then◌else◌}
+use Rattle.std.specs.Prelude.{ℕ, ◌==◌, ◌&&◌, ◌||◌, nat_lt, Bool, List, [], ◌++◌, map, Option, Some, None, find, flat_map, option_and_then, if◌then◌else◌}
 use Rattle.std.specs.List.{filter}
 use Rattle.net_addr.specs.Ordered.{addr_before}
 use Rattle.net_addr.specs.Prefixes.{Prefix}

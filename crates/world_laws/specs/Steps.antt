@@ -10,7 +10,7 @@ use Rattle.plane_types.specs.Verdicts.{fabric_verdict, made_at}
 use Rattle.plane_types.specs.declared.event.Event.{Event}
 use Rattle.plane_types.specs.declared.verdict.Made.{Made}
 use Rattle.plane_types.specs.Node.{Agent, after_change, after_forget, after_restart, after_resync}
-use Rattle.bus_core.specs.History.{History, accepted, change_at}
+use Rattle.bus_core.specs.History.{accepted, change_at}
 use Rattle.world_laws.specs.World.{AreSound, World, hosts_of}
 
 pub data Step : Type 0 where

@@ -1,4 +1,4 @@
-use Rattle.std.proofs.Common.{rules, ◌≡◌, ap, slice_index_or}
+use Rattle.std.proofs.Common.{rules, ◌≡◌, slice_index_or}
 use Rattle.plane_types.specs.Node.{Node, after_resync}
 use Rattle.lab_world.proofs.One.{done_at}
 use Rattle.lab_world.proofs.hosts.Hosts.resync.Goals as goal

@@ -1,4 +1,4 @@
-use Rattle.std.proofs.Common.{◌≡◌, ◌∙◌, ◌^◌, ◌<◌, ◌≤◌, List, length, arith, sym, ap, subst}
+use Rattle.std.proofs.Common.{◌≡◌, ◌∙◌, ◌^◌, ◌<◌, List, length, arith, sym, ap, subst}
 use Rattle.std.specs.Prelude.{Some, if◌then◌else◌}
 use Rattle.std.specs.HashMap.{get}
 use Rattle.plane_types.specs.Spare.{WithSpare}
