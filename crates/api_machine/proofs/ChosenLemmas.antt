@@ -106,7 +106,7 @@ eui_small : (mac : ℕ) → first_mac ≤ mac → mac < first_mac + 2 ^ 24 → (
 unfolding eui_number
 eui_small mac low high =
     let byte : mac / 2 ^ 40 ≡ 250 = omega (arith, low, high) in
-    let top : turned (mac / 2 ^ 40) ≡ 248 = ap turned byte in
+    let top : with_flipped_bit (mac / 2 ^ 40) ≡ 248 = ap with_flipped_bit byte in
     (omega (arith, top), omega (arith, top))
 
 pub eui_host : (s : SubnetRow) (mac : ℕ) → IsPrefix s.prefix → are_modes s ≡ true → is_eui s ≡ true → first_mac ≤ mac → mac < first_mac + 2 ^ 24 → is_host_of s.prefix (eui s.prefix mac) ≡ true

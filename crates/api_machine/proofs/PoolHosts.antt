@@ -136,7 +136,7 @@ overlaps_turned p q = by (contains p q.base) (contains q p.base)
 
 -- the address that a MAC address gives
 
-turned_small : (b : ℕ) → b < 256 → turned b < 256
+turned_small : (b : ℕ) → b < 256 → with_flipped_bit b < 256
 turned_small b small = by (b / 2 % 2 == 0) refl
   where
     by : (t : Bool) → (b / 2 % 2 == 0) ≡ t → (if t then b + 2 else b - 2) < 256
@@ -147,10 +147,10 @@ pub eui_bounds : (mac : ℕ) → mac < 2 ^ 48 → (0 < eui_number mac) × (eui_n
 unfolding eui_number
 eui_bounds mac small =
     let byte : mac / 2 ^ 40 < 256 = omega (arith, small) in
-    let t : turned (mac / 2 ^ 40) < 256 = turned_small (mac / 2 ^ 40) byte in
+    let t : with_flipped_bit (mac / 2 ^ 40) < 256 = turned_small (mac / 2 ^ 40) byte in
     let m : mac / 2 ^ 24 % 2 ^ 16 < 2 ^ 16 = omega arith in
     let l : mac % 2 ^ 24 < 2 ^ 24 = omega arith in
-    (omega arith, bounds (turned (mac / 2 ^ 40)) (mac / 2 ^ 24 % 2 ^ 16) (mac % 2 ^ 24) t m l)
+    (omega arith, bounds (with_flipped_bit (mac / 2 ^ 40)) (mac / 2 ^ 24 % 2 ^ 16) (mac % 2 ^ 24) t m l)
   where
     bounds : (a b d : ℕ) → a < 256 → b < 2 ^ 16 → d < 2 ^ 24 → a * 2 ^ 56 + b * 2 ^ 40 + 255 * 2 ^ 32 + 254 * 2 ^ 24 + d < 2 ^ 64
     bounds a b d ha hb hd = omega (arith, ha, hb, hd)
