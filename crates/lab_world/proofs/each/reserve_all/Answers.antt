@@ -11,7 +11,7 @@ loop-node-preserved c =
     let n : Node = c.node-item.result in
     let within : i < length c.loop-node.nodes = omega (arith, c.loop-node-test.true, c.loop-node.auto.nodes) in
     let at : slice_get c.loop-node.nodes i ≡ Some n = slice_get-get_or c.loop-node.nodes i n within ∙ ap Some (sym c.node-item.is) in (
-      same_agents c.loop-node.nodes i n c.reserve.new.self at c.reserve.ensures.agent ∙ c.loop-node.invariant.0,
+      same_agents c.loop-node.nodes i n c.reserve.new.self at (c.reserve.ensures.agent ∙ ap (λ (x : Node). x.agent) (sym c.node-item.is)) ∙ c.loop-node.invariant.0,
       each_more (λ (x : Node). 256 ≤ x.spare.entries) c.loop-node.nodes i c.reserve.new.self c.loop-node.invariant.1 c.in_ok-reserve.ensures.spare within,
     )
 
@@ -21,7 +21,7 @@ returns-in_err-reserve-clause-same c =
     let n : Node = c.node-item.result in
     let within : i < length c.loop-node.nodes = omega (arith, c.loop-node-test.true, c.loop-node.auto.nodes) in
     let at : slice_get c.loop-node.nodes i ≡ Some n = slice_get-get_or c.loop-node.nodes i n within ∙ ap Some (sym c.node-item.is) in
-    same_agents c.loop-node.nodes i n c.reserve.new.self at c.reserve.ensures.agent ∙ c.loop-node.invariant.0
+    same_agents c.loop-node.nodes i n c.reserve.new.self at (c.reserve.ensures.agent ∙ ap (λ (x : Node). x.agent) (sym c.node-item.is)) ∙ c.loop-node.invariant.0
 
 pub returns-clause-spare : goal.returns-clause-spare
 returns-clause-spare c = λ k x at.
