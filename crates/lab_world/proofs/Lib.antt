@@ -8,5 +8,6 @@ pub mod FrameLaws
 pub mod Keeping
 pub mod Planning
 pub mod MessageLaws
+pub mod LabLaws
 pub mod WorldLaws
 pub mod AskApart

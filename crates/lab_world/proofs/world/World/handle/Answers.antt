@@ -1,8 +1,10 @@
-use Rattle.std.proofs.Common.{◌∙◌, ◌≡◌, ap, sym}
+use Rattle.std.proofs.Common.{◌∙◌, ◌≡◌, ap, subst, sym}
+use Rattle.keeper_core.specs.Counts.{Tells}
 use Rattle.plane_types.specs.declared.ask.LabAnswer.TheVariants.{Seen}
 use Rattle.plane_types.specs.declared.ask.LabCall.TheVariants.{Frames}
 use Rattle.lab_world.specs.Lab.{Answered, lab_outcome}
 use Rattle.lab_world.proofs.FrameLaws.{answer_crosses, answer_let_in, answer_let_out, answer_means}
+use Rattle.lab_world.proofs.LabLaws.{answer_keeps_rows}
 use Rattle.lab_world.proofs.world.World.handle.Goals as goal
 
 pub returns-in-Ok-answer_lab-clause-frames : goal.returns-in-Ok-answer_lab-clause-frames
@@ -40,3 +42,7 @@ returns-in-Ok-answer_lab-clause-lets_out g c = λ event verdict is done synced.
     let answer_is : c.in-Ok-answer_lab.answer ≡ Seen verdict = cc in
     answer_let_out c.args.self.now handled.tells.0 c.args.caller.now event verdict c.rows-world.ensures.world
     (ap (lab_outcome c.args.self.now c.args.caller.now) (sym call_is) ∙ handled.tells.1 ∙ ap (λ a. Answered a handled.tells.0) answer_is) synced
+
+pub returns-in-Ok-answer_lab-clause-kept : goal.returns-in-Ok-answer_lab-clause-kept
+returns-in-Ok-answer_lab-clause-kept g c =
+    subst (Tells _) (sym (answer_keeps_rows _ _ _ _ _ c.in-Ok-answer_lab.ensures.ok)) c.requires.kept
