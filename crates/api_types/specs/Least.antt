@@ -1,7 +1,7 @@
 -- The least number that passes a test.
 use Rattle.std.specs.Prelude.{Bool, None, Option, Some, false, suc, true, zero, ℕ, ◌+◌}
 
--- the least number from the first on, of so many, that passes the test; no further one is tried
+-- the least of `count` numbers from the first on that passes the test; no further one is tried
 unfoldable pub least_from : (ℕ → Bool) → ℕ → ℕ → Option ℕ
 least_from test first zero = None
 least_from test first (suc many) =

@@ -55,7 +55,7 @@ default_rules name ordinal =
     default_rule name ordinal 2 Egress Ipv4 ∷ default_rule name ordinal 3 Egress Ipv6
     ∷ default_rule name ordinal 4 Ingress Ipv4 ∷ default_rule name ordinal 5 Ingress Ipv6 ∷ []
 
--- the rows with a new project of this ordinal, for which so many ids were drawn, and its group
+-- the rows with a new project of this ordinal, for which this many ids were drawn, and its group
 abbrev pub with_project : RowLists → Text → ℕ → ℕ → RowLists
 with_project rows name ordinal count = record rows {
   projects = rows.projects ++ record { name = name; ordinal = ordinal; count = count } ∷ [];
@@ -100,7 +100,7 @@ draw_at rows name many None =
     else None
 draw_at rows name many (Some place) = draw_for rows place many (slice_get rows.projects place)
 
--- so many ids drawn for the project with this name, which is registered first where it is new;
+-- this many ids drawn for the project with this name, which is registered first where it is new;
 -- none where a counter would pass its last value
 abbrev pub draw_of : RowLists → Text → ℕ → Option Drawing
 draw_of rows name many = draw_at rows name many (position (is_named name) rows.projects)

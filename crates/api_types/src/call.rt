@@ -33,7 +33,7 @@ pub struct Query {
     pub filters: Seq<Filter>,
     /// How many rows at most, 1 to 10,000.
     pub limit: Option<u32>,
-    /// The row behind which the list begins.
+    /// The row after which the list begins.
     pub marker: Option<IdText>,
     /// The members that are kept, or all where there are none.
     pub fields: Names,

@@ -113,7 +113,7 @@ impl Rows {
         })
     }
 
-    /// Equal rows, which share what they hold. Its cost is the same however many rows there are.
+    /// Equal rows, which share what they hold. Its cost doesn't grow with the rows.
     pub fn copy(&self, alloc: Global) -> Result<Rows, OutOfMemory>
         ensures { IfOk result (λ r. r ≡ self.now) }
     {

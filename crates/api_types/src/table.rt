@@ -62,7 +62,7 @@ impl<R: Keyed> Table<R> {
         self.by_id.get(&id)
     }
 
-    /// The row with this id. Its cost is the same however many rows there are.
+    /// The row with this id. Its cost doesn't grow with the rows.
     pub fn get(&self, id: Id) -> Option<&R>
         ensures { option_copied result ≡ row_of R.id_of id self.now }
     {
@@ -72,7 +72,7 @@ impl<R: Keyed> Table<R> {
         }
     }
 
-    /// The place of the row with this id. Its cost is the same however many rows there are.
+    /// The place of the row with this id. Its cost doesn't grow with the rows.
     pub fn place(&self, id: Id) -> Option<usize>
         ensures place { result ≡ place_of R.id_of id self.now }
         ensures row { option_and_then (slice_get self.now) result ≡ row_of R.id_of id self.now }
@@ -93,7 +93,7 @@ impl<R: Keyed> Table<R> {
     }
 
     /// Adds a row with a new id at a place, or leaves all as it is. Its cost grows with the rows
-    /// behind it.
+    /// after it.
     pub(crate) fn insert(&mut self, place: usize, row: Shared<R>) -> Result<(), OutOfMemory>
         requires within { place ≤ length self.old }
         requires new_id { row_of R.id_of (R.id_of row) self.old ≡ None }

@@ -80,7 +80,7 @@ line_behind command words =
     else if bytes_eq command (codes "drill") then drill_line words
     else None
 
--- what the words behind the program's name give, where they are a command line
+-- what the words after the program's name give, where they are a command line
 abbrev pub line_of : List Text → Option Line
 line_of [] = None
 line_of (command ∷ words) = line_behind command words

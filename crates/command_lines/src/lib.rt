@@ -1,4 +1,4 @@
-//! Command lines: the words behind the program's name.
+//! Command lines: the words after the program's name.
 //!
 //! `read_line` reads them. `clap` parses the words of each command, and what the product asks
 //! beside that is tested here. `specs/Lines` says which words are a command line, and what each one

@@ -107,8 +107,8 @@ fn line_with<'a>(alloc: Global, command: &str, words: &'a [&'a str]) -> Result<L
     Err(Refusal::Wrong)
 }
 
-/// The command line that the words behind the program's name are. `Wrong` comes exactly where they
-/// are none, unless memory is wanting. Its cost grows with the words and their lengths.
+/// The command line that the words after the program's name are. `Wrong` comes exactly where they
+/// are none, or where memory runs out. Its cost grows with the words and their lengths.
 pub fn read_line(alloc: Global, words: &[Text]) -> Result<Line, Refusal>
     ensures { IsAnswer result (line_of words.now) }
 {

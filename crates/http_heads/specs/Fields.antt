@@ -78,7 +78,7 @@ length_told Bad = 0
 unfoldable pub body_length : RequestHead → ℕ
 body_length head = length_told (told_length (fields_of head))
 
--- the connection ends behind the reply: version 1.0, or the option `close`
+-- the connection ends after the reply: version 1.0, or the option `close`
 unfoldable pub closes : RequestHead → Bool
 closes head =
     head.minor == 0

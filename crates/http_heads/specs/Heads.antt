@@ -9,7 +9,7 @@ use Rattle.http_heads.specs.Fields.{own_refusal, body_length}
 abbrev pub IsNoHead : Bytes → Type 0
 IsNoHead bytes = (head : RequestHead) → ReadsRequest bytes head [] → ⊥
 
--- behind the empty lines that may come first no line feed has come
+-- no line feed has come after the empty lines that may come first
 abbrev pub IsInFirstLine : Bytes → Type 0
 IsInFirstLine bytes = line_feeds (behind_blank bytes) ≡ 0
 
@@ -19,7 +19,7 @@ CanFollow bytes =
     ((more : Bytes) × (head : RequestHead) × ReadsRequest (bytes ++ more) head [])
     ⊎ IsInFirstLine bytes
 
--- the bytes have the most bytes of a head, or more than 64 whole field lines behind the first line
+-- the bytes have the most bytes of a head, or more than 64 whole field lines after the first line
 abbrev pub IsLarge : Bytes → Type 0
 IsLarge bytes = (16384 ≤ length bytes) ⊎ (65 < line_feeds (behind_blank bytes))
 

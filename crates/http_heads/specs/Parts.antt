@@ -14,7 +14,7 @@ is_question_mark b = b == 63
 abbrev pub path_of : Bytes → Bytes
 path_of target = before_first is_question_mark target
 
--- the query of a target: what is behind the first question mark
+-- the query of a target: what is after the first question mark
 abbrev pub query_of : Bytes → Bytes
 query_of target = after_first is_question_mark target
 

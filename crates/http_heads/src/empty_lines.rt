@@ -7,7 +7,7 @@ use crate::HEAD_LIMIT;
 
 /// How many bytes at the front are whole empty lines, `\n` or `\r\n`, of the first 16,383 bytes.
 ///
-/// They decide nothing, so a head may be looked for behind them (`resume_head`). `from` is 0, or an
+/// They decide nothing, so a head may be looked for after them (`resume_head`). `from` is 0, or an
 /// earlier answer for fewer of these bytes: those that it counts aren't looked at again.
 pub fn skip_empty_lines(buffer: &[u8], from: usize) -> usize
     requires { AreEmptyLines buffer.now from }

@@ -23,7 +23,7 @@ pub struct HeadParts {
     pub method: Part,
     /// The target up to the first question mark.
     pub path: Part,
-    /// What is behind the first question mark, or nothing.
+    /// What is after the first question mark, or nothing.
     pub query: Part,
     /// The value of `X-Project-Id`, where there is exactly one such field.
     pub project: Option<Part>,
@@ -42,7 +42,7 @@ pub enum HeadRead {
         length: u64,
         /// Where the body begins.
         body: usize,
-        /// Whether the connection ends behind the reply.
+        /// Whether the connection ends after the reply.
         close: bool,
         parts: HeadParts,
     },
@@ -55,9 +55,9 @@ pub enum HeadRead {
 /// What the first prefix that says something says of the bytes that have come.
 ///
 /// A prefix is judged where it ends with a line feed or has 16,384 bytes; `ended` tells that no
-/// more bytes come. It takes no memory and copies nothing. Empty lines that come first are passed,
+/// more bytes come. It allocates and copies nothing. Empty lines that come first are passed,
 /// and prefixes of them aren't judged, but for one of 16,384 bytes. Behind them at most 66 prefixes
-/// are judged, each read from its front: the cost is at most so many times that of the bytes.
+/// are judged, each read from its front: the cost is at most that many times that of the bytes.
 pub fn read_head(buffer: &[u8], ended: bool) -> HeadRead
     requires { ended ≡ true → 0 < length buffer.now }
     ensures is { IsHeadRead buffer.now ended result }
@@ -71,7 +71,7 @@ pub fn read_head(buffer: &[u8], ended: bool) -> HeadRead
 
 /// The same of bytes of which the first `from` decide nothing, as an earlier look at them told.
 ///
-/// Only prefixes that end behind those are judged. So a head that comes in pieces, each of which is
+/// Only prefixes that end after those are judged. So a head that comes in pieces, each of which is
 /// looked at as it comes, has each of its prefixes judged once, as a head that comes whole. The
 /// first `empty` bytes are empty lines, as `skip_empty_lines` counts them, and `from` is no less:
 /// so no prefix of empty lines is judged but one of 16,384 bytes.

@@ -49,7 +49,7 @@ fn judge(prefix: &[u8], empty: usize, fields: &mut [HeaderSpan]) -> Judged
     }
 }
 
-// Whether the prefix that ends behind a byte is judged.
+// Whether the prefix that ends after a byte is judged.
 fn is_judged(buffer: &[u8], at: usize) -> bool
     requires within { at < length buffer.now }
     requires short { at < 16384 }
@@ -58,7 +58,7 @@ fn is_judged(buffer: &[u8], at: usize) -> bool
     at + 1 == HEAD_LIMIT || buffer[at] == b'\n'
 }
 
-// Judges the prefix that ends behind a byte, if it is judged.
+// Judges the prefix that ends after a byte, if it is judged.
 pub(crate) fn judge_at(buffer: &[u8], empty: usize, at: usize, fields: &mut [HeaderSpan]) -> Judged
     requires empty { AreEmptyLines buffer.now empty }
     requires behind { empty ≤ at }

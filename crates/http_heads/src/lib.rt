@@ -3,7 +3,7 @@
 //! `read_head` looks at the bytes that have come and tells a whole head with its parts, a refusal, or
 //! that more is awaited. It stands on `httparse`, whose grammar its definitions cite. It promises
 //! that the first prefix that says something decides, and that what is decided stays decided,
-//! whatever follows. It takes no memory and copies nothing.
+//! whatever follows. It allocates and copies nothing.
 #![tactic(auto)]
 
 mod empty_lines;

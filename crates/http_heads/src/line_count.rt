@@ -15,7 +15,7 @@ pub(crate) fn is_large(prefix: &[u8], empty: usize) -> bool
     prefix.len() >= HEAD_LIMIT || lines(prefix, empty) > 65
 }
 
-// Whether no line feed comes behind the empty lines.
+// Whether no line feed comes after the empty lines.
 pub(crate) fn is_in_first_line(prefix: &[u8], empty: usize) -> bool
     requires { AreEmptyLines prefix.now empty }
     ensures { IsTrue result ↔ (line_feeds (behind_blank prefix.now) ≡ 0) }
@@ -23,7 +23,7 @@ pub(crate) fn is_in_first_line(prefix: &[u8], empty: usize) -> bool
     lines(prefix, empty) == 0
 }
 
-// How many lines come behind the empty ones, of which the first bytes are some.
+// How many lines come after the empty ones, of which the first bytes are some.
 fn lines(prefix: &[u8], empty: usize) -> usize
     requires { AreEmptyLines prefix.now empty }
     ensures { result ≡ line_feeds (behind_blank prefix.now) }

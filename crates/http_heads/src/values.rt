@@ -90,7 +90,7 @@ fn all_digits(text: &[u8]) -> bool
     text.iter().all(|b| b.is_ascii_digit())
 }
 
-// Whether a text is 1 to so many digits.
+// Whether a text is 1 to this many digits.
 fn is_short_number(text: &[u8], most: usize) -> bool
     ensures { result ≡ is_number most text.now }
 {

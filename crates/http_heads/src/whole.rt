@@ -115,7 +115,7 @@ fn parts_of(buffer: &[u8], fields: &[HeaderSpan], spans: &RequestSpans) -> HeadP
     }
 }
 
-// Whether the connection ends behind the reply.
+// Whether the connection ends after the reply.
 fn is_last(version: u8, buffer: &[u8], fields: &[HeaderSpan]) -> bool
     requires { All (IsHeaderWithin (length buffer.now)) fields.now }
     ensures { result

@@ -50,7 +50,7 @@ NumberGoesOn parts value top m text n =
     × (decimal whole ≡ decimal m ++ more) × (text ≡ more ++ rest)
     × Spells parts (value * 256 + whole) rest n
 
--- a group whose first digits, so many, write m is under way, and `parts` come after it
+-- a group is under way whose first digits, that many, write m, and `parts` come after it
 abbrev pub GroupGoesOn : List Part → ℕ → ℕ → ℕ → Text → ℕ → Type 0
 GroupGoesOn parts value count m text n =
     (more : Text) × (rest : Text) × (count + length more ≤ 4) × AllDigits 16 more
@@ -107,7 +107,7 @@ abbrev pub IsRead : (Text → ℕ → Type 0) → Text → Result ℕ BadAddress
 IsRead P text (Ok v) = P text v
 IsRead P text (Err e) = ((n : ℕ) → ¬ P text n) × IsLongestStart (λ t. (n : ℕ) × P t n) text e.at
 
--- the texts of version 6 with all groups, and those with `::` after so many groups, or after any
+-- the texts of version 6 with all groups, and those with `::` after a number of groups, or after any
 -- number of them
 unfoldable pub SpellsWhole : Bool → Text → ℕ → Type 0
 SpellsWhole has_tail text n = Spells (end_parts has_tail (group_count has_tail)) 0 text n

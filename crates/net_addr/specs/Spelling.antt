@@ -16,7 +16,7 @@ use Rattle.net_addr.specs.declared.spelling.Part.TheVariants.{Number, Digit, Mar
 
 -- the text has these parts in order, and n is `start` with their numbers after it: decimal ones
 -- in base 2^8, hexadecimal digits in base 2^4, groups of one to four of them in base 2^16, and for
--- a gap so many groups of zeros (`decimal m` is m without leading zeros; `digit_value` reads
+-- a gap that many groups of zeros (`decimal m` is m without leading zeros; `digit_value` reads
 -- digits in either case)
 unfoldable pub Spells : List Part → ℕ → Text → ℕ → Type 0
 Spells [] start text n = (text ≡ []) × (n ≡ start)
@@ -50,17 +50,17 @@ mac_parts =
     Digit ∷ Digit ∷ Mark 58 ∷ Digit ∷ Digit ∷ Mark 58 ∷ Digit ∷ Digit ∷ Mark 58
     ∷ Digit ∷ Digit ∷ Mark 58 ∷ Digit ∷ Digit ∷ Mark 58 ∷ Digit ∷ Digit ∷ []
 
--- so many groups, each with a colon after it
+-- a number of groups, each with a colon after it
 abbrev pub groups_before : ℕ → List Part
 groups_before zero = []
 groups_before (suc k) = Group ∷ Mark 58 ∷ groups_before k
 
--- so many groups with colons between
+-- a number of groups with colons between
 abbrev pub row_parts : ℕ → List Part
 row_parts zero = []
 row_parts (suc k) = groups_before k ++ (Group ∷ [])
 
--- so many groups, and an IPv4 text after them if there is a tail
+-- a number of groups, and an IPv4 text after them if there is a tail
 abbrev pub end_parts : Bool → ℕ → List Part
 end_parts false k = row_parts k
 end_parts true k = groups_before k ++ address_parts
@@ -70,7 +70,7 @@ abbrev pub group_count : Bool → ℕ
 group_count false = 8
 group_count true = 6
 
--- `::` between so many groups and so many, for all the others
+-- `::` between the groups before and those after, for all the others
 abbrev pub shortened_parts : Bool → ℕ → ℕ → List Part
 shortened_parts has_tail left right =
     row_parts left

@@ -33,7 +33,7 @@ fn trailing_bits(x: u128, behind: u8) -> u128
     x % (1 << behind)
 }
 
-// The greatest number of so many bits.
+// The greatest number of this many bits.
 fn ones(bits: u8) -> u128
     requires { bits ≤ 128 }
     ensures { result ≡ 2 ^ bits - 1 }

@@ -132,7 +132,7 @@ fn read_whole(has_tail: bool, text: &[u8]) -> Result<u128, BadAddress>
     read_parts(form.as_slice(), text)
 }
 
-// The address of a text with `::` after so many groups.
+// The address of a text with `::` after this many groups.
 fn read_behind(left: u8, has_tail: bool, text: &[u8]) -> Result<u128, BadAddress>
     requires { left < group_count has_tail }
     ensures { IsRead (SpellsBehind has_tail left) text.now result }

@@ -37,7 +37,7 @@ pub(crate) enum Part {
     Mark(u8),
     // One to four hexadecimal digits, in either case: 16 bits.
     Group,
-    // A colon that stands for so many groups of zeros.
+    // A colon that stands for this many groups of zeros.
     Gap(u8),
 }
 
@@ -144,7 +144,7 @@ fn begin_group<'a>(rest: &'a [Part], value: u128, c: u8) -> Option<Reading<'a>>
     })
 }
 
-// The value with so many groups of zeros behind it.
+// The value with this many groups of zeros after it.
 fn with_zeros(value: u128, count: u8) -> u128
     requires { value * 2 ^ (16 * count) < 2 ^ 128 }
     ensures { result ≡ value * 2 ^ (16 * count) }
@@ -203,7 +203,7 @@ fn grow(decimal: Decimal, digit: u8) -> Option<Decimal>
     })
 }
 
-// One more byte behind a number under way.
+// One more byte after a number under way.
 fn go_on_number<'a>(parts: &'a [Part], value: u128, decimal: Decimal, c: u8) -> Option<Reading<'a>>
     requires { IsReading parts.now value (InNumber decimal) }
     ensures { Takes (NumberGoesOn parts.now value decimal.top decimal.number) c result }
@@ -219,7 +219,7 @@ fn go_on_number<'a>(parts: &'a [Part], value: u128, decimal: Decimal, c: u8) -> 
     })
 }
 
-// One more byte behind a group under way.
+// One more byte after a group under way.
 fn go_on_group<'a>(parts: &'a [Part], value: u128, digits: Digits, c: u8) -> Option<Reading<'a>>
     requires { IsReading parts.now value (InGroup digits) }
     ensures { Takes (GroupGoesOn parts.now value digits.count digits.number) c result }

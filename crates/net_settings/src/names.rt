@@ -39,7 +39,7 @@ fn are_name_bytes(text: &str) -> bool
     text.as_bytes().iter().all(|b| is_name_byte(*b))
 }
 
-/// Whether a text is a name of at most so many characters.
+/// Whether a text is a name of at most this many characters.
 pub(crate) fn is_name(text: &str, most: usize) -> bool
     ensures { result ≡ is_name most text.now }
 {
@@ -49,7 +49,7 @@ pub(crate) fn is_name(text: &str, most: usize) -> bool
     are_name_bytes(text)
 }
 
-/// Whether all are names of at most so many characters.
+/// Whether all are names of at most this many characters.
 pub(crate) fn are_names(texts: &[Text], most: usize) -> bool
     ensures { result ≡ list_all (is_name most) texts.now }
 {

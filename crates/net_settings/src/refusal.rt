@@ -18,7 +18,7 @@ pub enum SettingsRefusal {
 }
 
 impl SettingsRefusal {
-    /// The refusal that names a key, or want of memory for the key's text.
+    /// The refusal that names a key, or out of memory for the key's text.
     pub(crate) fn named(alloc: Global, key: &str) -> SettingsRefusal
         ensures { IsNamed key.now result }
     {

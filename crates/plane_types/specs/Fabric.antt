@@ -136,14 +136,14 @@ next_position hosts on h run (ToWire w n toward frame) =
 abbrev pub fate_after : List Host → Going → Host → Place → Run → Stepped → FabricFate
 fate_after hosts on h place run s = next_position hosts on h (after_step h place s run) s.step
 
--- so many steps
+-- that many steps
 unfoldable pub walk : List Host → ℕ → Host → Place → Run → FabricFate
 walk hosts zero h place run = fate_of_run run (Dropped Unknown)
 walk hosts (suc many) h place run =
     fate_after hosts (walk hosts many) h place run
     (table_step h.tables (h.entries ++ run.fresh) place)
 
--- the steps of a packet that passes so many routers: three for each, and three to the port
+-- the steps of a packet that passes that many routers: three for each, and three to the port
 unfoldable pub steps_for : ℕ → ℕ
 steps_for many = 3 * many + 3
 

@@ -121,7 +121,7 @@ fate_at_port rows entries on q p t =
     if is_router_port q.owner then at_router rows entries on q p t (router_of rows q)
     else at_receiver rows entries q p t
 
--- a port gets a packet, which may pass so many routers
+-- a port gets a packet, which may pass that many routers
 unfoldable pub port_fate : RowLists → List Entry → ℕ → PortRow → Packet → Trace → Fate
 port_fate rows entries zero q p t = drop_fate t Unknown
 port_fate rows entries (suc many) q p t =

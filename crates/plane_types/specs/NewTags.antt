@@ -28,7 +28,7 @@ tagged_networks rows host =
 unfoldable pub kept_tags : List TagRow → List Ident → List ℕ
 kept_tags old networks = filter_map (tag_of old) networks
 
--- so many numbers, from the first on
+-- this many numbers, from the first on
 unfoldable pub numbers : ℕ → ℕ → List ℕ
 numbers first zero = []
 numbers first (suc many) = first ∷ numbers (first + 1) many

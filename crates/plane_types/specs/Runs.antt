@@ -1,5 +1,5 @@
--- In which part of a list the elements stand that pass a test, where the part was found before so
--- many elements were put in and so many taken out: none is before it, and none after it.
+-- In which part of a list the elements stand that pass a test, where the part was found before
+-- elements were put in and taken out: none is before it, and none after it.
 use Rattle.std.specs.Prelude.{◌≡◌, ℕ, ◌+◌, ◌-◌, ◌^◌, ◌<◌, ◌≤◌, max, min, Bool, List, [], Option, Some, None, take, drop}
 use Rattle.std.specs.List.{filter}
 use Rattle.plane_types.specs.declared.run.Run.{Run}

@@ -30,13 +30,13 @@ pub enum LabCall {
     Explain(Event),
     /// A host gets the change with this number.
     Deliver { host: Text, number: u64 },
-    /// A host gets the rows of now.
+    /// A host gets the current rows.
     Resync(Text),
     /// A host forgets which change it has.
     Restart(Text),
     /// A host forgets its tracked entries.
     Forget(Text),
-    /// Each host that doesn't have the rows of now gets them.
+    /// Each host that doesn't have the current rows gets them.
     Settle,
     /// The hosts, and what they have.
     Hosts,

@@ -24,7 +24,7 @@ impl SpareVec<Entry> {
     }
 
     /// Drops the entries of ports without a tap by these tables, and of routers that they haven't.
-    /// It takes no memory. Its cost grows with the entries.
+    /// It allocates nothing. Its cost grows with the entries.
     pub fn keep_attached(&mut self, tables: &HostTables)
         ensures items { self.new.items ≡ filter (is_attached_at tables.now.lists) self.old.items }
         ensures spare { self.old.spare ≤ self.new.spare }

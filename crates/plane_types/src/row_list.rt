@@ -106,7 +106,7 @@ fn apply_edit<T: RowList, L: Ledger>(rows: &mut T, edit: Edit<T::Row>, steps: &m
 }
 
 /// Puts edits in, one after the other. Each row that is taken out and each that is put in is a
-/// step. It takes no memory. Its cost grows with the edits, and with the rows after each place.
+/// step. It allocates nothing. Its cost grows with the edits, and with the rows after each place.
 pub(crate) fn apply_edits<T: RowList, L: Ledger>(
     rows: &mut T,
     edits: Edits<T::Row>,

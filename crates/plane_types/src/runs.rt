@@ -79,7 +79,7 @@ fn stretch(run: Run, place: usize) -> Run
 }
 
 // Makes the run of a key reach over a place, where it has one, and be that place otherwise. It
-// takes no memory.
+// allocates nothing.
 fn reach<K: Eq + Hash + Copy>(runs: &mut HashMap<K, Run>, key: K, place: usize)
     requires room { 0 < spare runs.old }
     requires within { place < 2 ^ 64 - 1 }
@@ -246,7 +246,7 @@ impl<R: Keyed> Runs<R> {
         }
     }
 
-    /// The first row with the key. Its cost is the same however many rows there are.
+    /// The first row with the key. Its cost doesn't grow with the rows.
     #[tactic(auto, using(crate::proofs::RunLemmas::found_near))]
     pub(crate) fn at(&self, key: R::Key) -> Option<&R>
         ensures { option_copied result ≡ find (R.is_at key) self.now.items }
@@ -254,7 +254,7 @@ impl<R: Keyed> Runs<R> {
         first_at(self.near(key), key)
     }
 
-    /// Whether a row has the key. Its cost is the same however many rows there are.
+    /// Whether a row has the key. Its cost doesn't grow with the rows.
     #[tactic(auto, using(crate::proofs::RunLemmas::any_alike))]
     pub(crate) fn has(&self, key: R::Key) -> bool
         ensures { result ≡ list_any (R.is_at key) self.now.items }
@@ -281,7 +281,7 @@ impl<R: Keyed> Runs<R> {
         Ok(())
     }
 
-    /// Makes room for so many more rows. Its cost grows with the rows after many edits alone.
+    /// Makes room for that many more rows. Its cost grows with the rows after many edits alone.
     pub(crate) fn make_room(&mut self, alloc: Global, more: usize) -> Result<(), OutOfMemory>
         ensures items { self.new.items ≡ self.old.items }
         ensures spare { OnOk result (more ≤ self.new.spare) }

@@ -40,7 +40,7 @@ impl<T> SpareVec<T> {
         SpareVec { items }
     }
 
-    /// Makes room for so many more.
+    /// Makes room for that many more.
     pub fn reserve(&mut self, more: usize) -> Result<(), OutOfMemory>
         ensures items { self.new.items ≡ self.old.items }
         ensures spare { OnOk result (more ≤ self.new.spare) }
@@ -49,7 +49,7 @@ impl<T> SpareVec<T> {
         Ok(())
     }
 
-    /// Adds an item at the end. It takes no memory.
+    /// Adds an item at the end. It allocates nothing.
     pub fn add(&mut self, item: T)
         requires { 0 < self.old.spare }
         ensures items { self.new.items ≡ self.old.items ++ item ∷ [] }
@@ -74,7 +74,7 @@ impl<T> SpareVec<T> {
         }
     }
 
-    /// Puts an item in at a place, or at the end where the place is past it. It takes no memory.
+    /// Puts an item in at a place, or at the end where the place is past it. It allocates nothing.
     #[tactic(auto, using(crate::proofs::RunEdits::insert_last))]
     pub(crate) fn put(&mut self, place: usize, item: T)
         requires { 0 < self.old.spare }

@@ -60,7 +60,7 @@ impl<'t> TagMap<'t> {
         })
     }
 
-    /// The tag of a network. Its cost is the same however many tags there are.
+    /// The tag of a network. Its cost doesn't grow with the tags.
     pub fn tag_of(&self, network: Id) -> Option<u16>
         ensures { result ≡ tag_given self.now network }
     {

@@ -22,7 +22,7 @@ pub enum DropCause {
     Unknown,
     /// Nobody has the address.
     NoHolder,
-    /// Nobody leases, or has nothing for the sender.
+    /// No DHCP server is there, or it has no lease for the sender.
     NoLease,
     /// The router is down.
     RouterDown,
