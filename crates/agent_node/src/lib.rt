@@ -3,8 +3,8 @@
 //!
 //! An `AgentNode` is told changes one after the other, by `deliver`: it puts the one that follows
 //! what it holds into its rows and wires them, and leaves all others. It is given rows whole by
-//! `make` and `resync`, or by `prepare_resync` and then `put`, which takes no memory. `restart` makes
-//! it hold nothing, `forget` empties its entries. At every moment between calls its rows are
+//! `make` and `resync`, or by `prepare_resync` and then `put`, which allocates nothing. `restart`
+//! makes it hold nothing, `forget` empties its entries. At every moment between calls its rows are
 //! consistent, its tables are those that the rows give to the host, and each entry is of a tap or
 //! router in these tables. A network keeps its tag from one wiring to the next. It stands on
 //! `l2_agent`, `l3_agent` and `dhcp_agent`, which make the tables. Want of memory is its only

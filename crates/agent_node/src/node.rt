@@ -90,7 +90,7 @@ impl AgentNode {
         })
     }
 
-    /// What a resync with these rows would put in place. All stays as it is. Its cost is that of
+    /// What a resync with these rows would put in place. Nothing changes. Its cost is that of
     /// wiring and of a copy of the rows.
     pub fn prepare_resync(
         &self,
@@ -108,7 +108,7 @@ impl AgentNode {
 
     /// Puts in place what was made ready for this host and the tags that it has. Its version is
     /// then held. Entries without a tap or router in the new tables are dropped, and the others
-    /// stay in their order. It takes no memory. Its cost grows with the entries.
+    /// stay in their order. It allocates nothing. Its cost grows with the entries.
     pub fn put(&mut self, ready: ReadyNode)
         requires name { ready.name ≡ self.old.agent.name }
         requires tags { ready.old ≡ self.old.agent.tables.tags }
@@ -145,7 +145,7 @@ impl AgentNode {
         Ok(())
     }
 
-    // What the next change would put in place. All stays as it is. Its cost is that of wiring and of
+    // What the next change would put in place. Nothing changes. Its cost is that of wiring and of
     // a copy of the rows.
     fn prepare_next(
         &self,
@@ -165,9 +165,9 @@ impl AgentNode {
         ReadyNode::of(alloc, name, number, rows, tags)
     }
 
-    /// Tells the host the change with a number. Where that is the next one behind what the host
+    /// Tells the host the change with a number. Where that is the next one after what the host
     /// holds, the change is put into the wired rows, these are wired, and the number is then held.
-    /// Else nothing changes. Its cost is that of wiring and of a copy of the rows, and grows with
+    /// Otherwise nothing changes. Its cost is that of wiring and of a copy of the rows, and grows with
     /// the entries.
     pub fn deliver(
         &mut self,
@@ -196,14 +196,14 @@ impl AgentNode {
         Ok(Heard::Applied { held: number })
     }
 
-    /// Nothing is held from now on. All else stays. It takes no memory.
+    /// Nothing is held from now on. Nothing else changes. It allocates nothing.
     pub fn restart(&mut self)
         ensures { self.new ≡ record self.old { agent = after_restart self.old.agent } }
     {
         self.held = None;
     }
 
-    /// Drops all entries. All else stays. It takes no memory.
+    /// Drops all entries. Nothing else changes. It allocates nothing.
     pub fn forget(&mut self)
         ensures agent { self.new.agent ≡ after_forget self.old.agent }
         ensures spare { self.old.spare.entries ≤ self.new.spare.entries }
@@ -251,7 +251,7 @@ impl AgentNode {
         &self.rows
     }
 
-    /// Makes room for the entries of one event, at most 256. All else stays.
+    /// Makes room for the entries of one event, at most 256. Nothing else changes.
     pub fn reserve(&mut self, alloc: Global) -> Result<(), OutOfMemory>
         ensures agent { self.new.agent ≡ self.old.agent }
         ensures tables { self.new.spare.tables ≡ self.old.spare.tables }
@@ -260,7 +260,7 @@ impl AgentNode {
         self.entries.reserve(EVENT_ENTRIES)
     }
 
-    /// Adds an entry at the end. It takes no memory.
+    /// Adds an entry at the end. It allocates nothing.
     pub fn add(&mut self, entry: Entry)
         requires room { 0 < self.old.spare.entries }
         requires placed { IsAttached

@@ -64,7 +64,7 @@ disjoint_broken rows =
     (breaks 6 Port (λ r. r.id)
     (λ r. not (list_any (ports_clash rows.routers rows.subnets r) rows.ports)) rows.ports)
 
--- a network too many is the first one behind the greatest number
+-- a network too many is the first one after the greatest number
 unfoldable pub too_many : List NetworkRow → Option ℕ
 too_many networks = if nat_lt most_networks (length networks) then Some most_networks else None
 

@@ -67,9 +67,9 @@ fn first_of(rows: &Rows, settings: &Settings) -> Option<Inconsistent>
     broken_route(rows)
 }
 
-/// The first broken clause with the first row that breaks it, kinds in the order of `Kind`, or None
-/// where the rows are consistent. It takes no memory, and its cost grows with the square of the
-/// rows.
+/// The first broken clause with the first row that breaks it, kinds in the order of `Kind`, or
+/// None where the rows are consistent. It allocates nothing, and its cost grows with the square of
+/// the rows.
 pub fn first_broken(rows: &Rows, settings: &Settings) -> Option<Inconsistent>
     ensures first { result ≡ first_broken_of settings.now.hosts rows.now }
     ensures none { (result ≡ None) ↔

@@ -3,8 +3,8 @@
 //! `first_broken` tells the first of the fourteen clauses that rows break, with the first row that
 //! breaks it, or none where the rows are consistent. A store is to be put into service only after
 //! this test. Single rows are tested by `api_check_rows` and `api_check_services`, and whether a
-//! port's host can carry its network by `api_ml2`. It takes no memory, so most tests look through a
-//! list for each row.
+//! port's host can carry its network by `api_ml2`. It allocates nothing, so most tests look
+//! through a list for each row.
 #![tactic(auto)]
 
 mod broken;

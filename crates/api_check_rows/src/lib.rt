@@ -2,8 +2,8 @@
 //!
 //! Each call tells whether a row meets a clause of consistency among the rows that stand: whether
 //! its id is drawn and its own, what it names is there, its values are in form, and nobody else
-//! holds its addresses or its segment. It stands on the rows of `api_types`, takes no memory, and
-//! answers each question by its definition.
+//! holds its addresses or its segment. It stands on the rows of `api_types`, allocates nothing,
+//! and answers each question by its definition.
 #![tactic(auto)]
 
 mod disjoint;

@@ -32,7 +32,7 @@ pub fn is_numbered_project(
                 && (place as u64 + 1 < 0x1_0000_0000 && !project.name.is_empty())))
 }
 
-// How often an id is in a table. Its cost is the same however many rows there are.
+// How often an id is in a table. Its cost doesn't grow with the rows.
 #[tactic(auto, using(crate::proofs::Found::found_once, crate::proofs::Found::found_never))]
 fn times_in<R: Keyed>(table: &Table<R>, id: Id) -> u8
     ensures times { result ≡ times R.id_of id table.now }

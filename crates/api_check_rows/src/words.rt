@@ -7,7 +7,7 @@ ghost use Rattle.api_types.specs.Consistent.Named.{is_registered as registered_i
 use api_types::{Id, Keyed, ProjectRow, Shared, Table};
 use net_addr::Text;
 
-/// Whether a row with this id is there. Its cost is the same however many rows there are.
+/// Whether a row with this id is there. Its cost doesn't grow with the rows.
 #[tactic(auto, using(crate::proofs::Found::found, crate::proofs::Found::not_found))]
 pub fn has<R: Keyed>(table: &Table<R>, id: Id) -> bool
     ensures { result ≡ stands R.id_of id table.now }

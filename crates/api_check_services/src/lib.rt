@@ -3,7 +3,7 @@
 //! Each call tells whether a row meets a clause of consistency among the rows that stand: whether
 //! the ports of a service are those that it should have, a floating address leads to its port,
 //! groups are a project's own, networks are permitted, and routes reach their next hops. It stands
-//! on the rows of `api_types`, takes no memory, and answers each question by its definition.
+//! on the rows of `api_types`, allocates nothing, and answers each question by its definition.
 #![tactic(auto)]
 
 mod floating;

@@ -37,7 +37,7 @@ fn wants_dhcp(subnets: &[Shared<SubnetRow>], network: Id) -> bool
 }
 
 /// Whether a network has as many DHCP ports as it should: one where a subnet of it has DHCP
-/// enabled, and else none. Its cost grows with the ports and the subnets.
+/// enabled, and otherwise none. Its cost grows with the ports and the subnets.
 pub fn is_served_network(rows: &Rows, network: &NetworkRow) -> bool
     ensures { result ≡ network_served rows.now network.now }
 {

@@ -131,7 +131,7 @@ abbrev pub named_subnets : List FixedAsked → List Ident
 named_subnets items = filter_map (λ (item : FixedAsked). item.subnet) items
 
 -- an item without an address takes the port's first old one of the subnet that isn't in the list
--- yet, and else the one that the MAC address gives, where it gives one
+-- yet, and otherwise the one that the MAC address gives, where it gives one
 abbrev pub old_address : List Fixed → List Addr → SubnetRow → Option Addr
 old_address old taken s =
     option_map (λ (f : Fixed). f.address)

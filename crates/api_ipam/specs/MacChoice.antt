@@ -16,7 +16,7 @@ first_mac = 0xfa16_3e00_0000
 abbrev pub free_mac : List PortRow → Ident → Option MacAddress
 free_mac ports network = least_from (λ m. not (is_mac_held ports network m)) first_mac (2 ^ 24)
 
--- a MAC address where a port is made, and else none
+-- a MAC address where a port is made, and otherwise none
 abbrev pub mac_if : Bool → List PortRow → Ident → Option MacAddress
 mac_if false ports network = Some 0
 mac_if true ports network = free_mac ports network

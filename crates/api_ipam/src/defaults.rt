@@ -10,7 +10,7 @@ use crate::least::number_of;
 use net_addr::{Addr, OutOfMemory, Prefix, Seq, Span, Spans};
 use std::alloc::Global;
 
-/// The first address behind the one that names the network.
+/// The first address after the one that names the network.
 pub fn default_gateway(prefix: Prefix) -> Addr
     requires { prefix.len ≤ longest_of prefix.base }
     ensures { result ≡ default_gateway_of prefix }

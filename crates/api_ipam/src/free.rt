@@ -124,7 +124,7 @@ fn any_of_each(
     Ok(Some(joined(fours, sixes.as_slice())?))
 }
 
-// The addresses that the MAC address gives in the subnets, so many at most.
+// The addresses that the MAC address gives in the subnets, this many at most.
 fn few_euis(
     alloc: Global,
     subnets: &[Shared<SubnetRow>],
@@ -191,7 +191,7 @@ pub fn gateway_euis(
     few_euis(alloc, subnets, mac, 1)
 }
 
-/// A pool address of each version for which there is such a subnet, and behind them these. There is
+/// A pool address of each version for which there is such a subnet, and after them these. There is
 /// none where a pool address is missed. Its cost grows with the subnets, their pools and the held
 /// addresses that stand first in them.
 pub fn with_euis(

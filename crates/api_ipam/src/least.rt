@@ -45,7 +45,7 @@ fn lesser(one: Option<Addr>, other: Option<Addr>) -> Option<Addr>
     }
 }
 
-/// The least address of the pools that isn't held, where one isn't. It takes no memory. Its cost
+/// The least address of the pools that isn't held, where one isn't. It allocates nothing. Its cost
 /// grows with the pools and the held addresses that stand first in them, and not with the pools'
 /// size.
 pub fn least_free_address(held: &HeldAddresses, pools: &[Span]) -> Option<Addr>

@@ -12,7 +12,7 @@ use net_addr::Mac;
 /// The first generated MAC address, fa:16:3e:00:00:00 (Neutron's `base_mac`).
 const FIRST: u64 = 0xfa16_3e00_0000;
 
-/// The number behind the last generated one, fa:16:3e:ff:ff:ff.
+/// The number after the last generated one, fa:16:3e:ff:ff:ff.
 const END: u64 = 0xfa16_3f00_0000;
 
 fn has_mac(port: &PortRow, network: Id, mac: u64) -> bool
@@ -22,7 +22,7 @@ fn has_mac(port: &PortRow, network: Id, mac: u64) -> bool
     network == port.network && port.mac == Mac(mac)
 }
 
-// From `mac` on, the number behind those that ports have, one after the other in turn.
+// From `mac` on, the number after those that ports have, one after the other in turn.
 fn behind_held(ports: &[Shared<PortRow>], network: Id, mac: u64) -> u64
     requires { mac < first_mac + 2 ^ 24 }
     ensures from { mac ≤ result }
@@ -43,7 +43,7 @@ fn behind_held(ports: &[Shared<PortRow>], network: Id, mac: u64) -> u64
 }
 
 /// The least generated MAC address that no port of the network has; there is none where all are
-/// held. It takes no memory. Its cost is that of two looks at the ports where they took the
+/// held. It allocates nothing. Its cost is that of two looks at the ports where they took the
 /// generated MAC addresses in their order, and of one more for each that a later one took before.
 pub fn choose_mac(ports: &[Shared<PortRow>], network: Id) -> Option<Mac>
     ensures { result ≡ free_mac ports.now network }

@@ -257,7 +257,7 @@ fn add_place(
 
 /// The places of a list that is asked for, by the network's subnets, the port's MAC address and its
 /// old addresses as they will be. An item without an address takes an old one of its subnet that
-/// isn't in the list, and else the one that the MAC address gives, where it gives one. Its cost
+/// isn't in the list, and otherwise the one that the MAC address gives, where it gives one. Its cost
 /// grows with the items, times the subnets and the old addresses.
 pub fn asked_places(
     alloc: Global,

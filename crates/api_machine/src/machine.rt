@@ -47,7 +47,7 @@ impl Model for Machine {
         IsSound (record { settings = m.settings; rows = m.rows; version = m.version }) };
 }
 
-/// Rows that can be put in the place of those of a version.
+/// Rows that can be put in place of those of a version.
 #[derive(Drop)]
 pub struct Ready {
     rows: Rows,
@@ -73,7 +73,7 @@ impl Ready {
 
 impl Machine {
     /// A machine with these rows, at version 0. It is refused where they break a clause of
-    /// consistency, with the first one and the first row that breaks it. It takes no memory, and
+    /// consistency, with the first one and the first row that breaks it. It allocates nothing, and
     /// its cost grows with the square of the rows.
     pub fn open(rows: Rows, settings: Settings) -> Result<Machine, Inconsistent>
         ensures ok { IfOk result
@@ -118,9 +118,10 @@ impl Machine {
         self.version
     }
 
-    /// What a call comes to: its answer, and the change that leads to the rows after it, which fits
-    /// the rows of now and leaves rows that are as sound. Nothing changes. A tenant is answered as
-    /// at any other state in which it has the same footing. Its cost grows with the rows.
+    /// What a call comes to: its answer, and the change that leads to the rows after it, which
+    /// fits the current rows and leaves rows that are as sound. Nothing changes. A tenant is
+    /// answered as at any other state in which it has the same footing. Its cost grows with the
+    /// rows.
     pub fn plan(&self, alloc: Global, caller: &Caller, call: &Call) -> Result<Planned, Refusal>
         requires in_form { IsInForm caller.now call.now }
         ensures ok { IfOk result
@@ -143,7 +144,7 @@ impl Machine {
         plan_call(alloc, self.settings(), rows, self.version(), caller, call)
     }
 
-    /// The rows after a change that fits, ready to be put in place. All stays as it is. Its cost
+    /// The rows after a change that fits, ready to be put in place. Nothing changes. Its cost
     /// grows with the rows.
     pub fn prepare(&mut self, alloc: Global, change: &Change) -> Result<Ready, OutOfMemory>
         requires fits { Fits self.old.rows change.now }
@@ -160,8 +161,8 @@ impl Machine {
         })
     }
 
-    /// Puts rows in place that were made ready at this version and are as sound as those of now.
-    /// The version rises by one. It can't fail.
+    /// Puts rows in place that were made ready at this version and are as sound as the current
+    /// ones. The version rises by one. It can't fail.
     pub fn accept(&mut self, ready: Ready)
         requires now { ready.version ≡ self.old.version }
         requires room { self.old.version < 2 ^ 64 - 1 }

@@ -10,7 +10,7 @@ use net_addr::{Mac, Prefix};
 fn is_prefix(prefix: Prefix)
     ensures { IsPrefix prefix }
 {
-    let _len = prefix.len; // for the proof: no bits stand behind the length
+    let _len = prefix.len; // for the proof: no bits stand after the length
 }
 
 fn is_mac(mac: Mac)

@@ -9,12 +9,12 @@ use Rattle.net_settings.specs.Settings.{SettingsParts}
 abbrev pub is_taken : List NetworkRow → ℕ → Bool
 is_taken networks n = list_any (λ (network : NetworkRow). is_vxlan n network.segment) networks
 
--- so many numbers, from the first on
+-- this many numbers, from the first on
 unfoldable pub numbers : ℕ → ℕ → List ℕ
 numbers first zero = []
 numbers first (suc many) = first ∷ numbers (first + 1) many
 
--- the least number from the first on, of so many, that no network has
+-- the least number from the first on, of this many, that no network has
 abbrev pub least_free : List NetworkRow → ℕ → ℕ → Option ℕ
 least_free networks first many = find (λ n. not (is_taken networks n)) (numbers first many)
 

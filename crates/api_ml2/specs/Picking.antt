@@ -1,5 +1,5 @@
 -- What the choice of a network's segment comes to: it is refused where another network has the
--- segment that is asked for, and else where there is none to choose.
+-- segment that is asked for, and otherwise where there is none to choose.
 use Rattle.std.specs.Prelude.{◌≡◌, ◌⊎◌, Err, List, None, Ok, Option, Result, Some, option_and_then}
 use Rattle.api_types.specs.declared.network.NetworkRow.{NetworkRow}
 use Rattle.api_types.specs.declared.network.Segment.{Segment}

@@ -27,7 +27,7 @@ fn binds(settings: &Settings, segment: &Segment, host: &Text) -> bool
 }
 
 /// How a port of a network with this segment is bound to the host (Neutron's
-/// `binding:vif_type`): not where it has none, and else by the drivers of the settings, or in
+/// `binding:vif_type`): not where it has none, and otherwise by the drivers of the settings, or in
 /// vain. Its cost grows with the hosts and the physical networks to which one is wired.
 pub fn bind(settings: &Settings, segment: &Segment, host: &Text) -> Vif
     ensures { result ≡ bound settings.now segment.now host.now }

@@ -4,7 +4,7 @@
 //! the rows of `api_types` and on the settings of `net_settings`. `asked_segment` reads the
 //! provider attributes of a body, `segment_in_use` and `chosen_segment` decide on a new network's
 //! segment, and `pick_segment` does both. `bind` binds a port to its host, `place_router` and
-//! `place_dhcp` tell where routers and DHCP ports stand. What binds and places takes no memory.
+//! `place_dhcp` tell where routers and DHCP ports stand. What binds and places allocates nothing.
 #![tactic(auto)]
 
 mod asked;

@@ -31,7 +31,7 @@ fn mark(marks: &mut Vec<bool>, first: u32, segment: &Segment)
     }
 }
 
-// Which of so many numbers from the first on the networks have.
+// Which of this many numbers from the first on the networks have.
 fn taken_numbers(
     alloc: Global,
     networks: &[Shared<NetworkRow>],

@@ -1,4 +1,4 @@
--- What a check answers: nothing where a definition gives nothing, and else what it gives.
+-- What a check answers: nothing where a definition gives nothing, and otherwise what it gives.
 use Rattle.api_types.specs.declared.refusal.Refusal.{Refusal}
 use Rattle.std.specs.Prelude.{Err, None, Ok, Option, Result, Some, ◌≡◌}
 

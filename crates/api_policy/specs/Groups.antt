@@ -35,7 +35,7 @@ named_protocol n =
     else if n == 89 then Some (codes "ospf") else if n == 112 then Some (codes "vrrp")
     else if n == 132 then Some (codes "sctp") else None
 
--- a protocol is printed as its name, and else as its number
+-- a protocol is printed as its name, and otherwise as its number
 unfoldable pub protocol_word : ℕ → Tree
 protocol_word n = word (unwrap_or (named_protocol n) (decimal n))
 

@@ -1,4 +1,4 @@
--- Lists of rows (Networking API reference, pagination and filtering): of the rows behind the
+-- Lists of rows (Networking API reference, pagination and filtering): of the rows after the
 -- marker's, those that the caller sees and that meet the filters, cut to the limit.
 use Rattle.std.specs.Prelude.{ℕ, List, [], ◌∷◌, Bool, true, false, ◌&&◌, Option, None, Some, map, nat_le, take, if◌then◌else◌}
 use Rattle.std.specs.List.{filter}
@@ -28,7 +28,7 @@ abbrev pub has_marker : RowLists → Caller → Kind → Option IdText → Bool
 has_marker rows caller kind None = true
 has_marker rows caller kind (Some m) = is_some_so (sees_row rows caller kind) m.id
 
--- the rows behind the one with the id
+-- the rows after the one with the id
 abbrev pub behind : {R : Type 0} → (R → Ident) → Ident → List R → List R
 behind id_of i [] = []
 behind id_of i (r ∷ rs) = if ident_eq i (id_of r) then rs else behind id_of i rs
@@ -45,7 +45,7 @@ abbrev pub cut : {X : Type 0} → Option ℕ → List X → List X
 cut None xs = xs
 cut (Some n) xs = take n xs
 
--- so many are as many as the limit
+-- this many are as many as the limit
 abbrev pub is_full : Option ℕ → ℕ → Bool
 is_full None many = false
 is_full (Some n) many = nat_le n many
@@ -57,7 +57,7 @@ listed_of seen members kind admin q rows =
     map (λ r. shown_as kind admin q.fields (members r))
     (filter (λ r. seen r && meets admin q.filters (members r)) rows)
 
--- the same of the rows behind the marker, up to the limit
+-- the same of the rows after the marker, up to the limit
 abbrev pub listed_in : {R : Type 0} → (R → Ident) → (R → Bool) → (R → List NamedTree) → Kind → Bool
     → Query → List R → List ShownRow
 listed_in id_of seen members kind admin q rows =

@@ -113,7 +113,7 @@ port_in_use rows caller r p =
     (InUse PortInUse RouterKind r.id
     (if is_service p.owner then told_user rows caller (named_by_device rows p.device) else None))
 
--- a group: the default one always is, and else a port names it
+-- a group: the default one always is, and otherwise a port names it
 abbrev pub default_in_use : GroupRow → Option Refusal
 default_in_use g = when g.is_default (InUse SecurityGroupCannotRemoveDefault GroupKind g.id None)
 

@@ -69,8 +69,8 @@ pub fn owner_only(caller: &Caller, project: &Text) -> Result<(), Refusal>
     unless_broken(breaks_owner_only(caller, project), PolicyRule::OwnerOnly)
 }
 
-/// Refuses what is for the network's owner alone, where the call needs it and the network isn't the
-/// caller's project's. Its cost is the same however many rows there are.
+/// Refuses what is for the network's owner alone, where the call needs it and the network isn't
+/// the caller's project's. Its cost doesn't grow with the rows.
 pub fn network_owner(rows: &Rows, caller: &Caller, needed: bool, network: Id) -> Result<(), Refusal>
     ensures { IsAnswerOf (network_owner_of rows.now caller.now needed network) result }
 {
@@ -91,8 +91,8 @@ pub fn network_access(rows: &Rows, caller: &Caller, network: Id) -> Result<(), R
     )
 }
 
-/// Refuses a port of which neither it nor its network is the caller's project's. Its cost is the
-/// same however many rows there are.
+/// Refuses a port of which neither it nor its network is the caller's project's. Its cost doesn't
+/// grow with the rows.
 pub fn port_delete(rows: &Rows, caller: &Caller, port: &PortRow) -> Result<(), Refusal>
     ensures { IsAnswerOf (port_delete_of rows.now caller.now port.now) result }
 {

@@ -44,45 +44,45 @@ pub fn subnet_seen<'r>(rows: &'r Rows, caller: &Caller, id: Option<Id>) -> Optio
     named(rows, caller, rows.subnets(), id)
 }
 
-/// The port with this id that the caller sees. Its cost is the same however many rows there are.
+/// The port with this id that the caller sees. Its cost doesn't grow with the rows.
 pub fn port_seen<'r>(rows: &'r Rows, caller: &Caller, id: Option<Id>) -> Option<&'r PortRow>
     ensures { option_copied result ≡ port_at rows.now caller.now id }
 {
     named(rows, caller, rows.ports(), id)
 }
 
-/// The security group with this id that the caller sees. Its cost is the same however many rows
-/// there are.
+/// The security group with this id that the caller sees. Its cost doesn't grow with the
+/// rows.
 pub fn group_seen<'r>(rows: &'r Rows, caller: &Caller, id: Option<Id>) -> Option<&'r GroupRow>
     ensures { option_copied result ≡ group_at rows.now caller.now id }
 {
     named(rows, caller, rows.groups(), id)
 }
 
-/// The security group's rule with this id that the caller sees. Its cost is the same however many
-/// rows there are.
+/// The security group's rule with this id that the caller sees. Its cost doesn't grow with the
+/// rows.
 pub fn rule_seen<'r>(rows: &'r Rows, caller: &Caller, id: Option<Id>) -> Option<&'r RuleRow>
     ensures { option_copied result ≡ rule_at rows.now caller.now id }
 {
     named(rows, caller, rows.rules(), id)
 }
 
-/// The router with this id that the caller sees. Its cost is the same however many rows there are.
+/// The router with this id that the caller sees. Its cost doesn't grow with the rows.
 pub fn router_seen<'r>(rows: &'r Rows, caller: &Caller, id: Option<Id>) -> Option<&'r RouterRow>
     ensures { option_copied result ≡ router_at rows.now caller.now id }
 {
     named(rows, caller, rows.routers(), id)
 }
 
-/// The floating address with this id that the caller sees. Its cost is the same however many rows
-/// there are.
+/// The floating address with this id that the caller sees. Its cost doesn't grow with the
+/// rows.
 pub fn floating_seen<'r>(rows: &'r Rows, caller: &Caller, id: Option<Id>) -> Option<&'r FloatingRow>
     ensures { option_copied result ≡ floating_at rows.now caller.now id }
 {
     named(rows, caller, rows.floatings(), id)
 }
 
-/// The policy with this id that the caller sees. Its cost is the same however many rows there are.
+/// The policy with this id that the caller sees. Its cost doesn't grow with the rows.
 pub fn policy_seen<'r>(rows: &'r Rows, caller: &Caller, id: Option<Id>) -> Option<&'r PolicyRow>
     ensures { option_copied result ≡ policy_at rows.now caller.now id }
 {

@@ -20,8 +20,8 @@ fn gives_member(port: &PortRow, group: Id, address: &Addr) -> bool
 }
 
 /// Whether a port that names the group holds the address as a fixed one, or has an allowed pair
-/// whose prefix contains it. It takes no memory. Its cost grows with the ports and what they name,
-/// hold and are allowed.
+/// whose prefix contains it. It allocates nothing. Its cost grows with the ports and what they
+/// name, hold and are allowed.
 #[tactic(auto, unfolding(api_types::specs::Members::is_member))]
 pub fn is_member(rows: &Rows, group: Id, address: &Addr) -> bool
     ensures { result ≡ is_member_of rows.now group address.now }

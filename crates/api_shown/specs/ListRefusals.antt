@@ -9,7 +9,7 @@ use Rattle.api_shown.specs.declared.listing.ListRefusal.{ListRefusal}
 use Rattle.api_shown.specs.declared.listing.ListRefusal.TheVariants.{NoMarker, OutOfMemory}
 use Rattle.api_policy.specs.Listed.{has_marker}
 
--- a marker is refused by its text, and only where it is no such row; want of memory says nothing
+-- a marker is refused by its text, and only where it is no such row; out of memory says nothing
 abbrev pub IsListRefusal : RowLists → Caller → Kind → Option IdText → ListRefusal → Type 0
 IsListRefusal rows caller kind marker (NoMarker text) =
     (has_marker rows caller kind marker ≡ false)

@@ -3,8 +3,8 @@
 //! It stands on `api_types`, and on `api_policy` for who sees what and for the definitions of what
 //! is printed. For all eight kinds it promises the very members: `Shows::members` gives all that
 //! are printed of a row, `shown_of` those of them that this caller is told and asked for, `shown`
-//! the same of the row with an id, whether the caller sees it or not, and `listed` the same of each
-//! row that the caller sees, behind a marker, by filters and up to a limit.
+//! the same of the row with an id, whether the caller sees it or not, and `listed` the same of
+//! each row that the caller sees, after a marker, by filters and up to a limit.
 #![tactic(auto)]
 
 mod filtering;

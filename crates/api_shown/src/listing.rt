@@ -1,4 +1,4 @@
-//! Lists: what is shown of each row that is seen, behind the marker, by filters, to the limit.
+//! Lists: what is shown of each row that is seen, after the marker, by filters, to the limit.
 
 ghost use Rattle.std.specs.Prelude.{◌≡◌, ◌&&◌, IfOk, IsTrue, None, Some, drop, if◌then◌else◌, map, option_map};
 ghost use Rattle.std.specs.Result.{IfErr};
@@ -63,7 +63,7 @@ fn shown_if_met<R: Shows + Visible>(
     Ok(Some(Shown { kind, members }))
 }
 
-// Whether so many rows are as many as the limit.
+// Whether this many rows are as many as the limit.
 fn is_full(limit: Option<u32>, many: usize) -> bool
     ensures { result ≡ is_at_limit limit many }
 {
@@ -100,7 +100,7 @@ fn listed_of<R: Shows + Visible>(
     Ok(Seq::from_vec(listed))
 }
 
-// The rows behind the one with this id, and none where it isn't there.
+// The rows after the one with this id, and none where it isn't there.
 fn behind<R: Shows>(candidates: &[Shared<R>], id: Id) -> &[Shared<R>]
     ensures { result.now ≡ rows_behind R.id_of id candidates.now }
 {
@@ -112,7 +112,7 @@ fn behind<R: Shows>(candidates: &[Shared<R>], id: Id) -> &[Shared<R>]
     &candidates[candidates.len()..]
 }
 
-// The rows behind the marker's, and all where there is no marker.
+// The rows after the marker's, and all where there is no marker.
 fn behind_marker<'a, R: Shows>(
     candidates: &'a [Shared<R>],
     marker: &Option<IdText>,
@@ -198,7 +198,7 @@ fn check_marker(
     }
 }
 
-/// What a caller is shown of the rows of this kind: of those behind the marker's row, which has to
+/// What a caller is shown of the rows of this kind: of those after the marker's row, which has to
 /// be one of the kind that the caller sees, the ones that it sees and that meet the filters, up to
 /// the limit, in order of creation. The marker's row need not meet the filters. Only members that
 /// the caller is told are compared. Its cost grows with the filters times their different names,

@@ -1,4 +1,4 @@
--- How a call is answered: with the first refusal whose condition holds, and else as it says. The
+-- How a call is answered: with the first refusal whose condition holds, and otherwise as it says. The
 -- order of refusals is the order in which they are written.
 use Rattle.std.specs.Prelude.{Bool, List, [], ◌∷◌, Option, None, Some, if◌then◌else◌}
 use Rattle.net_addr.specs.Words.{Text}

@@ -104,7 +104,7 @@ impl<R: Keyed> Table<R> {
         Ok(())
     }
 
-    /// Puts a row in the place of one with the same id.
+    /// Puts a row in place of one with the same id.
     pub(crate) fn replace(&mut self, place: usize, row: Shared<R>)
         requires within { place < length self.old }
         requires same_id { (r : R) → slice_get self.old place ≡ Some r → R.id_of row ≡ R.id_of r }

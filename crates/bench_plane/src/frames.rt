@@ -7,8 +7,8 @@ use net_addr::OutOfMemory;
 use plane_types::{Ends, Event, Frame, KeyPart, Outcome};
 use std::alloc::Global;
 
-// The n-th frame: TCP to port 22 of a port of the second host, of which each has so many ports. The
-// first ones, as many as that number's square, go between different pairs of ports.
+// The n-th frame: TCP to port 22 of a port of the second host, of which each has this many ports.
+// The first ones, as many as that number's square, go between different pairs of ports.
 fn event_of(each: u16, n: u16) -> Event
     requires first { 1 ≤ each }
     requires most { each ≤ 4000 }
@@ -37,8 +37,8 @@ fn is_delivered(alloc: Global, lab: &Lab, event: &Event) -> Result<bool, OutOfMe
     Ok(matches!(&verdict.outcome, Outcome::Delivered { .. }))
 }
 
-/// How many of so many frames are delivered, where each host has so many ports. The entries that
-/// they make aren't kept.
+/// How many of this many frames are delivered, where each host has this many ports. The entries
+/// that they make aren't kept.
 pub(crate) fn deliver(alloc: Global, lab: &Lab, each: u16, frames: u16) -> Result<u16, OutOfMemory>
     requires first { 1 ≤ each }
     requires most { each ≤ 4000 }

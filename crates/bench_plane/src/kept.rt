@@ -19,7 +19,7 @@ fn entry_of(port: u16) -> Entry {
     }
 }
 
-/// Tells how many of so many entries, one for each port by its number, these tables keep.
+/// Tells how many of this many entries, one for each port by its number, these tables keep.
 pub(crate) fn kept_entries(
     alloc: Global,
     tables: &HostTables,

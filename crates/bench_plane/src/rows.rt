@@ -58,7 +58,7 @@ pub(crate) fn port_mac(port: u16) -> Mac {
     Mac(0x0200_0000_0000 + u64::from(port))
 }
 
-/// The address of a port: behind 10.0.0.10.
+/// The address of a port: after 10.0.0.10.
 pub(crate) fn port_address(port: u16) -> Addr4 {
     Addr4(INNER + 10 + u32::from(port))
 }

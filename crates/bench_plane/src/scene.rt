@@ -14,7 +14,7 @@ pub(crate) struct Scene {
     /// How many networks have a DHCP port on c1.
     pub(crate) served: u16,
     /// Whether the first four rules of a group are those that each new one has, and the others let
-    /// TCP in from the next group alone. Else one lets all of IPv4 out, and one TCP to port 22 in.
+    /// TCP in from the next group alone. Otherwise one lets all of IPv4 out, and one TCP to port 22 in.
     pub(crate) usual: bool,
     /// The host of the ports with an odd number. The others are on c1.
     pub(crate) second: &'static str,
@@ -23,8 +23,8 @@ pub(crate) struct Scene {
 }
 
 impl Scene {
-    /// Two hosts, each with so many ports, all on one network and in one group. Those with an odd
-    /// number are on the host c2.
+    /// Two hosts, each with this many ports, all on one network and in one group. Those with an
+    /// odd number are on the host c2.
     pub(crate) fn two_hosts(each: u16) -> Scene
         requires { each ≤ 4000 }
     {
@@ -54,8 +54,8 @@ impl Scene {
         }
     }
 
-    /// So many of each on the host c1, where there are a network and a group. No network has a DHCP
-    /// port.
+    /// This many of each on the host c1, where there are a network and a group. No network has a
+    /// DHCP port.
     pub(crate) fn of(
         ports: u16,
         networks: u16,
@@ -78,7 +78,7 @@ impl Scene {
         })
     }
 
-    /// The same, where so many networks have a DHCP port.
+    /// The same, where this many networks have a DHCP port.
     pub(crate) fn with_served(mut self, served: u16) -> Scene {
         self.served = served;
         self

@@ -8,7 +8,8 @@ use std::alloc::Global;
 // How many ports the rows have.
 const PORTS: u16 = 1000;
 
-/// Copies rows of 1,000 ports so many times, one copy at a time, and tells the ports of all copies.
+/// Copies rows of 1,000 ports this many times, one copy at a time, and tells the ports of all
+/// copies.
 pub(crate) fn copy_rows(alloc: Global, copies: u16) -> Result<usize, Failure> {
     let rows = consistent_rows(alloc, &Scene::one_host(PORTS))?;
     let mut ports = 0usize;
@@ -19,7 +20,7 @@ pub(crate) fn copy_rows(alloc: Global, copies: u16) -> Result<usize, Failure> {
     Ok(ports)
 }
 
-/// Adds so many ports to 1,000, each by a change of its own, and tells how many ports there are.
+/// Adds this many ports to 1,000, each by a change of its own, and tells how many ports there are.
 pub(crate) fn change_rows(alloc: Global, changes: u16) -> Result<usize, Failure> {
     let scene = Scene::one_host(PORTS);
     let mut rows = consistent_rows(alloc, &scene)?;

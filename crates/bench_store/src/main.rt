@@ -16,7 +16,7 @@ use std::env::{self, Env};
 use std::io;
 use std::process::ExitCode;
 
-// The words behind the program's name.
+// The words after the program's name.
 fn words(rt: &(impl Env + AllocGlobal), alloc: Global) -> io::Result<Vec<Text>> {
     let mut words = Vec::new(alloc);
     for word in env::args(rt)?.skip(1) {

@@ -36,7 +36,7 @@ fn fill<S: Alter>(alloc: Global, keeper: &mut SqlKeeper<S>, ports: u32) -> Resul
     Ok(())
 }
 
-// Renames the first port so many times.
+// Renames the first port this many times.
 fn rename<S: Alter>(alloc: Global, keeper: &mut SqlKeeper<S>, changes: u32) -> Result<(), Failure> {
     for _ in 0..changes {
         let mut port = port_of(alloc, 1)?;
@@ -48,7 +48,7 @@ fn rename<S: Alter>(alloc: Global, keeper: &mut SqlKeeper<S>, changes: u32) -> R
     Ok(())
 }
 
-// Loads all rows so many times, and tells how many ports there are in all.
+// Loads all rows this many times, and tells how many ports there are in all.
 fn load<S: Alter>(alloc: Global, keeper: &mut SqlKeeper<S>, loads: u32) -> Result<usize, Failure> {
     let mut ports = 0usize;
     for _ in 0..loads {

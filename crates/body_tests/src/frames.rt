@@ -83,7 +83,7 @@ fn no_text(rt: HostRuntime) -> Result<(), Fail> {
     Ok(())
 }
 
-// A network whose name is so many arrays, one in the other.
+// A network whose name is this many arrays, one in the other.
 fn nested(alloc: Global, depth: usize) -> Result<String, OutOfMemory> {
     let mut text = String::from_str(alloc, r#"{"network":{"name":"#)?;
     for _ in 0..depth {

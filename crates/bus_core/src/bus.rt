@@ -9,7 +9,7 @@ use net_addr::OutOfMemory;
 use std::alloc::Global;
 use std::marker::Model;
 
-// So many changes are kept.
+// This many changes are kept.
 const MOST_KEPT: usize = 1024;
 
 /// The last 1,024 changes, each under its number. Contracts see the number of the last one, and the
@@ -56,7 +56,7 @@ impl Bus {
     }
 
     /// Keeps a change under the next number, which is the answer. Of more than 1,024 the oldest
-    /// goes. It takes no memory.
+    /// goes. It allocates nothing.
     pub fn push(&mut self, change: Change) -> u64
         requires { self.old.last < 2 ^ 64 - 1 }
         ensures number { result ≡ self.old.last + 1 }

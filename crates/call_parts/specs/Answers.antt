@@ -22,13 +22,13 @@ IsRefusalIn refusal e = (e ≡ OutOfMemory) ⊎ (refusal ≡ Some e)
 abbrev pub IsRefusalOf : Outcome → Refusal → Type 0
 IsRefusalOf outcome e = (e ≡ OutOfMemory) ⊎ (outcome ≡ Refused e)
 
--- a check passes where no refusal is given, and else answers it
+-- a check passes where no refusal is given, and otherwise answers it
 abbrev pub Passes : Option Refusal → Result (Unit {0}) Refusal → Type 0
 Passes refusal (Ok passed) = refusal ≡ None
 Passes refusal (Err e) = IsRefusalIn refusal e
 
--- the call is accepted: the draft begins at the rows of now and leads where the call does, and the
--- reply is of the rows after it
+-- the call is accepted: the draft begins at the current rows and leads where the call does, and
+-- the reply is of the rows after it
 pub record Leads (rows : RowLists) (outcome : Outcome) (draft : DraftParts)
     (reply : RowLists → Reply) : Type 0 where
   pub start : draft.start ≡ rows

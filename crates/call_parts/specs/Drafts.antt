@@ -19,7 +19,7 @@ pub record LeadsTo (rows : RowLists) (change : List Item) (end : RowLists) : Typ
   pub fits : Fits rows change
   pub leads : after rows change ≡ end
 
--- the rows of now, the change so far, and the rows after it
+-- the current rows, the change so far, and the rows after it
 pub record DraftParts : Type 0 where
   pub start : RowLists
   pub change : List Item
@@ -36,7 +36,7 @@ pub record IsFound {R : Type 0} (id_of : R → Ident) (i : Ident) (rows : List R
 abbrev pub AreRulesNew : List RuleRow → ℕ → Type 0
 AreRulesNew rules ordinal = (c : ℕ) → row_of (λ (r : RuleRow). r.id) (ident ordinal c) rules ≡ None
 
--- the rows in which so many more ids were drawn for a project
+-- the rows in which this many more ids were drawn for a project
 abbrev pub raised : RowLists → ProjectRow → ℕ → RowLists
 raised rows project many =
     with_put rows (ProjectOf (record project { count = project.count + many }))

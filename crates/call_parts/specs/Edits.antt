@@ -12,7 +12,7 @@ use Rattle.std.specs.Prelude.{List, [], map, ◌∷◌}
 pub data Edit : Type 0 where
   -- a new row, last of its kind
   Add : Row → Edit
-  -- a row in the place of the one with its id
+  -- a row in place of the one with its id
   Put : Row → Edit
   -- the row of the kind with the id goes, and the rest closes up
   Drop : Kind → Ident → Edit

@@ -136,7 +136,7 @@ is_call (RemoveInterface router by) = true
 abbrev pub IsFormed : Caller → Call → Type 0
 IsFormed caller call = not (is_empty caller.project) && is_call call ≡ true
 
--- what types say of a body: a prefix has no bits behind its length, a MAC address has 48 bits
+-- what types say of a body: a prefix has no bits after its length, a MAC address has 48 bits
 abbrev pub IsTypedForm : Form → Type 0
 IsTypedForm (SubnetOf form) = IfGiven IsPrefix form.cidr
 IsTypedForm (PortOf form) = IfGiven (λ mac. mac < 2 ^ 48) form.mac_address

@@ -13,7 +13,7 @@ pub record State : Type 0 where
 abbrev pub is_last : State → Bool
 is_last state = state.version == (2 ^ 64 - 1)
 
--- so many ids drawn for the project; none where the version, a count or the projects' ordinals
+-- this many ids drawn for the project; none where the version, a count or the projects' ordinals
 -- would pass their last value
 abbrev pub drawing_at : State → Text → ℕ → Option Drawing
 drawing_at state project many = if is_last state then None else draw_of state.rows project many

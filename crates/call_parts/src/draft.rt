@@ -11,7 +11,7 @@ use net_addr::{Copies, OutOfMemory, Seq};
 use std::alloc::Global;
 use std::marker::Model;
 
-/// The rows that a call leads to, and the change that leads there from the rows of now.
+/// The rows that a call leads to, and the change that leads there from the current rows.
 #[derive(Drop)]
 pub struct Draft {
     start: Rows,
@@ -51,7 +51,7 @@ fn found<R: RowKind>(rows: &Rows, id: Id) -> Option<(usize, &R)>
     Some((place, row))
 }
 
-// A change with more items behind its own.
+// A change with more items after its own.
 fn joined(mut change: Change, more: Change) -> Result<Change, OutOfMemory>
     ensures { IfOk result (λ c. c ≡ change ++ more) }
 {
@@ -62,7 +62,7 @@ fn joined(mut change: Change, more: Change) -> Result<Change, OutOfMemory>
 }
 
 impl Draft {
-    /// Nothing changed yet: the rows of now. It takes counts of tables and no rows.
+    /// Nothing changed yet: the current rows. It takes counts of tables and no rows.
     pub fn begin(alloc: Global, rows: &Rows) -> Result<Draft, OutOfMemory>
         ensures start { IfOk result (λ d. d.start ≡ rows.now) }
         ensures rows { IfOk result (λ d. d.rows ≡ rows.now) }
@@ -119,7 +119,7 @@ impl Draft {
         self.take(alloc, item)
     }
 
-    /// A row in the place of the one with its id. Where that is equal, or there is none, all stays.
+    /// A row in place of the one with its id. Where that is equal, or there is none, all stays.
     /// Its cost grows with the rows of the kind.
     pub fn put<R: RowKind>(self, alloc: Global, row: R) -> Result<Draft, OutOfMemory>
         ensures start { IfOk result (λ d. d.start ≡ self.start) }
@@ -172,7 +172,7 @@ impl Draft {
         Ok(draft)
     }
 
-    /// The change that leads from the rows of now to those after the edits.
+    /// The change that leads from the current rows to those after the edits.
     pub fn into_change(self) -> Change
         ensures { LeadsTo self.start result self.rows }
     {

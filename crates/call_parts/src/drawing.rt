@@ -152,7 +152,7 @@ fn register(
     add_rules(alloc, draft, name, ordinal)
 }
 
-// The rows with a project's count raised by so many.
+// The rows with a project's count raised by this many.
 fn raise(alloc: Global, rows: &Rows, project: &ProjectRow, many: u64) -> Result<Draft, OutOfMemory>
     requires { project.now.count + many < 2 ^ 62 }
     ensures start { IfOk result (λ d. d.start ≡ rows.now) }
@@ -163,7 +163,7 @@ fn raise(alloc: Global, rows: &Rows, project: &ProjectRow, many: u64) -> Result<
     Draft::begin(alloc, rows)?.put(alloc, more)
 }
 
-// Draws so many ids for the project with this name, which is registered first where it is new.
+// Draws this many ids for the project with this name, which is registered first where it is new.
 fn draw_ids(alloc: Global, rows: &Rows, name: &Text, many: u64) -> Result<Drawn, Refusal>
     requires consistent { IsConsistent rows.now }
     requires few { many < 2 ^ 16 }
@@ -199,9 +199,10 @@ fn draw_ids(alloc: Global, rows: &Rows, name: &Text, many: u64) -> Result<Drawn,
     })
 }
 
-/// Draws so many ids for the project with this name, which is registered first, with its default
-/// group, where it is new. It refuses where the version or a counter would pass its last value. Its
-/// cost grows with the projects, and for a project that is new with the groups and the rules too.
+/// Draws this many ids for the project with this name, which is registered first, with its default
+/// group, where it is new. It refuses where the version or a counter would pass its last value.
+/// Its cost grows with the projects, and for a project that is new with the groups and the rules
+/// too.
 pub fn draw(
     alloc: Global,
     rows: &Rows,

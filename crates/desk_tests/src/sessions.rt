@@ -130,7 +130,7 @@ impl Handler for Echo {
     }
 }
 
-/// Whether a session over these bytes, in pieces of so many, writes this and ends so.
+/// Whether a session over these bytes, in pieces of this many, writes this and ends so.
 fn serves(
     alloc: Global,
     input: &[u8],
@@ -307,7 +307,7 @@ fn long_streams(rt: HostRuntime) -> Result<(), Fail> {
     Ok(())
 }
 
-/// So many empty lines with this end, and this behind them.
+/// This many empty lines with this end, and this after them.
 fn with_empty(alloc: Global, count: usize, end: &[u8], last: &[u8]) -> Result<Vec<u8>, Fail> {
     let mut bytes = Vec::new(alloc);
     for _ in 0..count {

@@ -91,7 +91,7 @@ impl<'r> Served<'r> {
         self.rows
     }
 
-    /// The live DHCP port of a network. Its cost is the same however many there are.
+    /// The live DHCP port of a network. Its cost is constant.
     pub(crate) fn dhcp_port(&self, network: Id) -> Option<&'r PortRow>
         ensures { option_copied result ≡ dhcp_by_rows self.now network }
     {

@@ -10,7 +10,7 @@ state_after state = (state * 6364136223846793005 + 1442695040888963407) % 2 ^ 64
 abbrev pub drawn : ℕ → ℕ
 drawn state = state_after state / 2 ^ 33
 
--- the state after so many draws
+-- the state after this many draws
 unfoldable pub state_behind : ℕ → ℕ → ℕ
 state_behind zero state = state
 state_behind (suc many) state = state_behind many (state_after state)

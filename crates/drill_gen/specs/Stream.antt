@@ -74,19 +74,19 @@ host_by number = if number % 2 == 0 then codes "c1" else codes "c2"
 abbrev pub port_request : ℕ → Bytes
 port_request number = request (codes "/v2.0/ports") (port_body (host_by number))
 
--- between two of so many ports
+-- between two of this many ports
 abbrev pub frame_request : ℕ → ℕ → ℕ → ℕ → Bytes
 frame_request ports x y z =
     request (codes "/lab/v1/frames")
     (frame_body (1 + x % ports) (1 + y % ports) (1024 + z % 60000))
 
--- so many ports, one draw each
+-- this many ports, one draw each
 unfoldable pub port_requests : ℕ → ℕ → Bytes
 port_requests zero state = []
 port_requests (suc many) state =
     port_request (drawn state) ++ port_requests many (state_after state)
 
--- so many frames, three draws each
+-- this many frames, three draws each
 unfoldable pub frame_requests : ℕ → ℕ → ℕ → Bytes
 frame_requests ports zero state = []
 frame_requests ports (suc many) state =

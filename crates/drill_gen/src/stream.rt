@@ -26,7 +26,7 @@ fn port_request(alloc: Global, number: u64) -> Result<Vec<u8>, OutOfMemory>
     request(alloc, "/v2.0/ports", body.as_str())
 }
 
-// The number of one of so many ports.
+// The number of one of this many ports.
 fn port_among(ports: u32, number: u64) -> u32
     requires some { 0 < ports }
     requires few { ports ≤ 10000 }
@@ -66,7 +66,7 @@ fn add_ports(alloc: Global, bytes: &mut Vec<u8>, size: u32, start: u64) -> Resul
     Ok(state)
 }
 
-// Adds a request for each frame between so many ports.
+// Adds a request for each frame between this many ports.
 fn add_frames(
     alloc: Global,
     bytes: &mut Vec<u8>,

@@ -11,7 +11,7 @@ use crate::run::Run;
 use net_addr::OutOfMemory;
 use std::alloc::Global;
 
-/// From a position on, at most so many look-ups.
+/// From a position on, at most this many look-ups.
 pub(crate) fn travel<'f, F: Fleet>(
     alloc: Global,
     fleet: &'f F,

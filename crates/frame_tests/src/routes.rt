@@ -101,7 +101,7 @@ fn the_best_route_of_version_6(rt: HostRuntime) -> Result<(), Fail> {
     let connected = [hop(OUTER_SIX, 64, SECOND)];
     let out = left(six(OUTER_SIX + 9), ends(beside));
     assert!(rt; comes_to(alloc, &connected, beside, out, (3, 1))?);
-    // the first of equal ones, and a longer one behind a shorter one
+    // the first of equal ones, and a longer one after a shorter one
     let equal = [hop(AWAY, 48, SECOND), hop(AWAY, 48, 77)];
     assert!(rt; comes_to(alloc, &equal, FAR_SIX, got(far), (3, 2))?);
     let longer = [hop(AWAY, 48, 77), hop(AWAY, 64, SECOND)];

@@ -66,7 +66,7 @@ pub(crate) fn see(
     })
 }
 
-/// Whether an event is dropped on its first network for this cause, with so many new entries.
+/// Whether an event is dropped on its first network for this cause, with this many new entries.
 pub(crate) fn is_dropped(
     alloc: Global,
     rows: &Rows,

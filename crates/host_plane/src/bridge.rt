@@ -89,7 +89,7 @@ fn follow<'t>(inner: bool, tag: u16, frame: Frame, to: &'t BridgeTo) -> Step<'t>
     }
 }
 
-// By the entry with the key, else to the wire.
+// By the entry with the key, otherwise to the wire.
 fn forward<'t>(
     tables: &'t HostTables,
     inner: bool,
@@ -109,7 +109,7 @@ fn forward<'t>(
     }
 }
 
-// An ask for an address is answered by its neighbour, else goes to the wire.
+// An ask for an address is answered by its neighbour, otherwise goes to the wire.
 fn answer_arp<'t>(
     tables: &HostTables,
     inner: bool,

@@ -53,13 +53,13 @@ fn look_up<'t>(
 
 /// One look-up at a host: where a frame at this place goes on, or how it ends, by the host's
 /// tables, its tracked entries, and those that the event has made so far, to which the one that
-/// this step makes is added. It takes no memory and refuses nothing.
+/// this step makes is added. It allocates nothing and refuses nothing.
 ///
 /// Bridge and neighbours are searched by halving, so its cost grows with the logarithm of their
 /// rows. Taps, tags, leases and routers are looked up. What is stepped over is a tap's own: its
 /// allowed pairs and its filter rows, and for each of these that names a group the group's set; a
-/// router's own ports with their addresses and routes, and the floating addresses from its first to
-/// its last, among which others' may stand; the wires of the frame's tag; and the entries.
+/// router's own ports with their addresses and routes, and the floating addresses from its first
+/// to its last, among which others' may stand; the wires of the frame's tag; and the entries.
 pub fn step<'t>(
     tables: &'t HostTables,
     entries: &Entries,

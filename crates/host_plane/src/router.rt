@@ -24,7 +24,7 @@ use plane_types::{
     Sourced, answered_to, lower, with_ends,
 };
 
-// A floating address of this router becomes the fixed address; else an entry that the packet
+// A floating address of this router becomes the fixed address; otherwise an entry that the packet
 // answers gives it back the source that it keeps.
 fn find_destination(
     tables: &HostTables,

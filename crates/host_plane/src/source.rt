@@ -142,7 +142,7 @@ fn is_translated(tables: &HostTables, router: &RouterTable, out: &RouterPort, by
     (!out.inside || by.is_floating()) && router.snat && has_live_gateway(router)
 }
 
-// A floating address of this router for the source replaces it; else it may be translated.
+// A floating address of this router for the source replaces it; otherwise it may be translated.
 fn sourced_float(
     tables: &HostTables,
     entries: &[Entry],

@@ -173,7 +173,7 @@ fn least_untaken(
     None
 }
 
-/// The outer port of a new entry: the same port where it isn't taken, else, for TCP, UDP and
+/// The outer port of a new entry: the same port where it isn't taken, otherwise, for TCP, UDP and
 /// echoes, the least one from 1,024 on that isn't. Its cost grows with the entries; where the same
 /// port is taken, a table of marks for all ports is cleared too, and looked at up to the free one.
 #[tactic(auto, unfolding(plane_types::specs::Routing::new_port))]

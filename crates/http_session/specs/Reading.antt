@@ -25,7 +25,7 @@ pub record Reads (old new : Bytes) (left left_new : Option Bytes) (taken taken_n
   pub count : taken_new ≡ taken + length more
 
 -- the bytes begin with a head that passes, and the request's parts are those of the head and of
--- the body behind it
+-- the body after it
 pub record HasHead (bytes : Bytes) (request : Request) (head : RequestHead) : Type 0 where
   pub decides : Decides bytes (Passes head)
   pub parts : ArePartsOf bytes head request.parts

@@ -5,7 +5,7 @@ use Rattle.net_addr.specs.Words.{Bytes}
 use Rattle.http_heads.specs.Heads.{Asked}
 use Rattle.http_heads.specs.Fields.{closes}
 
--- the machine's reply, or a refusal because the store failed or memory was wanting
+-- the machine's reply, or a refusal because the store failed or memory ran out
 pub data Told : Type 0 where
   Answered : Bytes → Told
   StoreFailed : Bytes → Told
@@ -30,14 +30,14 @@ faults [] = 0
 faults (told ∷ tolds) = told_faults told + faults tolds
 
 -- the replies that aren't the machine's: of the store's failing, which only a change meets, of
--- want of memory, and of refusals 1 to 4
+-- out of memory, and of refusals 1 to 4
 pub record Fixed (W : Type 0) : Type 0 where
   pub store_failed : Bool → Bytes
   pub no_memory : Bool → Bytes
   pub refusal : ℕ → Bytes
   -- whether a request comes to a change, which the store is to keep
   pub changes : W → Asked → Bool
-  -- whether want of memory may come in a reply's place
+  -- whether out of memory may come in a reply's place
   pub may_want : Bool
 
 -- what a request, and its reply, make of a world of this type

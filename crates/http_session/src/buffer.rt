@@ -43,7 +43,7 @@ fn end_of(from: usize, to: usize, at_most: u64) -> usize
     }
 }
 
-// Reads behind the first `len` bytes, at most `at_most` of them.
+// Reads after the first `len` bytes, at most `at_most` of them.
 fn read_behind<I: Source>(
     input: &mut I,
     bytes: &mut [u8],

@@ -45,7 +45,7 @@ pub trait Handler: Drop {
     fn make(alloc: Global) -> Result<Self, OutOfMemory>;
 
     /// Answers the request that the bytes begin with, and keeps what it changes. Where the store
-    /// fails or memory is wanting, nothing changes.
+    /// fails or memory runs out, nothing changes.
     fn answer<K: Keeper>(
         &self,
         world: &mut Self::World,

@@ -69,7 +69,7 @@ fn look(bytes: &[u8], empty: usize, seen: usize) -> Looked
     }
 }
 
-// Reads some more bytes behind those that wait for them.
+// Reads some more bytes after those that wait for them.
 fn read_more<I: Source>(
     input: &mut I,
     buffer: &mut Buffer,
@@ -159,7 +159,7 @@ fn await_body<I: Source>(
 
 // Reads until the buffer begins with a request, or tells why there is none. What was searched for
 // empty lines or for the end of a prefix isn't searched again. So the cost grows with the bytes
-// that are read, and with those of at most 66 prefixes that are judged behind the empty lines, in
+// that are read, and with those of at most 66 prefixes that are judged after the empty lines, in
 // whatever pieces they come.
 pub(crate) fn await_request<I: Source>(
     input: &mut I,

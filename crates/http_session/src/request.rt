@@ -9,6 +9,6 @@ pub struct Request {
     pub parts: HeadParts,
     /// The body. The request ends where it does.
     pub body: Part,
-    /// Whether the connection ends behind the reply.
+    /// Whether the connection ends after the reply.
     pub close: bool,
 }

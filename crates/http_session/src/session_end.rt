@@ -3,7 +3,7 @@
 /// How a session ended.
 #[derive(Clone, Copy, Debug, PartialEq, Eq)]
 pub enum SessionEnd {
-    /// The last reply closes the connection, or the input ended behind a whole request or had none.
+    /// The last reply closes the connection, or the input ended after a whole request or had none.
     Done,
     /// A read failed where no whole request was left.
     ReadFault,

@@ -19,7 +19,7 @@ use std::alloc::Global;
 ///
 /// A request's cost grows with its bytes and its reply, in whatever pieces either goes: each byte
 /// is read once and moved once at most, empty lines before a head are passed once, and each of at
-/// most 66 prefixes of the head that end behind them with a line feed or at the limit is judged
+/// most 66 prefixes of the head that end after them with a line feed or at the limit is judged
 /// once, at a cost of its bytes. Beside it stand the costs of the handler's answers.
 pub fn session<H: Handler, K: Keeper, I: Source, O: Sink>(
     alloc: Global,

@@ -47,26 +47,26 @@ group next bits text =
     (or_else (digits next 2 bits text)
     (or_else (digits next 3 bits text) (digits next 4 bits text)))
 
--- so many groups, each with a colon behind it
+-- this many groups, each with a colon after it
 abbrev pub before : ℕ → (ℕ → Text → Option ℕ) → ℕ → Text → Option ℕ
 before zero next = next
 before (suc k) next = group (colon (before k next))
 
--- so many groups with colons between
+-- this many groups with colons between
 abbrev pub row : ℕ → (ℕ → Text → Option ℕ) → ℕ → Text → Option ℕ
 row zero next = next
 row (suc k) next = before k (group next)
 
--- the last groups, so many, and an IPv4 text behind them if there is a tail
+-- the last groups, this many, and an IPv4 text after them if there is a tail
 abbrev pub last : Bool → ℕ → ℕ → Text → Option ℕ
 last false k = row k ended
 last true k = before k tail
 
--- `::` for so many groups of zeros
+-- `::` for this many groups of zeros
 abbrev pub gap : ℕ → (ℕ → Text → Option ℕ) → ℕ → Text → Option ℕ
 gap k next = colon (colon (λ bits. next (bits * 2 ^ (16 * k))))
 
--- `::` between so many groups and so many, for all the others
+-- `::` between this many groups and this many, for all the others
 abbrev pub shortened : Bool → ℕ → ℕ → ℕ → Text → Option ℕ
 shortened has_tail left right =
     row left (gap (group_count has_tail - (left + right)) (last has_tail right))
@@ -76,7 +76,7 @@ abbrev pub first_below : ℕ → (ℕ → Option ℕ) → Option ℕ
 first_below zero gives = None
 first_below (suc k) gives = or_else (first_below k gives) (gives k)
 
--- `::` behind so many groups
+-- `::` after this many groups
 abbrev pub shortened_behind : Bool → Text → ℕ → Option ℕ
 shortened_behind has_tail text left =
     first_below (group_count has_tail - left) (λ right. shortened has_tail left right 0 text)

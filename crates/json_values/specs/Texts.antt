@@ -25,7 +25,7 @@ is_slash b = b == 47
 abbrev pub written : Addr → ℕ → Written
 written addr len = record { addr = addr; len = len }
 
--- the address before the first slash, and behind it the length, to 32 or 128 (RFC 4632, 3.1; RFC
+-- the address before the first slash, and after it the length, to 32 or 128 (RFC 4632, 3.1; RFC
 -- 4291, 2.3)
 unfoldable pub written_in : Text → Option Written
 written_in text =
@@ -37,7 +37,7 @@ abbrev pub prefix_by : Option Addr → Option Written → Option Prefix
 prefix_by (Some address) w = Some (whole_prefix address)
 prefix_by None w = option_map prefix_of w
 
--- an address, or an address with a length, of which the bits behind the length are cleared
+-- an address, or an address with a length, of which the bits after the length are cleared
 abbrev pub prefix_in : Text → Option Prefix
 prefix_in text = prefix_by (address_in text) (written_in text)
 

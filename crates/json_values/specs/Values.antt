@@ -49,7 +49,7 @@ abbrev pub all_said : {T : Type 0} → (Data → Option T) → List Data → Opt
 all_said says [] = Some []
 all_said says (d ∷ ds) = more (says d) (all_said says ds)
 
--- an array of at most so many items
+-- an array of at most this many items
 abbrev pub list_of : {T : Type 0} → ℕ → (Data → Option T) → Data → Option (List T)
 list_of most says d =
     kept (λ xs. nat_le (length xs) most)

@@ -38,7 +38,7 @@ fn values_of(value: &Value) -> Option<&[Value]>
     }
 }
 
-/// An array of at most so many items, or None where it isn't one.
+/// An array of at most this many items, or None where it isn't one.
 pub(crate) fn list_of<T: Item>(
     alloc: Global,
     value: &Value,

@@ -59,7 +59,7 @@ pub(crate) fn card_of(value: &Value) -> Option<Mac>
     }
 }
 
-/// An address, or an address with a length, of which the bits behind the length are cleared.
+/// An address, or an address with a length, of which the bits after the length are cleared.
 pub(crate) fn prefix_of(value: &Value) -> Option<Prefix>
     ensures { result ≡ prefix_said (view value.now) }
 {

@@ -16,7 +16,7 @@ pub record HasCause {T E : Type 0} (before now : ℕ) (result : Result T E) : Ty
   pub later : before ≤ now
   pub failed : OnErr result (RoseBy 1 before now)
 
--- the refusal is a failure, and not want of memory
+-- the refusal is a failure, and not out of memory
 abbrev pub IsFailure : {T : Type 0} → Result T OutsideRefusal → Type 0
 IsFailure result = IsErrOf result Failed
 
@@ -24,7 +24,7 @@ IsFailure result = IsErrOf result Failed
 abbrev pub IsWant : OutsideRefusal → Type 0
 IsWant refusal = refusal ≡ OutOfMemory
 
--- the same of a refusal that may also be want of memory, which is free
+-- the same of a refusal that may also be out of memory, which is free
 pub record HasRefusalCause {T : Type 0} (before now : ℕ) (result : Result T OutsideRefusal)
     : Type 0 where
   pub later : before ≤ now

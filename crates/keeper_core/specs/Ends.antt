@@ -3,7 +3,7 @@ use Rattle.std.specs.Prelude.{ℕ}
 use Rattle.net_addr.specs.Words.{Bytes}
 use Rattle.keeper_core.specs.declared.calls.Calls.{Calls}
 
--- bytes that are still to be read, at most so many in one read
+-- bytes that are still to be read, at most this many in one read
 pub record Unread : Type 0 where
   pub left : Bytes
   pub piece : ℕ

@@ -12,7 +12,7 @@ module _ {V : Type 0} where
   abbrev pub value_named : Text → List (Named V) → Option V
   value_named name items = option_map (λ item. item.value) (find (has_name name) items)
 
-  -- the items with this value under the name: in the place of the first one with the name, else
+  -- the items with this value under the name: in place of the first one with the name, otherwise
   -- last
   abbrev pub with_value : Text → V → List (Named V) → List (Named V)
   with_value name value [] = record { name = name; value = value } ∷ []

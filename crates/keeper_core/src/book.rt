@@ -120,7 +120,7 @@ impl<I: Source, O: Sink> Book<I, O> {
         }
     }
 
-    /// The settings with a name, or all stays as it is.
+    /// The settings with a name, or nothing changes.
     pub fn settings(&mut self, alloc: Global, name: &Text) -> Result<Bytes, OutOfMemory>
         ensures bytes { IfOk result (λ bytes. bytes ≡ file_named name.now self.old.files) }
         ensures ok { OnOk result (self.new ≡ asked (DeskAsk.Settings name.now) self.old) }
@@ -150,7 +150,7 @@ impl<I: Source, O: Sink> Book<I, O> {
         Ok(rows)
     }
 
-    /// Closes the store that is open with these rows. It takes no memory.
+    /// Closes the store that is open with these rows. It allocates nothing.
     pub fn close(&mut self, rows: Rows)
         ensures { self.new
             ≡ with_stores (closed_as self.old.stores.opened rows self.old.stores) self.old }
@@ -158,7 +158,7 @@ impl<I: Source, O: Sink> Book<I, O> {
         self.shelf.close(rows);
     }
 
-    /// Notes that someone listens, or all stays as it is.
+    /// Notes that someone listens, or nothing changes.
     pub fn listen(&mut self, alloc: Global, address: &Text) -> Result<(), OutOfMemory>
         ensures ok { OnOk result (self.new ≡ asked (DeskAsk.Listen address.now) self.old) }
         ensures err { OnErr result (self.new ≡ self.old) }
@@ -167,7 +167,7 @@ impl<I: Source, O: Sink> Book<I, O> {
         Ok(())
     }
 
-    /// The next connection, or all stays as it is.
+    /// The next connection, or nothing changes.
     pub fn next(&mut self) -> Result<Option<(I, O)>, DeskRefusal>
         ensures fresh { (input : I) (output : O) → result ≡ Ok (Some (input, output))
             → (I.faults input ≡ 0) × (O.faults output ≡ 0) }
@@ -184,7 +184,7 @@ impl<I: Source, O: Sink> Book<I, O> {
         Ok(pair)
     }
 
-    /// Takes back a connection. It takes no memory.
+    /// Takes back a connection. It allocates nothing.
     pub fn take_back(&mut self, input: I, output: O)
     where
         I: Drop,

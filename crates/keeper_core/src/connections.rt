@@ -21,8 +21,9 @@ pub struct Connections<I: Source, O: Sink> {
     told: bool,
 }
 
-// There is room for each connection that is out, so that handing it back takes no memory. Where one
-// comes that never was out, and there is no room for it, those that came back are told no more.
+// There is room for each connection that is out, so that handing it back allocates nothing. Where
+// one comes that never was out, and there is no room for it, those that came back are told no
+// more.
 impl<I: Source, O: Sink> Model for Connections<I, O> {
     ghost use Rattle.std.specs.Prelude.{◌+◌, ◌≤◌, Some, None, IsTrue, if◌then◌else◌, map, vec_len, vec_capacity};
     ghost use Rattle.keeper_core.specs.Desk.{Handed, end_of, are_fresh};
@@ -73,7 +74,7 @@ impl<I: Source, O: Sink> Connections<I, O> {
         }
     }
 
-    /// The next connection, or all stays as it is.
+    /// The next connection, or nothing changes.
     pub fn next(&mut self) -> Result<Option<(I, O)>, DeskRefusal>
         ensures fresh { (input : I) (output : O) → result ≡ Ok (Some (input, output))
             → (I.faults input ≡ 0) × (O.faults output ≡ 0) }
@@ -92,7 +93,7 @@ impl<I: Source, O: Sink> Connections<I, O> {
         Ok(Some(pair))
     }
 
-    /// Takes back a connection. It takes no memory.
+    /// Takes back a connection. It allocates nothing.
     pub fn take_back(&mut self, input: I, output: O)
     where
         I: Drop,

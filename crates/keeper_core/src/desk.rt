@@ -16,7 +16,7 @@ use net_addr::{Bytes, Text};
 use std::alloc::Global;
 
 /// The desk that hands out settings, stores and connections. Each call of `settings`, `store`,
-/// `listen` and `next` is an ask, also where it fails, but not where memory is wanting. What a call
+/// `listen` and `next` is an ask, also where it fails, but not where memory runs out. What a call
 /// isn't said to change stays as it is.
 pub trait Desk {
     type In: Source;
@@ -81,7 +81,7 @@ pub trait Desk {
         ensures cause { HasRefusalCause (faults self.old) (faults self.new) result };
 
     /// Takes back the store that was opened last. The rows that it tells become those with its
-    /// name. It takes no memory.
+    /// name. It allocates nothing.
     fn close(&mut self, store: Self::Store)
         ensures stores { Closes (stores self.old) (Self.Store.kept store) (stores self.new) }
         ensures store_faults { store_faults self.new
@@ -116,8 +116,8 @@ pub trait Desk {
         ensures cause { HasRefusalCause (faults self.old) (faults self.new) result };
 
     /// Takes back a connection, which comes last among those that were handed back. It refuses
-    /// nothing and takes no memory. A desk that tells them may stop only where none was out, since
-    /// it keeps room for each that is.
+    /// nothing and allocates nothing. A desk that tells them may stop only where none was out,
+    /// since it keeps room for each that is.
     fn done(&mut self, input: Self::In, output: Self::Out)
         ensures returned { TakesBack (returned self.old)
             (record {

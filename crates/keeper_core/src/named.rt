@@ -43,8 +43,8 @@ pub fn value_of<'a, T>(items: &'a [Named<T>], name: &Text) -> Option<&'a T>
     None
 }
 
-/// Puts a value under a name, in the place of the first one with the name, else last. It takes no
-/// memory, since there is room for one more. Its cost grows with the items.
+/// Puts a value under a name, in place of the first one with the name, otherwise last. It allocates
+/// nothing, since there is room for one more. Its cost grows with the items.
 pub fn put_value<T: Drop>(items: &mut Vec<Named<T>>, name: Text, value: T)
     requires { vec_len items.old < vec_capacity items.old }
     ensures { items.new.items ≡ with_value name value items.old.items }

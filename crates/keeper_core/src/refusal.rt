@@ -29,7 +29,7 @@ pub enum OutsideRefusal {
     OutOfMemory,
 }
 
-/// Why a write was refused. A sink in memory grows, so memory may be wanting.
+/// Why a write was refused. A sink in memory grows, so memory may run out.
 pub type SinkRefusal = OutsideRefusal;
 
 /// Why a keeper refused.

@@ -17,7 +17,7 @@ pub struct Shelf {
     opened: Option<Option<Text>>,
 }
 
-// While a store is open there is room for its rows, so that closing takes no memory.
+// While a store is open there is room for its rows, so that closing allocates nothing.
 impl Model for Shelf {
     ghost use Rattle.std.specs.Prelude.{◌<◌, IfSome, vec_len, vec_capacity};
     ghost use Rattle.keeper_core.specs.Desk.{Stores};
@@ -84,7 +84,7 @@ impl Shelf {
         Ok(rows)
     }
 
-    /// Closes the store that is open with these rows. It takes no memory.
+    /// Closes the store that is open with these rows. It allocates nothing.
     pub fn close(&mut self, rows: Rows)
         ensures { self.new ≡ closed_as self.old.opened rows self.old }
     {

@@ -17,9 +17,9 @@ pub trait Sink {
     // how many calls failed
     ghost faults: { Self → ℕ };
 
-    /// Writes the first bytes of a piece that isn't empty, and answers how many: one at least. They
-    /// go behind those that were written. After a refusal the bytes written are as before. What is
-    /// flushed stays as it is.
+    /// Writes the first bytes of a piece that isn't empty, and answers how many: one at least.
+    /// They go after those that were written. After a refusal the bytes written are as before.
+    /// What is flushed stays as it is.
     fn write(&mut self, piece: &[u8]) -> Result<usize, SinkRefusal>
         requires { 0 < length piece.now }
         ensures count { IfOk result (λ n. (0 < n) × (n ≤ length piece.now)) }

@@ -32,7 +32,7 @@ pub(crate) fn four_of(text: &[u8]) -> Option<Addr4> {
     }
 }
 
-/// The prefix that a text spells, where no bit is set behind its length.
+/// The prefix that a text spells, where no bit is set after its length.
 pub(crate) fn prefix_of(text: &[u8]) -> Option<Prefix> {
     match Cidr::read(text) {
         Ok(cidr) => {

@@ -40,7 +40,7 @@ fn target_texts(alloc: Global, target: Option<Target>) -> Result<TargetTexts, Ou
     }
 }
 
-/// Puts the row in the place of that with its id, or behind all.
+/// Replaces the row with its id, or adds it last.
 pub(crate) fn write<S: Alter>(
     alloc: Global,
     to: &mut Transaction<'_, S>,

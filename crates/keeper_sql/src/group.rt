@@ -7,7 +7,7 @@ use api_types::GroupRow;
 use sqlite::{Alter, Row, Transaction, params};
 use std::alloc::Global;
 
-/// Puts the row in the place of that with its id, or behind all.
+/// Replaces the row with its id, or adds it last.
 pub(crate) fn write<S: Alter>(
     alloc: Global,
     to: &mut Transaction<'_, S>,

@@ -125,7 +125,7 @@ fn read_kinds<S: Alter>(alloc: Global, from: &mut Transaction<'_, S>) -> Result<
     Ok(rows)
 }
 
-// The rows of a store, which is of the format of today behind it.
+// The rows of a store, which is of the format of today after it.
 fn read_format<S: Alter>(alloc: Global, from: &mut Transaction<'_, S>) -> Result<Rows, Trouble> {
     match make_tables(from)? {
         Format::One => lift_store(alloc, from),
@@ -167,7 +167,7 @@ impl<S: Alter> SqlKeeper<S> {
         conn
     }
 
-    // Counts a fault, and want of memory not.
+    // Counts a fault, and out of memory not.
     fn refusal(&mut self, trouble: Trouble) -> KeeperRefusal
         ensures later { self.old ≤ self.new }
         ensures cause { result ≡ HasFailed → RoseBy 1 self.old self.new }

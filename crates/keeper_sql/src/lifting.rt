@@ -23,7 +23,7 @@ fn read_old<S: Alter>(alloc: Global, from: &mut Transaction<'_, S>) -> Result<Ol
     Ok(old)
 }
 
-/// The rows of a store of format 1, which is of format 2 behind it.
+/// The rows of a store of format 1, which is of format 2 after it.
 pub(crate) fn lift_store<S: Alter>(
     alloc: Global,
     store: &mut Transaction<'_, S>,

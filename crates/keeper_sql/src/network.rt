@@ -20,7 +20,7 @@ fn parts(segment: &Segment) -> (&'static str, Option<&str>, Option<u32>) {
     }
 }
 
-/// Puts the row in the place of that with its id, or behind all.
+/// Replaces the row with its id, or adds it last.
 pub(crate) fn write<S: Alter>(
     alloc: Global,
     to: &mut Transaction<'_, S>,

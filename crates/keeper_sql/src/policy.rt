@@ -22,7 +22,7 @@ fn action_at(row: &Row, at: usize) -> Result<Action, Trouble> {
     }
 }
 
-/// Puts the row in the place of that with its id, or behind all.
+/// Replaces the row with its id, or adds it last.
 pub(crate) fn write<S: Alter>(
     alloc: Global,
     to: &mut Transaction<'_, S>,

@@ -39,7 +39,7 @@ pub(crate) fn vif_at(row: &Row, at: usize) -> Result<Vif, Trouble> {
     }
 }
 
-/// Puts the row in the place of that with its id, or behind all.
+/// Replaces the row with its id, or adds it last.
 pub(crate) fn write<S: Alter>(
     alloc: Global,
     to: &mut Transaction<'_, S>,

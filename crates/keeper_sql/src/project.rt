@@ -15,7 +15,7 @@ fn signed(number: u64) -> Result<i64, Trouble> {
     }
 }
 
-/// Puts the row in the place of that with its id, or behind all.
+/// Replaces the row with its id, or adds it last.
 pub(crate) fn write<S: Alter>(
     to: &mut Transaction<'_, S>,
     row: &ProjectRow,

@@ -41,7 +41,7 @@ fn gateway_texts(alloc: Global, gateway: Option<Gateway>) -> Result<GatewayTexts
     }
 }
 
-/// Puts the row in the place of that with its id, or behind all.
+/// Replaces the row with its id, or adds it last.
 pub(crate) fn write<S: Alter>(
     alloc: Global,
     to: &mut Transaction<'_, S>,

@@ -65,7 +65,7 @@ pub(crate) fn id_text(alloc: Global, id: Option<Id>) -> Result<Option<Text>, Out
     }
 }
 
-/// Puts the row in the place of that with its id, or behind all.
+/// Replaces the row with its id, or adds it last.
 pub(crate) fn write<S: Alter>(
     alloc: Global,
     to: &mut Transaction<'_, S>,

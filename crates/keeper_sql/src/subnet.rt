@@ -53,7 +53,7 @@ fn str_if(text: &Option<Text>) -> Option<&str> {
     }
 }
 
-/// Puts the row in the place of that with its id, or behind all.
+/// Replaces the row with its id, or adds it last.
 pub(crate) fn write<S: Alter>(
     alloc: Global,
     to: &mut Transaction<'_, S>,

@@ -38,7 +38,7 @@ const DAMAGES: [&str; 17] = [
     TWICE,
 ];
 
-// Whether a store with a row of each kind is refused, and the failure counted, behind the damage.
+// Whether a store with a row of each kind is refused, and the failure counted, after the damage.
 fn is_refused(alloc: Global, damage: &str) -> Result<bool, Fail> {
     let mut keeper = SqlKeeper::make(Connection::open_in_memory(alloc)?);
     let mut change = Seq::new(alloc);

@@ -263,7 +263,7 @@ pub(crate) fn item(row: Row, is_made: bool) -> Item {
     }
 }
 
-/// Puts one item for each row behind a change.
+/// Puts one item for each row after a change.
 pub(crate) fn push_items(
     change: &mut Change,
     rows: Seq<Row>,

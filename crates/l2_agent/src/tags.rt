@@ -131,7 +131,7 @@ fn next_free(kept: &HashSet<u16>, from: u16) -> u16
     BEHIND
 }
 
-// The tag that the network had, else the least that is free from a number on, and the number from
+// The tag that the network had, otherwise the least that is free from a number on, and the number from
 // which the free ones are then left.
 fn next_tag(old: &TagMap, kept: &HashSet<u16>, network: Id, free: u16) -> (Option<u16>, u16)
     requires { free ≤ 4095 }
@@ -151,7 +151,7 @@ fn next_tag(old: &TagMap, kept: &HashSet<u16>, network: Id, free: u16) -> (Optio
     }
 }
 
-// A row for each network: the tag that it had, else the first one that is free then.
+// A row for each network: the tag that it had, otherwise the first one that is free then.
 #[tactic(auto, unfolding(plane_types::specs::NewTags::in_turn))]
 fn in_turn(
     alloc: Global,

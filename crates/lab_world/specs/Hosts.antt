@@ -16,7 +16,7 @@ IsNamedAt name nodes at =
 abbrev pub named_node : List ℕ → List Node → Option Node
 named_node name nodes = find (λ (n : Node). bytes_eq name n.agent.name) nodes
 
--- something is done at a place, and all else stays
+-- something is done at a place, and nothing else changes
 abbrev pub at_place : ℕ → (Agent → Agent) → List Agent → List Agent
 at_place at f [] = []
 at_place zero f (a ∷ agents) = f a ∷ agents

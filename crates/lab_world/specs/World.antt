@@ -24,7 +24,7 @@ use Rattle.world_laws.specs.Steps.{Accept, step}
 use Rattle.world_laws.specs.World.{World}
 use Rattle.lab_world.specs.Lab.{Answered, Barred, LabOutcome, lab_outcome}
 
--- the rows of now, with their version
+-- the current rows, with their version
 abbrev pub state_of : World → State
 state_of w = state_at w.history.rows w.history.version
 

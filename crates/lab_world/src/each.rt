@@ -15,7 +15,7 @@ use net_addr::OutOfMemory;
 use plane_types::{Entries, Entry, Made};
 use std::alloc::Global;
 
-// Tells a host a change, or leaves it as it is where memory is wanting.
+// Tells a host a change, or leaves it as it is where memory runs out.
 fn tell(alloc: Global, node: &mut AgentNode, number: u64, change: &Change)
     requires { CanFollow node.old.agent number change.now }
     ensures { (node.new.agent ≡ after_change number change.now node.old.agent)

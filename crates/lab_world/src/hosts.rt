@@ -69,7 +69,7 @@ impl Hosts {
         Ok(())
     }
 
-    /// What each host would be given with these rows. All stays as it is. Its cost is that of
+    /// What each host would be given with these rows. Nothing changes. Its cost is that of
     /// wiring each host, and of a copy of the rows for each.
     pub fn prepare(
         &self,
@@ -88,9 +88,9 @@ impl Hosts {
         Ok(ready)
     }
 
-    /// Puts in place what was made ready for each host with rows of a version, where the host doesn't
-    /// hold that. It takes no memory. Its cost grows with the entries of each host times its taps
-    /// and routers.
+    /// Puts in place what was made ready for each host with rows of a version, where the host
+    /// doesn't hold that. It allocates nothing. Its cost grows with the entries of each host times
+    /// its taps and routers.
     pub fn settle(&mut self, ready: Vec<ReadyNode>, version: u64)
         requires each { AreFor ready.items self.old }
         requires version { Each (λ (r : Ready). r.version ≡ version) ready.items }
@@ -165,7 +165,7 @@ impl Hosts {
         Ok(())
     }
 
-    /// The host at a place holds nothing from now on. It takes no memory.
+    /// The host at a place holds nothing from now on. It allocates nothing.
     pub fn restart(&mut self, at: usize)
         requires { at < length self.old }
         ensures { agents_of self.new ≡ at_place at after_restart (agents_of self.old) }
@@ -173,7 +173,7 @@ impl Hosts {
         self.nodes[at].restart();
     }
 
-    /// The host at a place has no entries from now on. It takes no memory.
+    /// The host at a place has no entries from now on. It allocates nothing.
     pub fn forget(&mut self, at: usize)
         requires { at < length self.old }
         ensures { agents_of self.new ≡ at_place at after_forget (agents_of self.old) }
@@ -181,7 +181,7 @@ impl Hosts {
         self.nodes[at].forget();
     }
 
-    /// Makes room at each host for the entries of one event. All else stays.
+    /// Makes room at each host for the entries of one event. Nothing else changes.
     pub fn reserve(&mut self, alloc: Global) -> Result<(), OutOfMemory>
         ensures same { agents_of self.new ≡ agents_of self.old }
         ensures spare { OnOk result (Each (λ (n : Node). 256 ≤ n.spare.entries) self.new) }
@@ -189,8 +189,8 @@ impl Hosts {
         reserve_all(alloc, self.nodes.as_mut_slice())
     }
 
-    /// Adds the entries that an event made, each at the host that made it. It takes no memory. Its
-    /// cost grows with these entries times the hosts.
+    /// Adds the entries that an event made, each at the host that made it. It allocates nothing.
+    /// Its cost grows with these entries times the hosts.
     pub fn keep(&mut self, fresh: &[Made])
         requires room { Each (λ (n : Node). length fresh.now ≤ n.spare.entries) self.old }
         requires placed { Each IsAttached (with_made (map host_of (agents_of self.old)) fresh.now) }

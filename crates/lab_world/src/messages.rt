@@ -36,7 +36,7 @@ impl World {
         Ok(LabAnswer::Told(heard))
     }
 
-    /// Gives the host of this name the rows of now. Its cost is that of wiring the host.
+    /// Gives the host of this name the current rows. Its cost is that of wiring the host.
     pub(crate) fn resync(
         &mut self,
         alloc: Global,
@@ -106,7 +106,8 @@ impl World {
         Ok(LabAnswer::Hosts(states))
     }
 
-    /// Gives the rows of now to each host that doesn't hold them. Its cost is that of wiring each host.
+    /// Gives the current rows to each host that doesn't hold them. Its cost is that of wiring each
+    /// host.
     pub(crate) fn settle(&mut self, alloc: Global, caller: &Caller) -> Result<LabAnswer, Refusal>
         ensures ok { IfOk result
             (λ answer.

@@ -36,8 +36,8 @@ use std::marker::Model;
 
 /// The machine of a server, its last changes as messages, and the hosts that carry its frames.
 ///
-/// Each host has the rows of some version, which is that of now once it heard all messages: its
-/// tables are those that its rows give to it, always.
+/// Each host has the rows of some version, which is the current one once it heard all messages:
+/// its tables are those that its rows give to it, always.
 #[derive(Drop)]
 pub struct World {
     pub(crate) machine: Machine,
@@ -60,11 +60,12 @@ impl Model for World {
 }
 
 impl World {
-    /// Puts rows into service under the settings, at version 0, with the hosts of the settings, each
-    /// of which wires them. Where delivery is `manual` hosts hear of changes by `deliver` alone, else
-    /// each is told of each change at once. It is refused where the rows break a clause of
-    /// consistency, with the first one, or for want of memory; rows and settings are dropped then.
-    /// Its cost grows with the square of the rows, and with the hosts times the rows.
+    /// Puts rows into service under the settings, at version 0, with the hosts of the settings,
+    /// each of which wires them. Where delivery is `manual` hosts hear of changes by `deliver`
+    /// alone, otherwise each is told of each change at once. It is refused where the rows break a
+    /// clause of consistency, with the first one, or because memory ran out; rows and settings are
+    /// dropped then. Its cost grows with the square of the rows, and with the hosts times the
+    /// rows.
     pub fn open(
         alloc: Global,
         rows: Rows,
@@ -110,7 +111,7 @@ impl World {
         self.machine.version()
     }
 
-    /// Whether each host holds the version of now. Its cost grows with the hosts.
+    /// Whether each host holds the current version. Its cost grows with the hosts.
     pub fn synced(&self) -> bool
         ensures { IsTrue result ↔ IsSynced self.now }
     {
@@ -120,13 +121,13 @@ impl World {
     /// Answers what a caller asks. An accepted change is in the rows and in the kept rows, it is
     /// kept as a message, of which the last 1,024 are, and the version has risen by one; where
     /// delivery isn't manual each host is told it but those that find no memory. Frames go by the
-    /// tables that the hosts hold. While each host holds the version of now they come to what the
+    /// tables that the hosts hold. While each host holds the current version they come to what the
     /// rows say, cross between networks at routers alone, and are let in and out by ports as their
     /// groups and guards allow, or as answers to that. The entries that they make are kept at
-    /// the hosts that made them. After a refusal all is as it was: one for want of memory, which is
-    /// free, one because the store failed to keep an accepted change, where the keeper counted a
-    /// fault, or that of the ask. The cost grows with the rows, for an accepted change with that of
-    /// wiring each host too, and for a frame with the entries of the hosts.
+    /// the hosts that made them. After a refusal all is as it was: one because memory ran out,
+    /// which is free, one because the store failed to keep an accepted change, where the keeper
+    /// counted a fault, or that of the ask. The cost grows with the rows, for an accepted change
+    /// with that of wiring each host too, and for a frame with the entries of the hosts.
     pub fn handle<K: Keeper>(
         &mut self,
         alloc: Global,

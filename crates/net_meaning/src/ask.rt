@@ -10,7 +10,7 @@ use plane_rows::{dhcp_port, has_wire, holder, joined_with, lease_for, port_at};
 use plane_types::{AskAnswer, DropCause, Ends, Frame, Outcome, Toward};
 use std::alloc::Global;
 
-/// Out on a network that a physical one carries, else dropped.
+/// Out on a network that a physical one carries, otherwise dropped.
 pub(crate) fn out_of(
     rows: &Rows,
     network: Id,

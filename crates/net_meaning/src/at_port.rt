@@ -202,7 +202,7 @@ fn note(trace: &mut Trace, made: Option<Entry>, passed: Option<(Id, Id)>) -> Res
     Ok(())
 }
 
-/// What becomes of a packet that a port gets, and that may pass so many routers. Its cost grows
+/// What becomes of a packet that a port gets, and that may pass this many routers. Its cost grows
 /// with the routers that it passes, for each with the rows and the entries.
 pub(crate) fn carry_packet<'r>(
     alloc: Global,

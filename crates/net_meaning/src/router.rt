@@ -53,7 +53,7 @@ fn answer(rows: &Rows, router: &RouterRow, uses: &[Use], packet: &Packet) -> Opt
     }
 }
 
-// A floating address of this router becomes the fixed address; else an entry that the packet
+// A floating address of this router becomes the fixed address; otherwise an entry that the packet
 // answers gives it back the source that it keeps.
 #[tactic(auto, unfolding(api_types::specs::RouterRows::router_view))]
 fn find_destination(rows: &Rows, router: &RouterRow, uses: &[Use], packet: &Packet) -> Destined

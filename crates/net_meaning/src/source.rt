@@ -77,7 +77,7 @@ fn is_translated(rows: &Rows, router: &RouterRow, out: &PortRow, by: Changed) ->
         && has_live_gateway(rows, router)
 }
 
-// A floating address of this router for the source replaces it; else it may be translated.
+// A floating address of this router for the source replaces it; otherwise it may be translated.
 #[tactic(auto, unfolding(api_types::specs::RouterRows::router_view))]
 fn sourced_float(
     rows: &Rows,

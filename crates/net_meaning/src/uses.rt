@@ -42,8 +42,8 @@ fn add_uses(
     Ok(())
 }
 
-/// The router's valid translation entries: those with the gateway address of now, where sources are
-/// translated now. Its cost grows with the entries.
+/// The router's valid translation entries: those with the current gateway address, where sources
+/// are translated now. Its cost grows with the entries.
 #[tactic(auto, using(plane_types::proofs::UseLemmas::uses_of_both))]
 pub(crate) fn valid_uses(
     alloc: Global,
@@ -136,7 +136,7 @@ fn least_untaken(uses: &[Use], key: &Key) -> Option<u16>
     None
 }
 
-/// The outer port of a new entry: the same port where it isn't taken, else, for TCP, UDP and
+/// The outer port of a new entry: the same port where it isn't taken, otherwise, for TCP, UDP and
 /// echoes, the least one from 1,024 on that isn't. Its cost grows with the entries; where the same
 /// port is taken, a table of marks for all ports is cleared too, and looked at up to the free one.
 #[tactic(auto, unfolding(plane_types::specs::Routing::new_port))]

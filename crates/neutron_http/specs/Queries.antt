@@ -57,7 +57,7 @@ limit_by (Some n) = if nat_le 1 n && nat_le n 10000 then Some n else None
 abbrev pub limit_in : Text → Option ℕ
 limit_in text = limit_by (number_in 5 text)
 
--- a pair of a list's query is bad behind these: a limit that is none, or a second limit or marker,
+-- a pair of a list's query is bad after these: a limit that is none, or a second limit or marker,
 -- or a name that isn't known
 abbrev pub is_bad : Kind → List Named → Named → Bool
 is_bad kind before pair =
@@ -67,7 +67,7 @@ is_bad kind before pair =
     if is_named (codes "marker") pair then has_name (codes "marker") before else (
     if is_named (codes "fields") pair then false else not (is_filter kind pair.0)))
 
--- the name of the first bad pair behind these
+-- the name of the first bad pair after these
 abbrev pub first_bad : Kind → List Named → List Named → Option Text
 first_bad kind before [] = None
 first_bad kind before (pair ∷ pairs) =
@@ -86,7 +86,7 @@ limit_of (Some text) = limit_in text
 abbrev pub filters_in : Kind → List Named → List Named
 filters_in kind pairs = filter (λ p. is_filter kind p.0) pairs
 
--- what is asked: filters, the most rows, the row behind which the list begins, and the members
+-- what is asked: filters, the most rows, the row after which the list begins, and the members
 -- that are kept
 pub record Asked : Type 0 where
   pub filters : List Named
@@ -151,7 +151,7 @@ pub record IsQueryOf (asked : Asked) (query : Query) : Type 0 where
   pub marker : IsMarkerOf asked.marker query.marker
   pub fields : query.fields ≡ asked.fields
 
--- the answer is that query, or the refusal of the bad name; want of memory says nothing
+-- the answer is that query, or the refusal of the bad name; out of memory says nothing
 abbrev pub IsReadQuery : QueryRead → Result Query BodyRefusal → Type 0
 IsReadQuery (Asks asked) (Ok query) = IsQueryOf asked query
 IsReadQuery (Asks asked) (Err (BadBody member)) = ⊥

@@ -44,7 +44,7 @@ allow_fields code (Some methods) = if code == 405 then (codes "Allow", methods) 
 abbrev pub caller_fields : ℕ → List Named
 caller_fields code = if code == 401 then (codes "WWW-Authenticate", codes "Keystone") ∷ [] else []
 
--- that the connection ends behind the reply
+-- that the connection ends after the reply
 abbrev pub close_fields : Bool → List Named
 close_fields close = if close then (codes "Connection", codes "close") ∷ [] else []
 
@@ -86,7 +86,7 @@ pub record IsFieldValue (value : Text) : Type 0 where
   pub trimmed : trim_ows value ≡ value
 
 -- a reader of responses finds one whole head of version 1.1 with this code, phrase and fields, and
--- this body behind it
+-- this body after it
 pub record IsWholeReply (bytes : Bytes) (code : ℕ) (fields : List Named) (body : Bytes)
     : Type 0 where
   pub head : ResponseHead

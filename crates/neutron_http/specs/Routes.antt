@@ -96,7 +96,7 @@ routed method text (Some path) = routed_by text path (method_in (methods_of path
 unfoldable pub route_of : Text → Bytes → Routed
 route_of method path = if is_utf8 path then routed method path (path_at path) else Nowhere
 
--- the answer is that route, or the refusal that it is; want of memory says nothing
+-- the answer is that route, or the refusal that it is; out of memory says nothing
 abbrev pub Answers : Result Route RouteRefusal → Routed → Type 0
 Answers (Ok r) routed = routed ≡ To r.path r.method r.parameters
 Answers (Err NoRoute) routed = routed ≡ Nowhere

@@ -128,14 +128,14 @@ fn type_text(alloc: Global, refusal: &Refusal) -> Result<Text, OutOfMemory>
     }
 }
 
-// Two texts, one behind the other.
+// Two texts, one after the other.
 fn joined(alloc: Global, front: &str, back: &str) -> Result<Text, OutOfMemory>
     ensures { IfOk result (λ t. t ≡ front.now ++ back.now) }
 {
     Ok(Text::from_string(format!(in alloc; "{front}{back}")?))
 }
 
-// Three texts, one behind the other.
+// Three texts, one after the other.
 fn around(alloc: Global, front: &str, middle: &str, back: &str) -> Result<Text, OutOfMemory>
     ensures { IfOk result (λ t. t ≡ front.now ++ middle.now ++ back.now) }
 {

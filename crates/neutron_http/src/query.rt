@@ -144,7 +144,7 @@ fn is_there(pairs: &[Filter], name: &str) -> bool
     false
 }
 
-// Whether a pair of a list's query is bad behind others.
+// Whether a pair of a list's query is bad after others.
 fn is_bad_pair(kind: Kind, before: &[Filter], pair: &Filter) -> bool
     ensures { result ≡ is_bad kind (map held before.now) (held pair.now) }
 {

@@ -35,7 +35,7 @@ fn caller_text(code: u16) -> &'static str
     }
 }
 
-// That the connection ends behind the reply.
+// That the connection ends after the reply.
 fn close_text(close: bool) -> &'static str
     ensures { result.now ≡ field_lines (close_fields close) }
 {
@@ -72,7 +72,7 @@ fn sent_body(code: u16, body: &[u8]) -> &[u8]
     if code == 204 { &[] } else { body }
 }
 
-// The pieces of a reply, one behind the other.
+// The pieces of a reply, one after the other.
 fn assembled(
     alloc: Global,
     code: u16,

@@ -100,7 +100,7 @@ abbrev pub or_else : Option Text → Option Text → Option Text
 or_else (Some name) other = Some name
 or_else None other = other
 
--- the attribute that a refusal names: a bad one, else a missing one
+-- the attribute that a refusal names: a bad one, otherwise a missing one
 abbrev pub first_wrong : Edit → List Attribute → Data → Option Text
 first_wrong edit attributes d =
     or_else (bad_among edit attributes (as_object d)) (missing_in edit attributes d)

@@ -86,7 +86,7 @@ interface_says (Some d) = interface_by d (first_wrong Create interface_attribute
 abbrev pub interface_read : Bytes → Read InterfaceBy
 interface_read body = interface_says (option_and_then as_whole (json_of body))
 
--- the answer is what is read, or the refusal that it is; want of memory says nothing
+-- the answer is what is read, or the refusal that it is; out of memory says nothing
 abbrev pub Answers : {T : Type 0} → Result T BodyRefusal → Read T → Type 0
 Answers (Ok x) read = read ≡ Says x
 Answers (Err (BadBody member)) read = read ≡ NoFrame member

@@ -170,7 +170,7 @@ fn bad_among(
 }
 
 /// The attribute that is wrong: the first in byte order that is unknown, isn't read or isn't
-/// allowed, else, at creation, the first that is missing. The cost grows with the object.
+/// allowed, otherwise, at creation, the first that is missing. The cost grows with the object.
 pub(crate) fn first_wrong(
     alloc: Global,
     edit: Edit,

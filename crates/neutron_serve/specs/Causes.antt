@@ -1,4 +1,4 @@
--- By what a request is answered: by the step, or because the store failed or memory was wanting;
+-- By what a request is answered: by the step, or because the store failed or memory ran out;
 -- and whether hosts may have moved.
 use Rattle.std.specs.Prelude.{not, Bool, false, true}
 use Rattle.api_types.specs.Lists.{is_empty}

@@ -21,7 +21,7 @@ pub record Served : Type 0 where
   pub end : SessionEnd
 
 -- one session of at most 2^40 bytes, from a world and a store's count of faults to what they are
--- behind it
+-- after it
 pub record IsServed (old : World) (before : ℕ) (c : Served) (new : World) (behind : ℕ)
     : Type 0 where
   pub buffer : Bytes
@@ -51,7 +51,8 @@ pub record Line : Type 0 where
 abbrev pub line : Option (List Ended) → Option Returned → Option (List DeskAsk) → Line
 line to_come returned asks = record { to_come = to_come; returned = returned; asks = asks }
 
--- these were taken from those to come and handed back, in their order, and so many were asked for
+-- these were taken from those to come and handed back, in their order, and this many were asked
+-- for
 pub record Passes (cs : List Served) (asked : ℕ) (old new : Line) : Type 0 where
   pub came : old.to_come
       ≡ option_map (λ rest. map (λ (c : Served). c.start) cs ++ rest) new.to_come
@@ -60,7 +61,7 @@ pub record Passes (cs : List Served) (asked : ℕ) (old new : Line) : Type 0 whe
       record { ended = r.ended ++ map (λ (c : Served). c.done) cs; out = r.out }) old.returned
   pub asks : new.asks ≡ option_map (λ asks. asks ++ replicate asked Next) old.asks
 
--- whether a session ended for want of memory
+-- whether a session ended because memory ran out
 abbrev pub is_wanting : SessionEnd → Bool
 is_wanting OutOfMemory = true
 is_wanting other = false
@@ -71,7 +72,7 @@ AreWhole [] = ⊤
 AreWhole (c ∷ cs) = (is_wanting c.end ≡ false) × AreWhole cs
 
 -- why no further connection is served: as many were as there may be, none is to come, the desk
--- failed, or memory was wanting
+-- failed, or memory ran out
 abbrev pub IsOver : (status : ℕ) (most : ℕ) (cs : List Served) (asked : ℕ) (new : Line)
     (before now : ℕ) → Type 0
 IsOver status most cs asked new before now =
@@ -80,7 +81,7 @@ IsOver status most cs asked new before now =
     ⊎ (((status ≡ 7) × RoseBy 1 before now × (asked ≡ length cs + 1) × AreWhole cs)
     ⊎ ((status ≡ 4) × (asked ≡ length cs))))
 
--- at most so many connections are served
+-- at most this many connections are served
 pub record ServesAll (status : ℕ) (most : ℕ) (old : World) (before : ℕ) (a : Line) (faults : ℕ)
     (new : World) (behind : ℕ) (b : Line) (now : ℕ) : Type 0 where
   pub served : List Served
@@ -109,7 +110,7 @@ asked_too ask a = record {
   asks = option_map (λ asks. asks ++ ask ∷ []) a.asks;
 }
 
--- the desk listens at the address and connections are served; or it fails, or memory is wanting,
+-- the desk listens at the address and connections are served; or it fails, or memory runs out,
 -- and none is
 abbrev pub Listens : ℕ → Text → ℕ → World → ℕ → Line → ℕ → World → ℕ → Line → ℕ → Type 0
 Listens status address most old before a faults new behind b now =

@@ -72,7 +72,7 @@ abbrev pub is_delivered : Reply → Bool
 is_delivered (reply.LabDone answer) = tells_delivery answer
 is_delivered other = false
 
--- memory was wanting, or the store failed
+-- memory ran out, or the store failed
 abbrev pub is_outside_refusal : Refusal → Bool
 is_outside_refusal refusal.OutOfMemory = true
 is_outside_refusal refusal.StoreFault = true
@@ -85,7 +85,7 @@ is_outside other = false
 -- ---- a drill's requests
 
 -- While all is whole, a request is answered by the step of the API or of the lab, every host holds
--- the version of now behind it, and it is counted by its outcome. So where all is whole at the
+-- the current version after it, and it is counted by its outcome. So where all is whole at the
 -- end, it is so of each request.
 pub record DrillSteps (old : Drill) (asked : Asked) (written : Bytes) (new : Drill) : Type 0 where
   pub whole : new.tally.whole ≡ true → old.tally.whole ≡ true
@@ -96,7 +96,7 @@ pub record DrillSteps (old : Drill) (asked : Asked) (written : Bytes) (new : Dri
       ≡ counted (outcome_code (request_outcome old.world (request_of asked)))
       (outcome_delivers (request_outcome old.world (request_of asked))) old.tally
 
--- the replies to bytes that are refused are those of every session; in the place of a step's reply
+-- the replies to bytes that are refused are those of every session; in place of a step's reply
 -- there comes none
 abbrev pub drill_replies : Fixed Drill
 drill_replies = record {
@@ -116,7 +116,7 @@ abbrev pub fresh_drill : Drill
 fresh_drill = record { world = first_world default_parts false no_rows; tally = fresh_tally }
 
 -- a session over the made requests comes to its end: its replies, what is counted of them, and the
--- version of the rows behind it
+-- version of the rows after it
 pub record IsDrilled (start size : ℕ) (out : Bytes) (tally : Tally) (version : Version)
     : Type 0 where
   pub drill : Drill
@@ -157,7 +157,7 @@ IsWrittenOut status text old new flushed =
     ⊎ (((status ≡ 3) ⊎ (status ≡ 4))
     × ((front : Bytes) × (back : Bytes) × (text ≡ front ++ back) × Appends old new front))
 
--- a drill writes nothing for want of memory, or what it is to write
+-- a drill writes nothing because memory ran out, or what it is to write
 abbrev pub RunsDrill : ℕ → ℕ → Bool → Option Bytes → Option Bytes → Option ℕ → ℕ → Type 0
 RunsDrill start size replies old new flushed status =
     ((status ≡ 4) × (new ≡ old))

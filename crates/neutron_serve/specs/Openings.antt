@@ -58,7 +58,7 @@ settings_asks (Some name) = Settings name ∷ []
 abbrev pub opening_asks : Opening → List DeskAsk
 opening_asks opening = settings_asks opening.settings ++ Store opening.store ∷ []
 
--- the asks that were made behind others are these, in their order, or the first ones of them
+-- the asks that were made after others are these, in their order, or the first ones of them
 pub record AsksFirst (all : List DeskAsk) (old new : Option (List DeskAsk)) : Type 0 where
   pub made : List DeskAsk
   pub rest : List DeskAsk
@@ -109,7 +109,7 @@ pub record AreBroken (old : DeskSeen) (opening : Opening) : Type 0 where
 
 -- ---- why nothing is opened
 
--- all of these asks are made; where memory is wanting, maybe only the first ones
+-- all of these asks are made; where memory runs out, maybe only the first ones
 abbrev pub AreMade : Unopened → List DeskAsk → Option (List DeskAsk) → Option (List DeskAsk)
     → Type 0
 AreMade BadSettings all old new = new ≡ option_map (λ asks. asks ++ all) old
@@ -118,7 +118,7 @@ AreMade Failed all old new = new ≡ option_map (λ asks. asks ++ all) old
 AreMade OutOfMemory all old new = AsksFirst all old new
 
 -- why there are no settings: the named bytes spell none, the desk failed to give them, or memory
--- is wanting
+--  runs out
 abbrev pub IsSettingsCause : Unopened → Opening → DeskSeen → DeskSeen → Type 0
 IsSettingsCause BadSettings opening old new = AreBadSettings old.files opening.settings
 IsSettingsCause BrokenRows opening old new = ⊥
@@ -134,7 +134,7 @@ pub record EndsAtSettings (why : Unopened) (opening : Opening) (old new : DeskSe
   pub store_faults : new.store_faults ≡ old.store_faults
 
 -- why there is no world under these settings: the desk or the store failed, the rows break a
--- clause, or memory is wanting
+-- clause, or memory runs out
 abbrev pub IsStoreCause : Unopened → SettingsParts → Opening → DeskSeen → DeskSeen → Type 0
 IsStoreCause BadSettings settings opening old new = ⊥
 IsStoreCause BrokenRows settings opening old new = RowsBreak old opening settings

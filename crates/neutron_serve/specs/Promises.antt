@@ -119,7 +119,7 @@ pub record Promised (old : World) (asked : Asked) (reply : Bytes) (new : World) 
   -- a refusal leaves all as it was
   pub refused : is_refusal (request_outcome old (request_of asked)) ≡ true → new ≡ old
 
--- a session of at most so many bytes, from one moment to another, after which hosts follow still
+-- a session of at most this many bytes, from one moment to another, after which hosts follow still
 pub record Promises (limit : ℕ) (old new : Moment World) (end : SessionEnd) : Type 0 where
   pub serves : Serves Promised fixed_replies limit old new end
   pub world : IsWorld new.world

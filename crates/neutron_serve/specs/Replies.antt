@@ -16,7 +16,7 @@ use Rattle.plane_types.specs.declared.ask.LabAnswer.{LabAnswer}
 use Rattle.plane_types.specs.declared.ask.Reply as told
 use Rattle.plane_types.specs.declared.ask.Reply.TheVariants.{Done, LabDone, Refused as RefusedBy}
 
--- the status of an answer: 201 for a new row, 204 for a row that is gone, and else 200
+-- the status of an answer: 201 for a new row, 204 for a row that is gone, and otherwise 200
 abbrev pub answer_code : Reply → ℕ
 answer_code (NewRow row) = 201
 answer_code NoRow = 204

@@ -70,7 +70,7 @@ pub record RunsOpened (opening : Opening) (a b : DeskSeen) (x y : Ends) (end : S
   pub settings : SettingsParts
   pub rows : RowLists
   pub opens : Opens a opening settings rows
-  -- the store's count of faults before the session and behind it
+  -- the store's count of faults before the session and after it
   pub before : ℕ
   pub behind : ℕ
   pub world : World
@@ -129,7 +129,7 @@ abbrev pub HasBrokenRows : Option Opening → DeskSeen → Type 0
 HasBrokenRows None old = ⊥
 HasBrokenRows (Some opening) old = AreBroken old opening
 
--- memory was wanting before anything was asked for
+-- memory ran out before anything was asked for
 abbrev pub IsUnasked : {D I O : Type 0} → ℕ → D → D → I → I → O → O → Type 0
 IsUnasked status desk desk_new input input_new output output_new =
     (status ≡ 4) × (desk_new ≡ desk) × (input_new ≡ input) × (output_new ≡ output)

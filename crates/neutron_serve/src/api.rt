@@ -152,7 +152,8 @@ fn is_still(world: &World, version: u64, ask: &Ask, reply: &Reply) -> bool
     world.version() == version && !may_move(ask, reply)
 }
 
-// A reply could not be written. Where nothing changed, the request is refused for want of memory.
+// A reply could not be written. Where nothing changed, the request is refused because memory ran
+// out.
 fn unwritten(same: bool) -> Answer
     ensures { result ≡ (if same then Answer.NoMemory else Answer.Unwritten) }
 {

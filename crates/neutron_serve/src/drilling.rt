@@ -35,7 +35,7 @@ pub(crate) struct Tally {
     conflicts: u64,
     /// The verdicts on frames that were delivered.
     delivered: u64,
-    /// Whether each request had its reply, and all hosts had heard of each change behind it.
+    /// Whether each request had its reply, and all hosts had heard of each change after it.
     whole: bool,
 }
 
@@ -89,7 +89,7 @@ fn has_delivered(reply: &Reply) -> bool
     }
 }
 
-// Whether memory was wanting or the store failed.
+// Whether memory ran out or the store failed.
 fn is_refused_outside(reply: &Reply) -> bool
     ensures { result ≡ is_outside reply.now }
 {
@@ -100,7 +100,7 @@ fn is_refused_outside(reply: &Reply) -> bool
 }
 
 impl Drill {
-    // The bytes of a reply, which is counted. Where memory was wanting, the store failed or a host
+    // The bytes of a reply, which is counted. Where memory ran out, the store failed or a host
     // hasn't heard of a change, there are none and all is as it was.
     fn note(&mut self, alloc: Global, close: bool, reply: &Reply) -> Result<Bytes, OutOfMemory>
         ensures bytes { IfOk result (λ bytes. bytes ≡ reply_written close reply.now) }
@@ -180,7 +180,7 @@ impl Handler for Counting {
     }
 }
 
-// The replies of a drill, what was counted of them, and the version of the rows behind it.
+// The replies of a drill, what was counted of them, and the version of the rows after it.
 #[derive(Drop)]
 struct Drilled {
     replies: SureSink,
@@ -268,8 +268,8 @@ fn drill_bytes(alloc: Global, start: u64, size: u32, replies: bool) -> Result<Ve
 }
 
 /// Runs a drill and writes its replies, where they are wanted, and its summary. The status is 0
-/// where all was written and flushed, 3 where a write or a flush failed, and 4 where memory was
-/// wanting. At 3 and 4 a front of it is written.
+/// where all was written and flushed, 3 where a write or a flush failed, and 4 where memory 
+/// ran out. At 3 and 4 a front of it is written.
 pub(crate) fn run_drill<O: Sink>(
     alloc: Global,
     start: u64,

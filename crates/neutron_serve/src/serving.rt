@@ -56,7 +56,7 @@ fn serve_next<D: Desk>(alloc: Global, desk: &mut D, world: &mut World, store: &m
     }
 }
 
-// Whether a session ended for want of memory.
+// Whether a session ended because memory ran out.
 fn is_wanting(end: SessionEnd) -> bool
     ensures { result ≡ is_wanting_by end }
 {
@@ -67,8 +67,8 @@ fn is_wanting(end: SessionEnd) -> bool
     }
 }
 
-/// Serves the connections to come, one after the other and at most so many, over one world. The
-/// status is 0 where they were served or none was left, 4 where memory was wanting outside a reply,
+/// Serves the connections to come, one after the other and at most this many, over one world. The
+/// status is 0 where they were served or none was left, 4 where memory ran out outside a reply,
 /// and 7 where the desk failed.
 pub(crate) fn serve_all<D: Desk>(
     alloc: Global,

@@ -153,28 +153,28 @@ fn run_serve<D: Desk>(
     }
 }
 
-/// Runs the command that the words behind the program's name give.
+/// Runs the command that the words after the program's name give.
 ///
-/// `session` answers the requests of `input` on `output`. `serve` does so with one connection after
-/// the other that the desk hands out, and the world is carried on; a connection's end is not that of
-/// the program. Both ask the desk for the settings that the words name, and then for the store. Without
-/// a name the settings are the default ones, and the rows are kept in memory alone. `drill` runs a
-/// session over requests that are made, asks the desk for nothing, and writes a summary to `output`.
-///
+/// `session` answers the requests of `input` on `output`. `serve` does so with one connection
+/// after the other that the desk hands out, and the world is carried on; a connection's end is not
+/// that of the program. Both ask the desk for the settings that the words name, and then for the
+/// store. Without a name the settings are the default ones, and the rows are kept in memory alone.
+/// `drill` runs a session over requests that are made, asks the desk for nothing, and writes a
+/// summary to `output`.
 /// The status is
 /// - 0 where the input was read to its end or to a request that ends the session, where the
 ///   connections were served or none is left, and where a drill's summary is written,
 /// - 1 exactly where the words are no command line,
 /// - 2 where a read of `input` failed, in `session`,
 /// - 3 where a write or a flush of `output` failed, in `session` and `drill`,
-/// - 4 for want of memory outside a reply, and in `drill` for any,
+/// - 4 where memory ran out outside a reply, and in `drill` for any,
 /// - 5 exactly where the bytes of the settings aren't in their grammar,
 /// - 6 exactly where the rows of the store aren't consistent,
 /// - 7 where the desk failed, or the store before the first request,
 /// - 8 exactly where a session needs a further read and has taken 2^40 bytes.
 ///
 /// Words, settings, store, rows and the address are looked at in this order, and nothing is asked
-/// for behind a refusal. The store that was opened is closed and each connection is handed back
+/// for after a refusal. The store that was opened is closed and each connection is handed back
 /// before it answers.
 pub fn run<D: Desk>(
     alloc: Global,

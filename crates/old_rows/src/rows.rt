@@ -61,7 +61,7 @@ impl OldRows {
         })
     }
 
-    /// Adds a project last, where none has its id, and answers whether it did. Else all stays.
+    /// Adds a project last, where none has its id, and answers whether it did. Otherwise nothing changes.
     pub fn add_project(&mut self, alloc: Global, row: ProjectRow) -> Result<bool, OutOfMemory>
         ensures added { IfOk result (λ added. (added ≡ is_new project_id row self.old.projects)
             × (self.new ≡ (if added then
@@ -71,7 +71,7 @@ impl OldRows {
         self.same.add_project(alloc, row)
     }
 
-    /// Adds a network last, where none has its id, and answers whether it did. Else all stays.
+    /// Adds a network last, where none has its id, and answers whether it did. Otherwise nothing changes.
     pub fn add_network(&mut self, alloc: Global, row: NetworkRow) -> Result<bool, OutOfMemory>
         ensures added { IfOk result (λ added. (added ≡ is_new (λ r. r.id) row self.old.networks)
             × (self.new ≡ (if added then
@@ -81,7 +81,7 @@ impl OldRows {
         self.same.add_network(alloc, row)
     }
 
-    /// Adds a subnet last, where none has its id, and answers whether it did. Else all stays.
+    /// Adds a subnet last, where none has its id, and answers whether it did. Otherwise nothing changes.
     pub fn add_subnet(&mut self, row: OldSubnet) -> Result<bool, OutOfMemory>
         ensures added { IfOk result (λ added. (added ≡ is_new (λ r. r.id) row self.old.subnets)
             × (self.new ≡ (if added then
@@ -91,7 +91,7 @@ impl OldRows {
         self.subnets.add(row)
     }
 
-    /// Adds a port last, where none has its id, and answers whether it did. Else all stays.
+    /// Adds a port last, where none has its id, and answers whether it did. Otherwise nothing changes.
     pub fn add_port(&mut self, row: OldPort) -> Result<bool, OutOfMemory>
         ensures added { IfOk result (λ added. (added ≡ is_new (λ r. r.id) row self.old.ports)
             × (self.new ≡ (if added then
@@ -101,8 +101,8 @@ impl OldRows {
         self.ports.add(row)
     }
 
-    /// Adds a security group last, where none has its id, and answers whether it did. Else all
-    /// stays.
+    /// Adds a security group last, where none has its id, and answers whether it did. Otherwise
+    /// nothing changes.
     pub fn add_group(&mut self, alloc: Global, row: GroupRow) -> Result<bool, OutOfMemory>
         ensures added { IfOk result (λ added. (added ≡ is_new (λ r. r.id) row self.old.groups)
             × (self.new ≡ (if added then
@@ -112,7 +112,7 @@ impl OldRows {
         self.same.add_group(alloc, row)
     }
 
-    /// Adds a rule last, where none has its id, and answers whether it did. Else all stays.
+    /// Adds a rule last, where none has its id, and answers whether it did. Otherwise nothing changes.
     pub fn add_rule(&mut self, row: OldRule) -> Result<bool, OutOfMemory>
         ensures added { IfOk result (λ added. (added ≡ is_new (λ r. r.id) row self.old.rules)
             × (self.new ≡ (if added then
@@ -122,7 +122,7 @@ impl OldRows {
         self.rules.add(row)
     }
 
-    /// Adds a router last, where none has its id, and answers whether it did. Else all stays.
+    /// Adds a router last, where none has its id, and answers whether it did. Otherwise nothing changes.
     pub fn add_router(&mut self, row: OldRouter) -> Result<bool, OutOfMemory>
         ensures added { IfOk result (λ added. (added ≡ is_new (λ r. r.id) row self.old.routers)
             × (self.new ≡ (if added then
@@ -132,8 +132,8 @@ impl OldRows {
         self.routers.add(row)
     }
 
-    /// Adds a floating address last, where none has its id, and answers whether it did. Else all
-    /// stays.
+    /// Adds a floating address last, where none has its id, and answers whether it did. Otherwise
+    /// nothing changes.
     pub fn add_floating(&mut self, alloc: Global, row: FloatingRow) -> Result<bool, OutOfMemory>
         ensures added { IfOk result (λ added. (added ≡ is_new (λ r. r.id) row self.old.floatings)
             × (self.new ≡ (if added then
@@ -143,7 +143,7 @@ impl OldRows {
         self.same.add_floating(alloc, row)
     }
 
-    /// Adds a policy last, where none has its id, and answers whether it did. Else all stays.
+    /// Adds a policy last, where none has its id, and answers whether it did. Otherwise nothing changes.
     pub fn add_policy(&mut self, alloc: Global, row: PolicyRow) -> Result<bool, OutOfMemory>
         ensures added { IfOk result (λ added. (added ≡ is_new (λ r. r.id) row self.old.policies)
             × (self.new ≡ (if added then

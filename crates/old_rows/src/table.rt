@@ -73,8 +73,8 @@ impl<R: OldRow> OldTable<R> {
         Ok(())
     }
 
-    /// Adds a row last, where none has its id, and answers whether it did. Else, and for want of
-    /// memory, all stays.
+    /// Adds a row last, where none has its id, and answers whether it did. Otherwise, and where
+    /// memory runs out, nothing changes.
     pub(crate) fn add(&mut self, row: R) -> Result<bool, OutOfMemory>
         ensures added { IfOk result (λ added. (added ≡ is_new R.id_of row self.old)
             × (self.new ≡ (if added then self.old ++ row ∷ [] else self.old))) }

@@ -91,10 +91,10 @@ fn associate_port(
 }
 
 /// To what a floating address of the network leads that the project owns, where it is to lead to a
-/// port: to the address of it that is named, or to its only one of version 4. `own` is the floating
-/// address that is changed, or none. It takes no memory. Its cost grows with the floating
-/// addresses, the routers, and with the ports for each router of the project with its gateway on
-/// the network.
+/// port: to the address of it that is named, or to its only one of version 4. `own` is the
+/// floating address that is changed, or none. It allocates nothing. Its cost grows with the
+/// floating addresses, the routers, and with the ports for each router of the project with its
+/// gateway on the network.
 pub fn associate(
     rows: &Rows,
     network: Id,

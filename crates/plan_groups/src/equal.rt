@@ -32,7 +32,7 @@ fn says(rule: &RuleRow, group: Id, project: &Text, parts: &RuleParts) -> bool
                 && (rule.ethertype == parts.ethertype && same_match(rule, parts))))
 }
 
-/// Whether two rules are equal but for their ids and descriptions. It takes no memory.
+/// Whether two rules are equal but for their ids and descriptions. It allocates nothing.
 pub fn equal_rules(a: &RuleRow, b: &RuleRow) -> bool
     ensures { result ≡ same_rule a.now b.now }
 {

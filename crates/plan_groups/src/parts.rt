@@ -235,8 +235,8 @@ fn check(parts: &RuleParts) -> Result<(), BadPart>
 /// What a rule is asked to say, or the first attribute, in byte order, that others in the body
 /// forbid (Networking API v2.0, security group rules): TCP and UDP have both ends of a range of
 /// ports or none, ICMP and ICMPv6 a code only with a type, other protocols neither; ICMPv6 and a
-/// remote prefix are of the rule's version, and a remote group stands without a prefix. It takes
-/// no memory.
+/// remote prefix are of the rule's version, and a remote group stands without a prefix. It
+/// allocates nothing.
 pub fn rule_of(form: &RuleForm) -> Result<RuleParts, BadPart>
     ensures parts { IfOk result (λ p. p ≡ parts_asked form.now) }
     ensures ok { OnOk result (bad_part form.now ≡ None) }

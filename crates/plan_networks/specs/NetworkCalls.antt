@@ -64,7 +64,7 @@ closing None cleared = []
 closing (Some l) false = []
 closing (Some l) true = Drop PolicyKind l.id ∷ []
 
--- as the next id, after so many
+-- as the next id, after this many
 abbrev pub one_if : Bool → ℕ
 one_if true = 1
 one_if false = 0

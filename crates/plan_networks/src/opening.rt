@@ -32,7 +32,7 @@ fn open_policy(
         .find(|policy| permits_all(policy, network, action))
 }
 
-/// As the next id, after so many.
+/// As the next id, after this many.
 pub(crate) fn one_if(holds: bool) -> u64
     ensures few { result ≤ 1 }
     ensures value { result ≡ one_if_of holds }

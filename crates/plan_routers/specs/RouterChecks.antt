@@ -30,7 +30,7 @@ use Rattle.std.specs.Prelude.{Bool, Err, List, None, Ok, Option, Result, Some, f
 abbrev pub told_if : Bool → RouterRefusal → Option RouterRefusal
 told_if holds refusal = if holds then Some refusal else None
 
--- a check passes where nothing is told, and else answers it
+-- a check passes where nothing is told, and otherwise answers it
 abbrev pub IsTold : Option RouterRefusal → Result (Unit {0}) RouterRefusal → Type 0
 IsTold refusal (Ok passed) = refusal ≡ None
 IsTold refusal (Err e) = refusal ≡ Some e

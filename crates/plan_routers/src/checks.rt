@@ -104,9 +104,9 @@ fn check_by(rows: &Rows, router: &RouterRow, by: &InterfaceBy) -> Result<(), Rou
 }
 
 /// Whether an interface can be added to the router: by a subnet that has a gateway, or by a port
-/// with one address and no device, where the subnet overlaps none of the router's ports. It takes no
-/// memory. Its cost grows with the subnets and the ports, and for a service's port with the routers
-/// and the floating addresses.
+/// with one address and no device, where the subnet overlaps none of the router's ports. It
+/// allocates nothing. Its cost grows with the subnets and the ports, and for a service's port with
+/// the routers and the floating addresses.
 pub fn check_interface(rows: &Rows, router: Id, by: &InterfaceBy) -> Result<(), RouterRefusal>
     ensures { IsTold (interface_told rows.now router by.now) result }
 {
@@ -178,9 +178,9 @@ fn check_removal(rows: &Rows, router: &RouterRow, by: &InterfaceBy) -> Result<Id
     }
 }
 
-/// The port of the router's interface by this subnet or port, where no route and no floating address
-/// needs it. It takes no memory. Its cost grows with the ports times the routes, the subnets and the
-/// floating addresses.
+/// The port of the router's interface by this subnet or port, where no route and no floating
+/// address needs it. It allocates nothing. Its cost grows with the ports times the routes, the
+/// subnets and the floating addresses.
 pub fn check_remove(rows: &Rows, router: Id, by: &InterfaceBy) -> Result<Id, RouterRefusal>
     ensures { result ≡ removal_told rows.now router by.now }
 {
@@ -307,8 +307,8 @@ fn check_both(
 }
 
 /// Whether the router's gateway can be set on the network, or be cleared where there is none, with
-/// the extra routes as they would stand. It takes no memory. Its cost grows with the policies, the
-/// ports times the routes, the subnets and the floating addresses.
+/// the extra routes as they would stand. It allocates nothing. Its cost grows with the policies,
+/// the ports times the routes, the subnets and the floating addresses.
 pub fn check_gateway(
     rows: &Rows,
     router: Id,
@@ -335,9 +335,9 @@ fn check_hops(rows: &Rows, router: &RouterRow, routes: &[Hop]) -> Result<(), Rou
     Ok(())
 }
 
-/// Whether the router can have these routes: each next hop lies in a subnet of one of its ports, and
-/// is none of their addresses. It takes no memory. Its cost grows with the routes times the ports,
-/// and the subnets.
+/// Whether the router can have these routes: each next hop lies in a subnet of one of its ports,
+/// and is none of their addresses. It allocates nothing. Its cost grows with the routes times the
+/// ports, and the subnets.
 pub fn check_routes(rows: &Rows, router: Id, routes: &Routes) -> Result<(), RouterRefusal>
     ensures { IsTold (routes_told rows.now router routes.now) result }
 {

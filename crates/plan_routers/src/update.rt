@@ -128,7 +128,7 @@ fn put_router(
     drop_gateway(alloc, draft, &lost_gateway(&old.gateway, &new.gateway))
 }
 
-// The changed router in the rows of now.
+// The changed router in the current rows.
 fn put_alone(
     alloc: Global,
     rows: &Rows,

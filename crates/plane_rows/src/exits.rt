@@ -84,8 +84,8 @@ impl<'l, 'r> Exits<'l, 'r> {
         self.legs
     }
 
-    /// The first of the ports with an address in the subnet. Its cost is the same however many
-    /// there are.
+    /// The first of the ports with an address in the subnet. Its cost is
+    /// constant.
     pub(crate) fn port_in(&self, subnet: Id) -> Option<Id>
         ensures { result ≡ option_map (λ (p : ThePort). p.id) (find (held_in subnet) self.now) }
     {

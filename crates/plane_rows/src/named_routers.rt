@@ -97,8 +97,8 @@ impl<'r> NamedRouters<'r> {
         }
     }
 
-    /// The router that a port names by its `device_id`. Its cost is the same however many routers
-    /// there are.
+    /// The router that a port names by its `device_id`. Its cost doesn't grow with the
+    /// routers.
     pub fn router_of(&self, port: &PortRow) -> Option<&'r RouterRow>
         ensures { option_copied result ≡ router_by_rows self.now port.now }
     {

@@ -64,7 +64,7 @@ with_fresh t made = record { path = t.path; fresh = t.fresh ++ made }
 abbrev pub with_path : Trace → List Ident → Trace
 with_path t ids = record { path = t.path ++ ids; fresh = t.fresh }
 
--- out on flat and vlan, else dropped
+-- out on flat and vlan, otherwise dropped
 abbrev pub out_or : Option Wire → Ident → Toward → Frame → DropCause → Outcome
 out_or None n toward frame cause = Dropped cause
 out_or (Some w) n toward frame cause = Out n toward frame

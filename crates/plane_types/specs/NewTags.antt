@@ -55,7 +55,7 @@ abbrev pub with_tag : RowLists → Ident → List ℕ → (List ℕ → List Tag
 with_tag rows n free rest None = rest free
 with_tag rows n free rest (Some (tag, left)) = tag_row rows n tag ∷ rest left
 
--- a row for each network: the tag that it had, else the first one that is free then
+-- a row for each network: the tag that it had, otherwise the first one that is free then
 unfoldable pub in_turn : RowLists → List TagRow → List ℕ → List Ident → List TagRow
 in_turn rows old free [] = []
 in_turn rows old free (n ∷ ns) =

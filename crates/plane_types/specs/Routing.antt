@@ -63,7 +63,7 @@ uses_by false outer r entries = []
 uses_by true None r entries = []
 uses_by true (Some outer) r entries = uses_at r outer entries
 
--- First the destination. A floating address of this router becomes the fixed address. Else, where
+-- First the destination. A floating address of this router becomes the fixed address. Otherwise, where
 -- a valid entry answers to the packet (the kind is that of the reversed key, the outer address and
 -- port are the packet's destination, and the entry's far end is the packet's source), the
 -- destination becomes the source that the entry keeps: the packet's ends are those of an answer to
@@ -116,7 +116,7 @@ best_way x (w ∷ ways) =
     if contains w.prefix x then Some (better w (best_way x ways)) else best_way x ways
 
 -- Last the source. A port is taken where a valid entry has it with the same kind and far end. The
--- outer port of a new entry is the same port where free, else, for TCP, UDP and echoes, the least
+-- outer port of a new entry is the same port where free, otherwise, for TCP, UDP and echoes, the least
 -- free one of 1,024 to 65,535.
 abbrev pub is_taken : List Use → Key → ℕ → Bool
 is_taken uses k port =
@@ -179,7 +179,7 @@ by_any ByEntry = true
 abbrev pub is_gateway_live : RouterView → Bool
 is_gateway_live v = list_any (λ (l : Leg). not l.inside) v.legs
 
--- a floating address of this router for the source replaces it; else the source is translated
+-- a floating address of this router for the source replaces it; otherwise the source is translated
 -- where the packet leaves by the gateway port, or a floating address changed its destination, and
 -- the router translates and its gateway port is live
 abbrev pub sourced_float : RouterView → List Use → Leg → Changed → Packet → Option Float

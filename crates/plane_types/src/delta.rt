@@ -213,9 +213,9 @@ impl HostTables {
         self.make_l2_room(alloc, &delta.l2)
     }
 
-    /// Puts the edits in. Each row that is taken out and each that is put in is a step. It takes no
-    /// memory. A place past the end of a list is its end. Its cost grows with the edits, and with
-    /// the rows after the place of each.
+    /// Puts the edits in. Each row that is taken out and each that is put in is a step. It
+    /// allocates nothing. A place past the end of a list is its end. Its cost grows with the
+    /// edits, and with the rows after the place of each.
     pub fn apply<L: Ledger>(&mut self, delta: Delta, steps: &mut Steps<L>)
         requires room { HasRoom self.old.room delta }
         requires bridge { IsSortedBy bridge_before

@@ -31,7 +31,7 @@ pub(crate) trait RowList {
         ensures items { (seen self.new).items ≡ insert (seen self.old).items place row }
         ensures spare { (seen self.old).spare ≤ (seen self.new).spare + 1 };
 
-    /// Puts a row in the place of another.
+    /// Puts a row in place of another.
     fn set(&mut self, place: usize, row: Self::Row)
         requires room { 0 < (seen self.old).spare }
         requires within { place < length (seen self.old).items }

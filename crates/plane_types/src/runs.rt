@@ -231,8 +231,8 @@ impl<R: Keyed> Runs<R> {
     }
 
     /// Rows in their order, among which are all that have the key: from the first to the last of
-    /// them, and as many more as rows came and went since the runs were made. Its cost is the same
-    /// however many rows there are.
+    /// them, and as many more as rows came and went since the runs were made. Its cost doesn't
+    /// grow with the rows.
     pub(crate) fn near(&self, key: R::Key) -> &[R]
         ensures { filter (R.is_at key) result.now ≡ filter (R.is_at key) self.now.items }
     {

@@ -113,7 +113,7 @@ impl<T: Drop> SpareVec<T> {
         let _ = self.items.remove(place);
     }
 
-    /// Puts an item in the place of another.
+    /// Puts an item in place of another.
     pub(crate) fn set(&mut self, place: usize, item: T)
         requires { place < length self.old.items }
         ensures items { self.new.items ≡ slice_set self.old.items place item }

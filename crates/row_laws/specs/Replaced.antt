@@ -1,4 +1,4 @@
--- Rows with another one in the place of one, and what has to hold of the two.
+-- Rows with another one in place of one, and what has to hold of the two.
 use Rattle.std.specs.Prelude.{◌≡◌, ◌≤◌, ℕ, Bool, List, true, false, slice_set, length, count_by, nat_le}
 use Rattle.std.specs.Prelude.{◌&&◌, ◌||◌, not, Option, Some, None}
 use Rattle.std.specs.List.{list_any, list_all}

@@ -59,10 +59,10 @@ const CASES: [Case; 14] = [
         0,
         &[MADE, NOT_KEPT, MADE_NEXT],
     ),
-    // The first read, and one behind a whole request.
+    // The first read, and one after a whole request.
     (SESSION, [&[], &[], &[1], &[]], ONCE, 2, &[]),
     (SESSION, [&[], &[], &[2], &[]], ONCE, 2, &[MADE]),
-    // The first write, the flush behind it, and the third write.
+    // The first write, the flush after it, and the third write.
     (SESSION, [&[], &[], &[], &[1]], ONCE, 3, &[]),
     (SESSION, [&[], &[], &[], &[2]], ONCE, 3, &[MADE]),
     (
@@ -79,7 +79,7 @@ const CASES: [Case; 14] = [
 // Of a slow input, four reads of 31 bytes give the first request, and the fifth fails.
 const FIFTH_READ: Case = (SESSION, [&[], &[], &[5], &[]], THRICE, 2, &[MADE]);
 
-/// These bytes, one behind the other.
+/// These bytes, one after the other.
 pub(crate) fn joined(alloc: Global, parts: &[&[u8]]) -> Result<Vec<u8>, OutOfMemory> {
     let mut all = Vec::new(alloc);
     for part in parts {
@@ -88,7 +88,7 @@ pub(crate) fn joined(alloc: Global, parts: &[&[u8]]) -> Result<Vec<u8>, OutOfMem
     Ok(all)
 }
 
-// Whether a run is as the case says, over an input of which one read gives so many bytes.
+// Whether a run is as the case says, over an input of which one read gives this many bytes.
 fn fails_as_wanted(alloc: Global, case: &Case, piece: usize) -> Result<bool, OutOfMemory>
     requires { 0 < piece }
 {

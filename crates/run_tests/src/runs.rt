@@ -108,8 +108,8 @@ pub(crate) struct Outcome {
     pub(crate) asks: usize,
 }
 
-/// A run of these words over requests of which one read gives so many bytes. These calls fail: of the
-/// desk, of its stores, reads, and writes and flushes.
+/// A run of these words over requests of which one read gives this many bytes. These calls fail:
+/// of the desk, of its stores, reads, and writes and flushes.
 pub(crate) fn ran(
     alloc: Global,
     words: &[&str],

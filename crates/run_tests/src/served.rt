@@ -32,7 +32,7 @@ fn connections(alloc: Global, inputs: &[&[u8]]) -> Result<SureEnds, OutOfMemory>
     Ok(ends)
 }
 
-// Whether these connections are served so, with so many asks.
+// Whether these connections are served so, with this many asks.
 fn are_served(
     alloc: Global,
     words: &[&str],
@@ -74,7 +74,7 @@ fn serves(rt: HostRuntime) -> Result<(), Fail> {
     Ok(())
 }
 
-// A connection that is cut behind its request, and one that comes next.
+// A connection that is cut after its request, and one that comes next.
 fn cut_and_next(alloc: Global) -> Result<EndsList, OutOfMemory>
     ensures { IfOk result (λ ends. IsTrue (fresh_ends ends)) }
 {

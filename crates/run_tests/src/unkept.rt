@@ -69,7 +69,7 @@ fn replies(alloc: Global, requests: &[&[u8]]) -> Result<Vec<u8>, OutOfMemory> {
     Ok(written)
 }
 
-// Whether what is seen behind the first replies is as wanted, and is seen again behind a change that
+// Whether what is seen after the first replies is as wanted, and is seen again after a change that
 // isn't kept.
 fn is_unchanged(
     alloc: Global,

@@ -256,7 +256,7 @@ const BARRED: [Exchange; 7] = [
     ),
 ];
 
-// Whether each request is answered so, behind those that make the world.
+// Whether each request is answered so, after those that make the world.
 fn are_answered(alloc: Global, cases: &[Exchange]) -> Result<bool, OutOfMemory> {
     for (request, reply) in cases {
         let mut input = Vec::from_slice(alloc, WORLD.0)?;

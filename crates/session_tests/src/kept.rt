@@ -1,4 +1,4 @@
-//! Which messages are kept behind more changes than a server keeps, on a session over memory in
+//! Which messages are kept after more changes than a server keeps, on a session over memory in
 //! manual delivery.
 use crate::sessions::ends_so;
 use net_addr::OutOfMemory;
@@ -6,7 +6,7 @@ use std::alloc::Global;
 use std::test::Fail;
 
 /// A project makes a network with a subnet, an administrator a port of it on each host, and both
-/// hosts come to the version of now, which is 4.
+/// hosts come to the current version, which is 4.
 const WORLD: &[u8] = b"\
     POST /v2.0/networks HTTP/1.1\r\nX-Project-Id: a\r\nContent-Length: 14\r\n\r\n\
     {\"network\":{}}\

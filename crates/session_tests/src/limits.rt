@@ -4,7 +4,7 @@ use net_addr::OutOfMemory;
 use std::alloc::Global;
 use std::test::Fail;
 
-/// A request that is made of a text, so many openings, as many closings, and a text; and its
+/// A request that is made of a text, this many openings, as many closings, and a text; and its
 /// reply.
 struct Case {
     front: &'static [u8],

@@ -21,9 +21,9 @@ const WORLD: &[u8] = b"\
     {\"port\":{\"binding:host_id\":\"c2\",\
     \"network_id\":\"00000001-0000-8000-8000-000000000006\",\"project_id\":\"a\"}}";
 
-// What is asked behind that, and the last replies.
+// What is asked after that, and the last replies.
 const MESSAGES: [Exchange; 10] = [
-    // Both hosts come to the version of now.
+    // Both hosts come to the current version.
     (
         b"POST /lab/v1/settle HTTP/1.1\r\nX-Project-Id: adm\r\nX-Roles: admin\r\n\
             Content-Length: 13\r\n\r\n\
@@ -174,7 +174,7 @@ const MESSAGES: [Exchange; 10] = [
     ),
 ];
 
-// Whether the replies of each end so, behind the requests that make the world.
+// Whether the replies of each end so, after the requests that make the world.
 fn are_answered(alloc: Global, cases: &[Exchange]) -> Result<bool, OutOfMemory> {
     for (requests, replies) in cases {
         let mut input = Vec::from_slice(alloc, WORLD)?;

@@ -108,7 +108,7 @@ fn default_rule(
     Ok(rule)
 }
 
-// The rows of a project that drew so many ids, and nothing else.
+// The rows of a project that drew this many ids, and nothing else.
 fn project_rows(alloc: Global, count: u64) -> Result<Rows, OutOfMemory> {
     let mut rows = Rows::empty(alloc)?;
     let name = Text::of(alloc, "a")?;

@@ -220,7 +220,7 @@ const LENGTHS: [Exchange; 7] = [
             \"message\":\"The request needs a Content-Length and no transfer coding.\",\
             \"type\":\"LengthRequired\"}}",
     ),
-    // A body that is too large. Nothing behind it is answered.
+    // A body that is too large. Nothing after it is answered.
     (
         b"POST /v2.0/networks HTTP/1.1\r\nContent-Length: 65537\r\n\r\n\
             POST /v2.0/networks HTTP/1.1\r\nX-Project-Id: a\r\nContent-Length: 25\r\n\r\n\
@@ -284,8 +284,8 @@ fn source(alloc: Global, input: &[u8], piece: usize) -> Result<SureSource, OutOf
     Ok(SureSource::make(bytes, piece))
 }
 
-// Whether a session from no rows on over this input, in pieces of so many bytes, writes this and is
-// done.
+// Whether a session from no rows on over this input, in pieces of this many bytes, writes this and
+// is done.
 fn writes(alloc: Global, input: &[u8], piece: usize, wanted: &[u8]) -> Result<bool, OutOfMemory>
     requires { 0 < piece }
 {

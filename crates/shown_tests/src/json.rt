@@ -49,7 +49,7 @@ fn put_members(
     put(out, "}")
 }
 
-// A value with no more than so many values within one another. Texts are taken as they are.
+// A value with no more than this many values within one another. Texts are taken as they are.
 #[cycle(values)]
 fn put_value(
     alloc: Global,

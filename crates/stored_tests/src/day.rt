@@ -1,4 +1,4 @@
-//! A day's requests on a session over a database in memory, which is loaded again behind them.
+//! A day's requests on a session over a database in memory, which is loaded again after them.
 use crate::same::are_same;
 use api_types::Rows;
 use keeper_core::{Keeper, SureSink, SureSource};

@@ -5,7 +5,7 @@ use net_addr::{OutOfMemory, Seq};
 use std::alloc::Global;
 use std::test::Fail;
 
-// After so many changes one is asked for by its number.
+// After this many changes one is asked for by its number.
 #[derive(Clone, Copy)]
 struct Asked {
     many: u64,
@@ -24,7 +24,7 @@ const fn row(many: u64, number: u64, first: u64, is_kept: bool) -> Asked {
     }
 }
 
-// So many changes, of which the n-th has one item, at place n.
+// This many changes, of which the n-th has one item, at place n.
 fn bus_of(alloc: Global, many: u64) -> Result<Bus, OutOfMemory> {
     let mut bus = Bus::make(alloc)?;
     for _ in 0..many {

@@ -1,4 +1,4 @@
-//! Messages to one host's agents: what the host makes of each, and what is wired behind it.
+//! Messages to one host's agents: what the host makes of each, and what is wired after it.
 ghost use Rattle.std.specs.Prelude.{◌≡◌, IfOk, IsTrue};
 ghost use Rattle.api_types.specs.Consistent.{IsConsistent};
 ghost use Rattle.api_types.specs.Rows.{Fits, FitsItem, after};
@@ -141,7 +141,7 @@ fn adds_port(rows: &Rows, item: &Item) -> bool
     }
 }
 
-// Whether a change adds a port to these rows, and they are consistent behind it.
+// Whether a change adds a port to these rows, and they are consistent after it.
 fn leads_on(alloc: Global, rows: &Rows, change: &Change) -> Result<bool, OutOfMemory>
     ensures { IfOk result
         (λ b. IsTrue b → Fits rows.now change.now × IsConsistent (after rows.now change.now)) }

@@ -1,4 +1,4 @@
--- Whether a row can be added last among the rows of a kind, which there are so many of.
+-- Whether a row can be added last among the rows of a kind, which there are this many of.
 use Rattle.std.specs.Prelude.{ℕ, Some, None}
 use Rattle.api_types.specs.RowLists.{RowLists}
 use Rattle.api_types.specs.Rows.{FitsItem}

@@ -8,7 +8,7 @@ use api_types::{Item, Keyed, Kind, Row, Rows, Table};
 use net_addr::{OutOfMemory, Seq};
 use std::alloc::Global;
 
-// The place behind a table's rows, or none where a row with this id stands there.
+// The place after a table's rows, or none where a row with this id stands there.
 fn end_for<R: Keyed>(table: &Table<R>, row: &R) -> Option<usize>
     ensures { IfSome result
         (λ n. (n ≡ length table.now) × (row_of R.id_of (R.id_of row.now) table.now ≡ None)) }

@@ -34,7 +34,7 @@ pub fn six(address: u128) -> Addr
     Addr::V6(Addr6(address))
 }
 
-/// A prefix of version 4, whose base has the bits behind the length cleared.
+/// A prefix of version 4, whose base has the bits after the length cleared.
 pub fn prefix(base: u32, len: u8) -> Prefix
     requires { len ≤ 32 }
 {
@@ -42,7 +42,7 @@ pub fn prefix(base: u32, len: u8) -> Prefix
     Cidr { addr, len }.prefix()
 }
 
-/// A prefix of version 6, whose base has the bits behind the length cleared.
+/// A prefix of version 6, whose base has the bits after the length cleared.
 pub fn prefix_six(base: u128, len: u8) -> Prefix
     requires { len ≤ 128 }
 {

@@ -85,7 +85,7 @@ fn short_heads(rt: HostRuntime) -> Result<(), Fail> {
     Ok(())
 }
 
-// A head with so many fields, and this line behind them.
+// A head with this many fields, and this line after them.
 fn with_fields(alloc: Global, count: usize, last: &[u8]) -> Result<Vec<u8>, Fail> {
     let mut bytes = Vec::new(alloc);
     bytes.extend_from_slice(b"GET / HTTP/1.1\r\n")?;
@@ -96,7 +96,7 @@ fn with_fields(alloc: Global, count: usize, last: &[u8]) -> Result<Vec<u8>, Fail
     Ok(bytes)
 }
 
-// A head of so many bytes, and this behind it.
+// A head of this many bytes, and this after it.
 fn with_bytes(alloc: Global, count: usize, last: &[u8]) -> Result<Vec<u8>, Fail> {
     let mut bytes = Vec::new(alloc);
     bytes.extend_from_slice(b"GET / HTTP/1.1\r\na: ")?;
@@ -145,7 +145,7 @@ fn long_heads(rt: HostRuntime) -> Result<(), Fail> {
     Ok(())
 }
 
-// So many empty lines with this end, and this behind them.
+// This many empty lines with this end, and this after them.
 fn with_empty(alloc: Global, count: usize, end: &[u8], last: &[u8]) -> Result<Vec<u8>, Fail> {
     let mut bytes = Vec::new(alloc);
     for _ in 0..count {

@@ -37,8 +37,8 @@ pub fn worlds_stay_led()
 {}
 
 /// A host that holds a version has the rows of that version, where they can be told, and one that
-/// holds the version of now has the rows of now. Its tables are those that these rows give to it,
-/// also while it is behind.
+/// holds the current version has the current rows. Its tables are those that these rows give to
+/// it, also while it is behind.
 pub fn holders_have_their_rows()
     ensures told { (w : World) → IsWorld w → Each (λ (a : Agent). (v : ℕ) → a.held ≡ Some v →
         first_kept w.history ≤ v + 1 → a.rows ≡ rows_at w.history v) w.agents }
@@ -57,9 +57,9 @@ pub fn next_changes_fit()
         (after a.rows c ≡ rows_at w.history n)) w.agents }
 {}
 
-/// Where every host holds the version of now, events one after the other come by the hosts' tables
-/// to exactly what the rows of now give, and their paths cross between networks at routers alone.
-/// Ports let in and out what their groups and guards allow, and answers to it.
+/// Where every host holds the current version, events one after the other come by the hosts'
+/// tables to exactly what the current rows give, and their paths cross between networks at routers
+/// alone. Ports let in and out what their groups and guards allow, and answers to it.
 pub fn synced_hosts_mean_rows()
     ensures verdicts { (w : World) → IsWorld w → IsSynced w → (events : List Event) →
         map without_hosts (fabric_verdicts (hosts_of w) events) ≡ rows_verdicts w.history.rows
@@ -84,8 +84,8 @@ pub fn worlds_stay_alike()
         AreAlike (step w s) (step v s) }
 {}
 
-/// Every host holds the version of now once the world is settled; and it stays so in automatic
-/// delivery, while each host finds memory: each is then given the rows of now, as if all were
+/// Every host holds the current version once the world is settled; and it stays so in automatic
+/// delivery, while each host finds memory: each is then given the current rows, as if all were
 /// wired with each change.
 pub fn hosts_come_to_now()
     ensures settled { (w : World) → IsSynced (step w Settle) }
