@@ -7,8 +7,8 @@
 //! makes it hold nothing, `forget` empties its entries. At every moment between calls its rows are
 //! consistent, its tables are those that the rows give to the host, and each entry is of a tap or
 //! router in these tables. A network keeps its tag from one wiring to the next. It stands on
-//! `l2_agent`, `l3_agent` and `dhcp_agent`, which make the tables. Want of memory is its only
-//! refusal, and leaves a node as it was.
+//! `l2_agent`, `l3_agent` and `dhcp_agent`, which make the tables. Running out of memory is its
+//! only refusal, and leaves a node as it was.
 #![tactic(auto)]
 
 mod node;

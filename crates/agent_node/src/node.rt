@@ -167,8 +167,8 @@ impl AgentNode {
 
     /// Tells the host the change with a number. Where that is the next one after what the host
     /// holds, the change is put into the wired rows, these are wired, and the number is then held.
-    /// Otherwise nothing changes. Its cost is that of wiring and of a copy of the rows, and grows with
-    /// the entries.
+    /// Otherwise nothing changes. Its cost is that of wiring and of a copy of the rows, and grows
+    /// with the entries.
     pub fn deliver(
         &mut self,
         alloc: Global,

@@ -1,12 +1,12 @@
 //! Which addresses and MAC addresses ports take.
 //!
 //! It stands on the rows of `api_types`. `default_gateway` and `default_pools` give what a subnet
-//! has for which none are named, `choose_mac` the MAC address of a port, and `choose` its addresses.
-//! Its parts are there for plans, which refuse other things in between: `asked_places`, `are_placed`,
-//! `first_known` and `next_known` come before the held addresses are looked at, `first_held` tells
-//! one that is held, and `first_addresses`, `next_addresses`, `gateway_addresses` and
-//! `floating_address` choose. `HeldAddresses` are gathered once, in one pass over the ports; from
-//! then on nothing grows with a pool's size.
+//! has for which none are named, `choose_mac` the MAC address of a port, and `choose` its
+//! addresses. Its parts are there for plans, which refuse other things in between: `asked_places`,
+//! `are_placed`, `first_known` and `next_known` come before the held addresses are looked at,
+//! `first_held` tells one that is held, and `first_addresses`, `next_addresses`,
+//! `gateway_addresses` and `floating_address` choose. `HeldAddresses` are gathered once, in one
+//! pass over the ports; from then on nothing grows with a pool's size.
 #![tactic(auto)]
 
 mod asked;

@@ -1,5 +1,5 @@
-//! The places of a port's list of addresses: of each its subnet, and its address where that is known
-//! before pool addresses are chosen.
+//! The places of a port's list of addresses: of each its subnet, and its address where that is
+//! known before pool addresses are chosen.
 
 ghost use Rattle.std.specs.Prelude.{◌≡◌, ◌&&◌, ◌||◌, ◌++◌, IfOk, OnOk, find, not, option_copied, option_to_list, true};
 ghost use Rattle.std.specs.List.{list_all};
@@ -257,8 +257,8 @@ fn add_place(
 
 /// The places of a list that is asked for, by the network's subnets, the port's MAC address and its
 /// old addresses as they will be. An item without an address takes an old one of its subnet that
-/// isn't in the list, and otherwise the one that the MAC address gives, where it gives one. Its cost
-/// grows with the items, times the subnets and the old addresses.
+/// isn't in the list, and otherwise the one that the MAC address gives, where it gives one. Its
+/// cost grows with the items, times the subnets and the old addresses.
 pub fn asked_places(
     alloc: Global,
     subnets: &[Shared<SubnetRow>],

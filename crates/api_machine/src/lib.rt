@@ -6,8 +6,8 @@
 //! settings, rows, version, caller and call. `Machine::open` takes rows that `api_check` finds
 //! consistent. `plan` answers as `api_step` does and tells the change that leads there, `prepare`
 //! makes the rows after it, and `accept` puts them in place, which can't fail. `calls_keep` and
-//! `tenants_stay_apart` are laws: functions that do nothing, whose contracts say that accepted calls
-//! keep rows sound and that what a tenant is told depends on its footing alone.
+//! `tenants_stay_apart` are laws: functions that do nothing, whose contracts say that accepted
+//! calls keep rows sound and that what a tenant is told depends on its footing alone.
 #![tactic(auto)]
 
 mod calls;

@@ -93,7 +93,7 @@ impl Machine {
         })
     }
 
-    /// The rows of now.
+    /// The current rows.
     pub fn rows(&self) -> &Rows
         ensures rows { result.now ≡ self.now.rows }
         ensures consistent { IsConsistent self.now.rows }

@@ -2,8 +2,8 @@
 //!
 //! A rule may speak of the members of a remote group: the fixed addresses, and the prefixes of the
 //! allowed address pairs, of all ports that name it. `is_member` tells of an address whether it is
-//! among them, and `Memberships` lists them as prefixes. It stands on the rows and the definitions of
-//! `api_types`.
+//! among them, and `Memberships` lists them as prefixes. It stands on the rows and the definitions
+//! of `api_types`.
 #![tactic(auto)]
 
 mod listed;

@@ -153,8 +153,8 @@ fn add_to_each<'r>(
     Ok(())
 }
 
-// Adds a port to those of each group that it names. Where it names one, as most do, there is nothing
-// to be named twice, and no set is made.
+// Adds a port to those of each group that it names. Where it names one, as most do, there is
+// nothing to be named twice, and no set is made.
 fn add_port<'r>(
     alloc: Global,
     by_group: &mut HashMap<Id, Vec<&'r PortRow>>,

@@ -23,7 +23,8 @@ module _ {T : Type 0} where
   value_or x Null = x
   value_or x (Is y) = y
 
--- the owner of a new row is named by `project_id` or `tenant_id`, and otherwise is the caller's project
+-- the owner of a new row is named by `project_id` or `tenant_id`, and otherwise is the caller's
+-- project
 abbrev pub owner_of : Caller → Given Text → Given Text → Text
 owner_of caller project tenant = value_or (value_or caller.project tenant) project
 

@@ -1,5 +1,5 @@
--- How a call is answered: with the first refusal whose condition holds, and otherwise as it says. The
--- order of refusals is the order in which they are written.
+-- How a call is answered: with the first refusal whose condition holds, and otherwise as it says.
+-- The order of refusals is the order in which they are written.
 use Rattle.std.specs.Prelude.{Bool, List, [], ◌∷◌, Option, None, Some, if◌then◌else◌}
 use Rattle.net_addr.specs.Words.{Text}
 use Rattle.api_types.specs.Ident.{Ident}

@@ -122,8 +122,8 @@ fn push_shared<R: Keyed>(
     Ok(())
 }
 
-/// Adds a row last, where no row has its id, and answers whether it did. Otherwise, and because memory
-/// ran out, nothing changes. Other owners of the table keep it as it was.
+/// Adds a row last, where no row has its id, and answers whether it did. Otherwise, and because
+/// memory ran out, nothing changes. Other owners of the table keep it as it was.
 pub(crate) fn add_shared<R: Keyed>(
     alloc: Global,
     table: &mut Shared<Table<R>>,

@@ -183,7 +183,8 @@ impl Rows {
         self.policies.get()
     }
 
-    /// Adds a project last, where none has its id, and answers whether it did. Otherwise nothing changes.
+    /// Adds a project last, where none has its id, and answers whether it did. Otherwise nothing
+    /// changes.
     pub fn add_project(&mut self, alloc: Global, row: ProjectRow) -> Result<bool, OutOfMemory>
         ensures added { IfOk result (λ added. (added ≡ is_new project_id row self.old.projects)
             × (self.new ≡ (if added then
@@ -193,7 +194,8 @@ impl Rows {
         add_shared(alloc, &mut self.projects, row)
     }
 
-    /// Adds a network last, where none has its id, and answers whether it did. Otherwise nothing changes.
+    /// Adds a network last, where none has its id, and answers whether it did. Otherwise nothing
+    /// changes.
     pub fn add_network(&mut self, alloc: Global, row: NetworkRow) -> Result<bool, OutOfMemory>
         ensures added { IfOk result (λ added. (added ≡ is_new (λ r. r.id) row self.old.networks)
             × (self.new ≡ (if added then
@@ -203,7 +205,8 @@ impl Rows {
         add_shared(alloc, &mut self.networks, row)
     }
 
-    /// Adds a subnet last, where none has its id, and answers whether it did. Otherwise nothing changes.
+    /// Adds a subnet last, where none has its id, and answers whether it did. Otherwise nothing
+    /// changes.
     pub fn add_subnet(&mut self, alloc: Global, row: SubnetRow) -> Result<bool, OutOfMemory>
         ensures added { IfOk result (λ added. (added ≡ is_new (λ r. r.id) row self.old.subnets)
             × (self.new ≡ (if added then
@@ -213,7 +216,8 @@ impl Rows {
         add_shared(alloc, &mut self.subnets, row)
     }
 
-    /// Adds a port last, where none has its id, and answers whether it did. Otherwise nothing changes.
+    /// Adds a port last, where none has its id, and answers whether it did. Otherwise nothing
+    /// changes.
     pub fn add_port(&mut self, alloc: Global, row: PortRow) -> Result<bool, OutOfMemory>
         ensures added { IfOk result (λ added. (added ≡ is_new (λ r. r.id) row self.old.ports)
             × (self.new ≡ (if added then
@@ -234,7 +238,8 @@ impl Rows {
         add_shared(alloc, &mut self.groups, row)
     }
 
-    /// Adds a rule last, where none has its id, and answers whether it did. Otherwise nothing changes.
+    /// Adds a rule last, where none has its id, and answers whether it did. Otherwise nothing
+    /// changes.
     pub fn add_rule(&mut self, alloc: Global, row: RuleRow) -> Result<bool, OutOfMemory>
         ensures added { IfOk result (λ added. (added ≡ is_new (λ r. r.id) row self.old.rules)
             × (self.new ≡ (if added then
@@ -244,7 +249,8 @@ impl Rows {
         add_shared(alloc, &mut self.rules, row)
     }
 
-    /// Adds a router last, where none has its id, and answers whether it did. Otherwise nothing changes.
+    /// Adds a router last, where none has its id, and answers whether it did. Otherwise nothing
+    /// changes.
     pub fn add_router(&mut self, alloc: Global, row: RouterRow) -> Result<bool, OutOfMemory>
         ensures added { IfOk result (λ added. (added ≡ is_new (λ r. r.id) row self.old.routers)
             × (self.new ≡ (if added then
@@ -265,7 +271,8 @@ impl Rows {
         add_shared(alloc, &mut self.floatings, row)
     }
 
-    /// Adds a policy last, where none has its id, and answers whether it did. Otherwise nothing changes.
+    /// Adds a policy last, where none has its id, and answers whether it did. Otherwise nothing
+    /// changes.
     pub fn add_policy(&mut self, alloc: Global, row: PolicyRow) -> Result<bool, OutOfMemory>
         ensures added { IfOk result (λ added. (added ≡ is_new (λ r. r.id) row self.old.policies)
             × (self.new ≡ (if added then

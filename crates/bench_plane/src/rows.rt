@@ -10,7 +10,8 @@ use net_settings::default_settings;
 use std::alloc::Global;
 use test_rows::{add, bound_port, group, network, project, router, rule, service_port, subnet};
 
-// 10.0.0.0, the base of each network's subnet, and the first addresses of routers and of DHCP ports.
+// 10.0.0.0, the base of each network's subnet, and the first addresses of routers and of DHCP
+// ports.
 const INNER: u32 = 0x0a00_0000;
 
 const ROUTERS: u32 = 0x0a80_0000;

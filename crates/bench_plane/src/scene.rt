@@ -14,7 +14,8 @@ pub(crate) struct Scene {
     /// How many networks have a DHCP port on c1.
     pub(crate) served: u16,
     /// Whether the first four rules of a group are those that each new one has, and the others let
-    /// TCP in from the next group alone. Otherwise one lets all of IPv4 out, and one TCP to port 22 in.
+    /// TCP in from the next group alone. Otherwise one lets all of IPv4 out, and one TCP to port 22
+    /// in.
     pub(crate) usual: bool,
     /// The host of the ports with an odd number. The others are on c1.
     pub(crate) second: &'static str,

@@ -102,9 +102,9 @@ fn network_requests(alloc: Global) -> Result<Vec<u8>, OutOfMemory>
 }
 
 /// The requests of a drill: a network, a subnet of it, `size` ports of it and `size` events of
-/// frames between the first 499 of them at most. `start` is the state at which the draws start. They
-/// are some 480 bytes for each of the size; the cost and the memory grow with it. Want of memory is
-/// the only refusal.
+/// frames between the first 499 of them at most. `start` is the state at which the draws start.
+/// They are some 480 bytes for each of the size; the cost and the memory grow with it. Want of
+/// memory is the only refusal.
 pub fn drill(alloc: Global, start: u64, size: u32) -> Result<Bytes, OutOfMemory>
     ensures { IfOk result (λ b. b ≡ stream start size) }
 {

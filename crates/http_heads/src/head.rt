@@ -47,8 +47,8 @@ pub enum HeadRead {
         parts: HeadParts,
     },
     /// 1: no head, or one whose `Content-Length` is no length. 2: more than 16,384 bytes or 64
-    /// fields. 3: a body of more than 65,536 bytes. 4: a POST or PUT without a length, or a transfer
-    /// coding.
+    /// fields. 3: a body of more than 65,536 bytes. 4: a POST or PUT without a length, or a
+    /// transfer coding.
     Refused(u8),
 }
 

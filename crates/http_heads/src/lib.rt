@@ -1,9 +1,9 @@
 //! Heads of requests, read from bytes that come in pieces (RFC 9112).
 //!
-//! `read_head` looks at the bytes that have come and tells a whole head with its parts, a refusal, or
-//! that more is awaited. It stands on `httparse`, whose grammar its definitions cite. It promises
-//! that the first prefix that says something decides, and that what is decided stays decided,
-//! whatever follows. It allocates and copies nothing.
+//! `read_head` looks at the bytes that have come and tells a whole head with its parts, a refusal,
+//! or that more is awaited. It stands on `httparse`, whose grammar its definitions cite. It
+//! promises that the first prefix that says something decides, and that what is decided stays
+//! decided, whatever follows. It allocates and copies nothing.
 #![tactic(auto)]
 
 mod empty_lines;

@@ -122,7 +122,7 @@ Ending step fixed limit m z Budget = (z ≡ m) × IsWaiting m.buffer × (m.taken
 Ending step fixed limit m z WriteFault = (last : Last) × EndsShort step fixed limit m z last
 Ending step fixed limit m z OutOfMemory = (last : Last) × EndsShort step fixed limit m z last
 
--- a session: whole requests are answered in order, and then it ends. Memory may also be wanting
+-- a session: whole requests are answered in order, and then it ends. Memory may also run out
 -- before all
 abbrev pub Serves : {W : Type 0} → Transition W → Fixed W → ℕ → Moment W → Moment W → SessionEnd
     → Type 0

@@ -29,15 +29,15 @@ abbrev pub faults : List Told → ℕ
 faults [] = 0
 faults (told ∷ tolds) = told_faults told + faults tolds
 
--- the replies that aren't the machine's: of the store's failing, which only a change meets, of
--- out of memory, and of refusals 1 to 4
+-- the replies that aren't the machine's: where the store failed, which only a change meets,
+-- where memory ran out, and for refusals 1 to 4
 pub record Fixed (W : Type 0) : Type 0 where
   pub store_failed : Bool → Bytes
   pub no_memory : Bool → Bytes
   pub refusal : ℕ → Bytes
   -- whether a request comes to a change, which the store is to keep
   pub changes : W → Asked → Bool
-  -- whether out of memory may come in a reply's place
+  -- whether out of memory may replace a reply
   pub may_want : Bool
 
 -- what a request, and its reply, make of a world of this type

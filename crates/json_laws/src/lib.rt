@@ -2,8 +2,8 @@
 //!
 //! Laws over the definitions of `json_values`, `json_replies`, `neutron_json` and `api_policy`: a
 //! value that a body gives, as a row prints it, is read as the same value, and what stands under a
-//! name of a printed row is found under that name. The functions here do nothing, and their contracts
-//! are the laws.
+//! name of a printed row is found under that name. The functions here do nothing, and their
+//! contracts are the laws.
 #![tactic(auto)]
 
 ghost use Rattle.std.specs.Prelude.{◌≡◌, ℕ, List, option_map};

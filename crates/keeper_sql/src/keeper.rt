@@ -167,7 +167,7 @@ impl<S: Alter> SqlKeeper<S> {
         conn
     }
 
-    // Counts a fault, and out of memory not.
+    // Counts a fault, but not running out of memory.
     fn refusal(&mut self, trouble: Trouble) -> KeeperRefusal
         ensures later { self.old ≤ self.new }
         ensures cause { result ≡ HasFailed → RoseBy 1 self.old self.new }

@@ -131,8 +131,8 @@ fn next_free(kept: &HashSet<u16>, from: u16) -> u16
     BEHIND
 }
 
-// The tag that the network had, otherwise the least that is free from a number on, and the number from
-// which the free ones are then left.
+// The tag that the network had, otherwise the least that is free from a number on, and the number
+// from which the free ones are then left.
 fn next_tag(old: &TagMap, kept: &HashSet<u16>, network: Id, free: u16) -> (Option<u16>, u16)
     requires { free ≤ 4095 }
     ensures given { option_map (λ t. (t, free_from kept.now result.1)) result.0

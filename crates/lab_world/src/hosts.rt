@@ -123,8 +123,8 @@ impl Hosts {
         None
     }
 
-    /// Tells the host at a place a change with its number, and answers what it makes of it. Its cost
-    /// is that of wiring the host.
+    /// Tells the host at a place a change with its number, and answers what it makes of it. Its
+    /// cost is that of wiring the host.
     pub fn deliver(
         &mut self,
         alloc: Global,

@@ -87,7 +87,7 @@ impl World {
         })
     }
 
-    /// The rows of now.
+    /// The current rows.
     pub fn rows(&self) -> &Rows
         ensures rows { result.now ≡ self.now.history.rows }
         ensures consistent { IsConsistent self.now.history.rows }

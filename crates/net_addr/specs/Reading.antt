@@ -107,8 +107,8 @@ abbrev pub IsRead : (Text → ℕ → Type 0) → Text → Result ℕ BadAddress
 IsRead P text (Ok v) = P text v
 IsRead P text (Err e) = ((n : ℕ) → ¬ P text n) × IsLongestStart (λ t. (n : ℕ) × P t n) text e.at
 
--- the texts of version 6 with all groups, and those with `::` after a number of groups, or after any
--- number of them
+-- the texts of version 6 with all groups, and those with `::` after a number of groups, or after
+-- any number of them
 unfoldable pub SpellsWhole : Bool → Text → ℕ → Type 0
 SpellsWhole has_tail text n = Spells (end_parts has_tail (group_count has_tail)) 0 text n
 

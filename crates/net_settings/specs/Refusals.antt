@@ -1,4 +1,4 @@
--- Refusals. Want of memory is free: it may come in place of any answer.
+-- Refusals. Running out of memory is always allowed: it may replace any answer.
 use Rattle.std.specs.Prelude.{◌≡◌, Result, Err}
 use Rattle.net_addr.specs.Words.{Text}
 use Rattle.net_settings.specs.declared.refusal.SettingsRefusal.{SettingsRefusal}

@@ -9,9 +9,10 @@ const SILENCE: u64 = 1;
 
 const PATIENCE: u64 = 2;
 
-/// Ends a connection in stages (RFC 9112, 9.6): its peer is told that nothing more comes, and what it
-/// still sends is read away until it closes its side, is silent for a second, or has sent for two. A
-/// socket that is closed over bytes which nobody read is reset, and its peer may lose the last reply.
+/// Ends a connection in stages (RFC 9112, 9.6): its peer is told that nothing more comes, and what
+/// it still sends is read away until it closes its side, is silent for a second, or has sent for
+/// two. A socket that is closed over bytes which nobody read is reset, and its peer may lose the
+/// last reply.
 pub(crate) fn part(rt: &HostRuntime, mut stream: &TcpStream) -> io::Result<()> {
     let begun = Instant::now(rt)?;
     stream.shutdown(Shutdown::Write)?;

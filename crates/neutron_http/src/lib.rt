@@ -1,9 +1,10 @@
 //! Requests and replies of the Networking API as bytes of HTTP/1.1 (RFC 9112).
 //!
-//! `read_head` finds the head of a request, `find_route` its route, `read_query` what its query asks,
-//! `written` makes a reply's bytes and `fault_of` says what the reply of a refusal says. It stands on
-//! `http_heads`, `api_types` and the crates `httparse`, `http`, `matchit` and `form_urlencoded`, whose
-//! own words its definitions cite. It promises that each call's result is its definition's value.
+//! `read_head` finds the head of a request, `find_route` its route, `read_query` what its query
+//! asks, `written` makes a reply's bytes and `fault_of` says what the reply of a refusal says. It
+//! stands on `http_heads`, `api_types` and the crates `httparse`, `http`, `matchit` and
+//! `form_urlencoded`, whose own words its definitions cite. It promises that each call's result is
+//! its definition's value.
 #![tactic(auto)]
 
 mod fault;

@@ -106,9 +106,9 @@ fn assembled(
 
 /// The bytes of a reply: the status line, the fields, an empty line and the body (RFC 9112).
 ///
-/// `code` is one of the API's reply codes. The fields are `Content-Type` and `Content-Length`, which
-/// a 204 hasn't, then `Allow` for a 405 alone, `WWW-Authenticate: Keystone` for a 401 alone, and
-/// `Connection: close` where `close` is true. A 204 has no body. The cost grows with the reply.
+/// `code` is one of the API's reply codes. The fields are `Content-Type` and `Content-Length`,
+/// which a 204 hasn't, then `Allow` for a 405 alone, `WWW-Authenticate: Keystone` for a 401 alone,
+/// and `Connection: close` where `close` is true. A 204 has no body. The cost grows with the reply.
 pub fn written(
     alloc: Global,
     code: u16,

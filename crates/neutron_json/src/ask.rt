@@ -168,7 +168,7 @@ impl Body for Delivery {
     }
 }
 
-// The rows of now for each host that lacks them.
+// The current rows for each host that lacks them.
 #[derive(Clone, Copy)]
 struct Settling;
 
@@ -277,13 +277,13 @@ fn ask_host(alloc: Global, call: HostCall, body: &[u8]) -> Result<Ask, BodyRefus
 ///
 /// A list, a row that is shown and a deletion look at no body. Any other body has to be JSON
 /// (RFC 8259) in UTF-8 with the frame of its call: an object with the one member of the route,
-/// whose value is an object, or for an interface of a router a plain object. Otherwise it is refused
-/// with `BadBody` and the name of that member, if any. Then `BadAttribute` names the first
-/// attribute in byte order that is unknown, isn't read by this call or has no allowed value; otherwise,
-/// at creation and in the lab, the first one in byte order that has to be there and is missing;
-/// else `port_id`, where an interface has not exactly one of `port_id` and `subnet_id`. The cost
-/// grows with query and body, and with the square of the length of a list whose items have to
-/// differ.
+/// whose value is an object, or for an interface of a router a plain object. Otherwise it is
+/// refused with `BadBody` and the name of that member, if any. Then `BadAttribute` names the first
+/// attribute in byte order that is unknown, isn't read by this call or has no allowed value;
+/// otherwise, at creation and in the lab, the first one in byte order that has to be there and is
+/// missing; else `port_id`, where an interface has not exactly one of `port_id` and `subnet_id`.
+/// The cost grows with query and body, and with the square of the length of a list whose items have
+/// to differ.
 pub fn read_ask(
     alloc: Global,
     route: &Route,

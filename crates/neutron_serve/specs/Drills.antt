@@ -157,7 +157,7 @@ IsWrittenOut status text old new flushed =
     ⊎ (((status ≡ 3) ⊎ (status ≡ 4))
     × ((front : Bytes) × (back : Bytes) × (text ≡ front ++ back) × Appends old new front))
 
--- a drill writes nothing because memory ran out, or what it is to write
+-- a drill writes what it is to write, or nothing where memory ran out
 abbrev pub RunsDrill : ℕ → ℕ → Bool → Option Bytes → Option Bytes → Option ℕ → ℕ → Type 0
 RunsDrill start size replies old new flushed status =
     ((status ≡ 4) × (new ≡ old))

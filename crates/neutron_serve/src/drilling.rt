@@ -122,8 +122,8 @@ impl Drill {
     }
 }
 
-/// The Networking API over a world, whose replies are counted. A request for which anything was
-/// wanting ends the session.
+/// The Networking API over a world, whose replies are counted. A request for which
+/// memory ran out or the store failed ends the session.
 #[derive(Drop)]
 struct Counting {
     routes: Routes,

@@ -9,8 +9,8 @@ use net_addr::{Bytes, Text};
 use std::alloc::Global;
 use std::io::{Stdin, Stdout};
 
-/// Stores without a name, whose rows are kept in memory. A call for settings, for a store by name or
-/// for an address fails, and no connection comes. It tells nothing but how often a call failed.
+/// Stores without a name, whose rows are kept in memory. A call for settings, for a store by name
+/// or for an address fails, and no connection comes. It tells nothing but how often a call failed.
 #[derive(Drop)]
 pub(crate) struct SessionDesk {
     faults: u64,

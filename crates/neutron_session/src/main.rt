@@ -1,9 +1,9 @@
 //! The program `neutron_session`: its words, standard input and standard output go to the server,
 //! with rows in memory alone.
 //!
-//! It serves the words `session`, with its delivery, and `drill`, as the program `neutron` does. What
-//! needs files or sockets fails, with status 7. So it stands on no database, and is tried unproved in
-//! less time.
+//! It serves the words `session`, with its delivery, and `drill`, as the program `neutron` does.
+//! What needs files or sockets fails, with status 7. So it stands on no database, and is tried
+//! unproved in less time.
 #![tactic(auto)]
 
 mod desk;

@@ -61,7 +61,8 @@ impl OldRows {
         })
     }
 
-    /// Adds a project last, where none has its id, and answers whether it did. Otherwise nothing changes.
+    /// Adds a project last, where none has its id, and answers whether it did. Otherwise nothing
+    /// changes.
     pub fn add_project(&mut self, alloc: Global, row: ProjectRow) -> Result<bool, OutOfMemory>
         ensures added { IfOk result (λ added. (added ≡ is_new project_id row self.old.projects)
             × (self.new ≡ (if added then
@@ -71,7 +72,8 @@ impl OldRows {
         self.same.add_project(alloc, row)
     }
 
-    /// Adds a network last, where none has its id, and answers whether it did. Otherwise nothing changes.
+    /// Adds a network last, where none has its id, and answers whether it did. Otherwise nothing
+    /// changes.
     pub fn add_network(&mut self, alloc: Global, row: NetworkRow) -> Result<bool, OutOfMemory>
         ensures added { IfOk result (λ added. (added ≡ is_new (λ r. r.id) row self.old.networks)
             × (self.new ≡ (if added then
@@ -81,7 +83,8 @@ impl OldRows {
         self.same.add_network(alloc, row)
     }
 
-    /// Adds a subnet last, where none has its id, and answers whether it did. Otherwise nothing changes.
+    /// Adds a subnet last, where none has its id, and answers whether it did. Otherwise nothing
+    /// changes.
     pub fn add_subnet(&mut self, row: OldSubnet) -> Result<bool, OutOfMemory>
         ensures added { IfOk result (λ added. (added ≡ is_new (λ r. r.id) row self.old.subnets)
             × (self.new ≡ (if added then
@@ -91,7 +94,8 @@ impl OldRows {
         self.subnets.add(row)
     }
 
-    /// Adds a port last, where none has its id, and answers whether it did. Otherwise nothing changes.
+    /// Adds a port last, where none has its id, and answers whether it did. Otherwise nothing
+    /// changes.
     pub fn add_port(&mut self, row: OldPort) -> Result<bool, OutOfMemory>
         ensures added { IfOk result (λ added. (added ≡ is_new (λ r. r.id) row self.old.ports)
             × (self.new ≡ (if added then
@@ -112,7 +116,8 @@ impl OldRows {
         self.same.add_group(alloc, row)
     }
 
-    /// Adds a rule last, where none has its id, and answers whether it did. Otherwise nothing changes.
+    /// Adds a rule last, where none has its id, and answers whether it did. Otherwise nothing
+    /// changes.
     pub fn add_rule(&mut self, row: OldRule) -> Result<bool, OutOfMemory>
         ensures added { IfOk result (λ added. (added ≡ is_new (λ r. r.id) row self.old.rules)
             × (self.new ≡ (if added then
@@ -122,7 +127,8 @@ impl OldRows {
         self.rules.add(row)
     }
 
-    /// Adds a router last, where none has its id, and answers whether it did. Otherwise nothing changes.
+    /// Adds a router last, where none has its id, and answers whether it did. Otherwise nothing
+    /// changes.
     pub fn add_router(&mut self, row: OldRouter) -> Result<bool, OutOfMemory>
         ensures added { IfOk result (λ added. (added ≡ is_new (λ r. r.id) row self.old.routers)
             × (self.new ≡ (if added then
@@ -143,7 +149,8 @@ impl OldRows {
         self.same.add_floating(alloc, row)
     }
 
-    /// Adds a policy last, where none has its id, and answers whether it did. Otherwise nothing changes.
+    /// Adds a policy last, where none has its id, and answers whether it did. Otherwise nothing
+    /// changes.
     pub fn add_policy(&mut self, alloc: Global, row: PolicyRow) -> Result<bool, OutOfMemory>
         ensures added { IfOk result (λ added. (added ≡ is_new (λ r. r.id) row self.old.policies)
             × (self.new ≡ (if added then

@@ -326,7 +326,8 @@ fn check_next_values(
 }
 
 /// Refuses a change of the port that breaks a rule, that is another's to make, or whose addresses
-/// others hold. Its cost grows with the ports, the policies, the routers and the floating addresses.
+/// others hold. Its cost grows with the ports, the policies, the routers and the floating
+/// addresses.
 pub(crate) fn check_update(
     alloc: Global,
     rows: &Rows,

@@ -346,8 +346,8 @@ fn add_to_router(
 }
 
 /// The plan of adding an interface to a router, or why it is refused. By a subnet a port is made
-/// with the address of the subnet's gateway, by a port that one becomes the router's. Its cost grows
-/// with the ports and their addresses, the policies, the projects and the hosts, and with the
+/// with the address of the subnet's gateway, by a port that one becomes the router's. Its cost
+/// grows with the ports and their addresses, the policies, the projects and the hosts, and with the
 /// subnets for each port of the router.
 pub fn add_interface(
     alloc: Global,

@@ -92,8 +92,8 @@ fn check_next_gateway(
 }
 
 /// Refuses the gateway that a body asks for, on a network that isn't external to the router's
-/// project or has a subnet that overlaps one of its interfaces. Its cost grows with the policies and
-/// the ports, and for each interface with the subnets, times those of the network.
+/// project or has a subnet that overlaps one of its interfaces. Its cost grows with the policies
+/// and the ports, and for each interface with the subnets, times those of the network.
 pub(crate) fn check_named_gateway(
     alloc: Global,
     rows: &Rows,

@@ -298,8 +298,8 @@ fn legs<'r>(
 }
 
 /// The routes of a router whose live ports are these: to their subnets, then its own ones, then the
-/// default ones. Its cost grows with the router's addresses, of each port also with the logarithm of
-/// their number, and with its own routes times its addresses.
+/// default ones. Its cost grows with the router's addresses, of each port also with the logarithm
+/// of their number, and with its own routes times its addresses.
 pub fn ways_by(
     alloc: Global,
     rows: &Rows,

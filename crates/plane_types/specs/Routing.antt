@@ -63,11 +63,11 @@ uses_by false outer r entries = []
 uses_by true None r entries = []
 uses_by true (Some outer) r entries = uses_at r outer entries
 
--- First the destination. A floating address of this router becomes the fixed address. Otherwise, where
--- a valid entry answers to the packet (the kind is that of the reversed key, the outer address and
--- port are the packet's destination, and the entry's far end is the packet's source), the
--- destination becomes the source that the entry keeps: the packet's ends are those of an answer to
--- the key.
+-- First the destination. A floating address of this router becomes the fixed address. Otherwise,
+-- where a valid entry answers to the packet (the kind is that of the reversed key, the outer
+-- address and port are the packet's destination, and the entry's far end is the packet's source),
+-- the destination becomes the source that the entry keeps: the packet's ends are those of an answer
+-- to the key.
 abbrev pub answers : Option ℕ → Packet → Use → Bool
 answers None p u = false
 answers (Some outer) p u =
@@ -116,8 +116,8 @@ best_way x (w ∷ ways) =
     if contains w.prefix x then Some (better w (best_way x ways)) else best_way x ways
 
 -- Last the source. A port is taken where a valid entry has it with the same kind and far end. The
--- outer port of a new entry is the same port where free, otherwise, for TCP, UDP and echoes, the least
--- free one of 1,024 to 65,535.
+-- outer port of a new entry is the same port where free, otherwise, for TCP, UDP and echoes, the
+-- least free one of 1,024 to 65,535.
 abbrev pub is_taken : List Use → Key → ℕ → Bool
 is_taken uses k port =
     list_any

@@ -20,8 +20,8 @@ pub type Tags = Seq<TagRow>;
 pub type Leases = Seq<LeaseRow>;
 
 /// What the tables of one host say. Each list is in order of creation of the rows of the API that
-/// its rows come from, but `bridge` and `neighbours` ascend, by their type. `sets` has the groups in
-/// order of creation, and the members of each ascend.
+/// its rows come from, but `bridge` and `neighbours` ascend, by their type. `sets` has the groups
+/// in order of creation, and the members of each ascend.
 pub struct TableLists {
     pub tags: Tags,
     pub taps: Seq<TapRow>,

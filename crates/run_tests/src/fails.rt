@@ -29,8 +29,8 @@ const ONCE: &[&[u8]] = &[MAKE];
 
 const THRICE: &[&[u8]] = &[MAKE, MAKE, MAKE];
 
-// Words, the numbers of the calls that fail (of the desk, of its store, reads, and writes and flushes),
-// the requests, the status, and the replies that are written.
+// Words, the numbers of the calls that fail (of the desk, of its store, reads, and writes and
+// flushes), the requests, the status, and the replies that are written.
 type Case = (
     &'static [&'static str],
     [&'static [u64]; 4],

@@ -23,8 +23,8 @@ pub(crate) const MADE: &[u8] =
         \"router:external\":false,\"shared\":false,\"status\":\"ACTIVE\",\"subnets\":[],\
         \"tenant_id\":\"a\"}}";
 
-// Words, the status of a run over the making of a network, what it writes, and how often it asks the
-// desk.
+// Words, the status of a run over the making of a network, what it writes, and how often it asks
+// the desk.
 type Case = (&'static [&'static str], u8, &'static [u8], usize);
 
 const CASES: [Case; 9] = [
@@ -89,8 +89,8 @@ fn stores(alloc: Global) -> Result<NamedRows, OutOfMemory> {
     Ok(stores)
 }
 
-// A desk with two files of settings and one store, which fails in these calls, and whose stores fail
-// in those.
+// A desk with two files of settings and one store, which fails in these calls, and whose stores
+// fail in those.
 fn desk(alloc: Global, failing: &[u64], store_failing: &[u64]) -> Result<MemoryDesk, OutOfMemory> {
     let files = files(alloc)?;
     let stores = stores(alloc)?;

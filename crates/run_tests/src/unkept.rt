@@ -60,8 +60,8 @@ const SEEN: &[&[u8]] = &[MAKES, SEND, LOOK, SEND];
 
 const SEEN_AGAIN: &[&[u8]] = &[MAKES, SEND, LOOK, SEND, DELETE, LOOK, SEND];
 
-// What a session over these requests writes where the store fails in its fifth call, which is that of
-// the fourth change.
+// What a session over these requests writes where the store fails in its fifth call, which is that
+// of the fourth change.
 fn replies(alloc: Global, requests: &[&[u8]]) -> Result<Vec<u8>, OutOfMemory> {
     let requests = joined(alloc, requests)?;
     let failing: [&[u64]; 4] = [&[], &[5], &[], &[]];

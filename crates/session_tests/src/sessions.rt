@@ -304,8 +304,8 @@ fn writes(alloc: Global, input: &[u8], piece: usize, wanted: &[u8]) -> Result<bo
     Ok(end == SessionEnd::Done && output.as_slice() == wanted)
 }
 
-/// Whether a session in manual delivery, from no rows on, over this input is done, and what it wrote
-/// ends so.
+/// Whether a session in manual delivery, from no rows on, over this input is done, and what it
+/// wrote ends so.
 pub(crate) fn ends_so(alloc: Global, input: &[u8], wanted: &[u8]) -> Result<bool, OutOfMemory> {
     let mut world = fresh(alloc, true)?;
     let mut keeper = SureKeeper::make(Rows::empty(alloc)?);

@@ -1,4 +1,5 @@
-//! A store that breaks a clause isn't opened: no machine is made of it, and no run answers a request.
+//! A store that breaks a clause isn't opened: no machine is made of it, and no run answers a
+//! request.
 use crate::broken::{CLAUSES, spoiled};
 use crate::store::store;
 use api_check::Inconsistent;
