@@ -268,7 +268,7 @@ fn drill_bytes(alloc: Global, start: u64, size: u32, replies: bool) -> Result<Ve
 }
 
 /// Runs a drill and writes its replies, where they are wanted, and its summary. The status is 0
-/// where all was written and flushed, 3 where a write or a flush failed, and 4 where memory 
+/// where all was written and flushed, 3 where a write or a flush failed, and 4 where memory
 /// ran out. At 3 and 4 a front of it is written.
 pub(crate) fn run_drill<O: Sink>(
     alloc: Global,
