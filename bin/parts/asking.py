@@ -1,4 +1,5 @@
-"""Servers that are asked as an administrator: one that runs, or one of our own over a copy of a store."""
+"""Servers that are asked as an administrator: one that runs, or one of our own over a copy of a
+store."""
 
 import http.client
 import json
@@ -11,8 +12,14 @@ import urllib.parse
 
 import messages
 
-LISTS = {"networks": "networks", "subnets": "subnets", "ports": "ports", "routers": "routers",
-         "floatingips": "floatingips", "security-groups": "security_groups"}
+LISTS = {
+    "networks": "networks",
+    "subnets": "subnets",
+    "ports": "ports",
+    "routers": "routers",
+    "floatingips": "floatingips",
+    "security-groups": "security_groups",
+}
 PROJECT = "trace"
 
 
@@ -21,7 +28,8 @@ class Refused(Exception):
 
 
 class Served:
-    """A server at an address, which is asked over one connection a request, so that nobody waits for this one."""
+    """A server at an address, which is asked over one connection a request, so that nobody waits
+    for this one."""
 
     def __init__(self, url):
         self.at = urllib.parse.urlsplit(url)
@@ -55,9 +63,17 @@ class Copied:
                 shutil.copyfile(f"{store}{end}", f"{copy}{end}")
         except OSError as error:
             raise Refused(f"the store can't be copied: {error}") from error
-        words = [pathlib.Path(__file__).resolve().parent.parent / "neutron", "session", "--store", copy]
-        self.run = subprocess.Popen([*words, *(["--settings", settings] if settings else [])], stdin=subprocess.PIPE,
-                                    stdout=subprocess.PIPE)
+        words = [
+            pathlib.Path(__file__).resolve().parent.parent / "neutron",
+            "session",
+            "--store",
+            copy,
+        ]
+        self.run = subprocess.Popen(
+            [*words, *(["--settings", settings] if settings else [])],
+            stdin=subprocess.PIPE,
+            stdout=subprocess.PIPE,
+        )
 
     def exchange(self, method, path, body):
         try:

@@ -18,11 +18,25 @@ MEANS = {
     4: "out of memory; what was answered 2xx is stored",
     8: "standard input has more than 2^40 bytes",
 }
-SIGNALS = {signal.SIGXFSZ: "a file reached the size limit of the shell (ulimit -f) or of the unit (LimitFSIZE)"}
-UNHELD = {errno.EADDRINUSE: "is in use: ss -ltnp says by whom", errno.EADDRNOTAVAIL: "isn't one of this machine"}
+SIGNALS = {
+    signal.SIGXFSZ: "a file reached the size limit of the shell (ulimit -f) or of the unit (LimitFSIZE)"
+}
+UNHELD = {
+    errno.EADDRINUSE: "is in use: ss -ltnp says by whom",
+    errno.EADDRNOTAVAIL: "isn't one of this machine",
+}
 # The tables of a store but `format`.
-TABLES = {"projects", "networks", "subnets", "ports", "security_groups", "security_group_rules", "routers",
-          "floating_ips", "rbac_policies"}
+TABLES = {
+    "projects",
+    "networks",
+    "subnets",
+    "ports",
+    "security_groups",
+    "security_group_rules",
+    "routers",
+    "floating_ips",
+    "rbac_policies",
+}
 
 
 def explain(status, given):
@@ -30,7 +44,11 @@ def explain(status, given):
     if status > 128:
         return killed(status - 128)
     causes = {5: bad_settings, 6: broken_rows, 7: failed}
-    why = causes[status](given) if status in causes else MEANS.get(status, "docs/API.md, Exit status")
+    why = (
+        causes[status](given)
+        if status in causes
+        else MEANS.get(status, "docs/API.md, Exit status")
+    )
     return f"status {status}: {why}"
 
 
@@ -44,7 +62,9 @@ def bad_settings(given):
     """Which key of the settings is bad."""
     path = pathlib.Path(given["--settings"])
     why = settings_file.mistake(path.read_bytes()) if os.access(path, os.R_OK) else None
-    return f"the settings file {path} is refused: {why or 'a key breaks its rule'} (docs/SETTINGS.md)"
+    return (
+        f"the settings file {path} is refused: {why or 'a key breaks its rule'} (docs/SETTINGS.md)"
+    )
 
 
 def hosts_of(given):
@@ -53,7 +73,9 @@ def hosts_of(given):
         return {"c1", "c2"}
     if settings_file.tomllib is None:
         return None
-    table = settings_file.tomllib.loads(pathlib.Path(given["--settings"]).read_text(encoding="utf-8"))
+    table = settings_file.tomllib.loads(
+        pathlib.Path(given["--settings"]).read_text(encoding="utf-8")
+    )
     return {host["name"] for host in table["hosts"]} if "hosts" in table else {"c1", "c2"}
 
 
@@ -63,19 +85,30 @@ def broken_rows(given):
     rows = asked(path, "SELECT id, host_id FROM ports WHERE vif_type = 'ovs' ORDER BY place")
     for port, host in rows if hosts is not None else ():
         if host not in hosts:
-            return (f"port {port} of the store {path} is bound to host {host}, which the settings haven't: "
-                    "open the store with the --settings that it was written with")
-    return (f"the rows of the store {path} break the rules of rows: open it with the --settings that it was written "
-            "with, or take a copy that you kept")
+            return (
+                f"port {port} of the store {path} is bound to host {host}, which the settings haven't: "
+                "open the store with the --settings that it was written with"
+            )
+    return (
+        f"the rows of the store {path} break the rules of rows: open it with the --settings that it was written "
+        "with, or take a copy that you kept"
+    )
 
 
 def failed(given):
-    """Which of the settings, the store and the address failed: the first that is found, in the program's order."""
-    for option, look in (("--settings", unread_settings), ("--store", unopened_store), ("--listen", unheld_address)):
+    """Which of the settings, the store and the address failed: the first that is found, in the
+    program's order."""
+    for option, look in (
+        ("--settings", unread_settings),
+        ("--store", unopened_store),
+        ("--listen", unheld_address),
+    ):
         if option in given and (why := look(given[option])):
             return why
-    return ("the settings can't be read, the store can't be opened or loaded, the address can't be had, or a connection "
-            "can't be taken; nothing is seen from outside, so try again")
+    return (
+        "the settings can't be read, the store can't be opened or loaded, the address can't be had, or a connection "
+        "can't be taken; nothing is seen from outside, so try again"
+    )
 
 
 def unread_settings(name):
@@ -84,7 +117,11 @@ def unread_settings(name):
         return f"the settings file {path} isn't there"
     if path.is_dir():
         return f"the settings file {path} is a folder"
-    return None if os.access(path, os.R_OK) else f"the settings file {path} can't be read: see its permissions"
+    return (
+        None
+        if os.access(path, os.R_OK)
+        else f"the settings file {path} can't be read: see its permissions"
+    )
 
 
 def unopened_store(name):
@@ -95,7 +132,11 @@ def unopened_store(name):
     if path.is_dir():
         return f"the store {path} is a folder: name a file"
     if not path.exists():
-        return None if os.access(path.parent, os.W_OK) else f"the store can't be made: {path.parent} can't be written to"
+        return (
+            None
+            if os.access(path.parent, os.W_OK)
+            else f"the store can't be made: {path.parent} can't be written to"
+        )
     if not os.access(path, os.R_OK | os.W_OK):
         return f"the store {path} can't be {'written to' if os.access(path, os.R_OK) else 'read'}: see its permissions"
     if not os.access(path.parent, os.W_OK):
@@ -108,15 +149,25 @@ def unopened_store(name):
 def holder_of(path):
     """A process that holds a lock on a file, or None."""
     lock = re.compile(rf"^\d+: \S+ +\S+ +\S+ +(\d+) \S+:{path.stat().st_ino} ", re.M)
-    held = lock.search(pathlib.Path("/proc/locks").read_text(encoding="ascii")) if os.path.exists("/proc/locks") else None
+    held = (
+        lock.search(pathlib.Path("/proc/locks").read_text(encoding="ascii"))
+        if os.path.exists("/proc/locks")
+        else None
+    )
     return held and held[1]
 
 
 def foreign_store(path):
     """Why a file that can be read and written isn't a store."""
     try:
-        tables = {row[0] for row in asked(path, "SELECT name FROM sqlite_master WHERE type = 'table'")}
-        numbers = [row[0] for row in asked(path, "SELECT number FROM format")] if "format" in tables else []
+        tables = {
+            row[0] for row in asked(path, "SELECT name FROM sqlite_master WHERE type = 'table'")
+        }
+        numbers = (
+            [row[0] for row in asked(path, "SELECT number FROM format")]
+            if "format" in tables
+            else []
+        )
     except sqlite3.Error as error:
         return f"the store {path} is no SQLite database that can be read: {error}"
     if not tables:
@@ -131,7 +182,8 @@ def foreign_store(path):
 
 
 def asked(path, query):
-    """The rows that a query gives on a copy of a database and its log, so that nothing beside it changes."""
+    """The rows that a query gives on a copy of a database and its log, so that nothing beside it
+    changes."""
     with tempfile.TemporaryDirectory() as folder:
         for end in ("", "-wal"):
             if os.path.exists(f"{path}{end}"):

@@ -24,7 +24,8 @@ def body_length(head):
 
 
 def messages_in(text):
-    """The whole requests or replies that the bytes begin with, and the bytes after the last of them."""
+    """The whole requests or replies that the bytes begin with, and the bytes after the last of
+    them."""
     parts, at = [], 0
     while (end := text.find(b"\r\n\r\n", at)) >= 0:
         end += 4 + body_length(text[at:end])
@@ -36,7 +37,8 @@ def messages_in(text):
 
 
 def read_reply(file):
-    """The status, the head and the body of the next reply, or None where the file ends before or in its head."""
+    """The status, the head and the body of the next reply, or None where the file ends before or
+    in its head."""
     head = b""
     while not head.endswith(b"\r\n\r\n"):
         line = file.readline()

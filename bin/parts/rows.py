@@ -3,9 +3,19 @@
 import json
 
 # The kinds, each with what a row of it has to tell to be drawn.
-KINDS = {"networks": "id", "subnets": "network_id", "ports": "network_id", "routers": "id",
-         "floatingips": "floating_network_id", "security_groups": "id"}
-INTERFACE, GATEWAY, FLOATING = "network:router_interface", "network:router_gateway", "network:floatingip"
+KINDS = {
+    "networks": "id",
+    "subnets": "network_id",
+    "ports": "network_id",
+    "routers": "id",
+    "floatingips": "floating_network_id",
+    "security_groups": "id",
+}
+INTERFACE, GATEWAY, FLOATING = (
+    "network:router_interface",
+    "network:router_gateway",
+    "network:floatingip",
+)
 WORDS = {INTERFACE: "interface", GATEWAY: "gateway", "network:dhcp": "DHCP"}
 
 
@@ -18,7 +28,10 @@ def listed(text):
             for row in body[kind] if isinstance(body.get(kind), list) else ():
                 if isinstance(row, dict) and "id" in row:
                     rows[kind].setdefault(row["id"], {}).update(row)
-    return {kind: {row["id"]: row for row in rows[kind].values() if KINDS[kind] in row} for kind in KINDS}
+    return {
+        kind: {row["id"]: row for row in rows[kind].values() if KINDS[kind] in row}
+        for kind in KINDS
+    }
 
 
 def named(row):

@@ -1,12 +1,23 @@
 """Rules of security groups in words, and which part of a rule a packet doesn't match.
 
-A packet has `version` (4 or 6), `protocol` (a number), `source` and `target`, and `port`, the destination's, or for an
-echo `kind`, its type."""
+A packet has `version` (4 or 6), `protocol` (a number), `source` and `target`, and `port`, the
+destination's, or for an echo `kind`, its type."""
 
 import ipaddress
 
-PROTOCOLS = {"icmp": 1, "igmp": 2, "tcp": 6, "udp": 17, "gre": 47, "esp": 50, "ah": 51, "ipv6-icmp": 58, "ospf": 89,
-             "vrrp": 112, "sctp": 132}
+PROTOCOLS = {
+    "icmp": 1,
+    "igmp": 2,
+    "tcp": 6,
+    "udp": 17,
+    "gre": 47,
+    "esp": 50,
+    "ah": 51,
+    "ipv6-icmp": 58,
+    "ospf": 89,
+    "vrrp": 112,
+    "sctp": 132,
+}
 PORTS = ("tcp", "udp")
 
 
@@ -17,7 +28,9 @@ def number_of(protocol):
 
 def called(protocol):
     """What a protocol with this number is called."""
-    return next((name for name, number in PROTOCOLS.items() if number == protocol), f"protocol {protocol}")
+    return next(
+        (name for name, number in PROTOCOLS.items() if number == protocol), f"protocol {protocol}"
+    )
 
 
 def range_of(rule):
@@ -35,7 +48,13 @@ def in_words(rule, groups):
     toward = "from" if rule["direction"] == "ingress" else "to"
     group = rule["remote_group_id"]
     far = rule["remote_ip_prefix"] or (f"group {groups[group]}" if group else "")
-    words = (rule["direction"], rule["ethertype"], rule["protocol"], range_of(rule), f"{toward} {far}" if far else "")
+    words = (
+        rule["direction"],
+        rule["ethertype"],
+        rule["protocol"],
+        range_of(rule),
+        f"{toward} {far}" if far else "",
+    )
     return " ".join(filter(None, words))
 
 

@@ -1,4 +1,5 @@
-"""What is wrong with a settings file: the first key that breaks its rule, in the order of docs/SETTINGS.md."""
+"""What is wrong with a settings file: the first key that breaks its rule, in the order of
+docs/SETTINGS.md."""
 
 import re
 
@@ -8,8 +9,23 @@ except ImportError:  # Python before 3.11
     tomllib = None
 
 DRIVERS = ("openvswitch", "l2population")
-QUOTAS = ("network", "subnet", "port", "router", "floatingip", "security_group", "security_group_rule", "rbac_policy")
-TOP, HOST = ("drivers", "vxlan_first", "vxlan_last", "quotas", "hosts"), ("name", "physical", "vxlan", "l3", "dhcp")
+QUOTAS = (
+    "network",
+    "subnet",
+    "port",
+    "router",
+    "floatingip",
+    "security_group",
+    "security_group_rule",
+    "rbac_policy",
+)
+TOP, HOST = ("drivers", "vxlan_first", "vxlan_last", "quotas", "hosts"), (
+    "name",
+    "physical",
+    "vxlan",
+    "l3",
+    "dhcp",
+)
 NAME = re.compile(r"[A-Za-z0-9_.-]+")
 
 
@@ -62,19 +78,27 @@ def bad_names(hosts):
             return f"host {place} has no name"
         if not is_name(name, 63):
             return f"the name of host {place} has to be 1 to 63 letters, digits, -, _ and ."
-        if name in names[:place - 1]:
+        if name in names[: place - 1]:
             return f"two hosts have the name {name}"
     return None
 
 
 def bad_hosts(hosts):
-    if not isinstance(hosts, list) or not 1 <= len(hosts) <= 64 or not all(isinstance(host, dict) for host in hosts):
+    if (
+        not isinstance(hosts, list)
+        or not 1 <= len(hosts) <= 64
+        or not all(isinstance(host, dict) for host in hosts)
+    ):
         return "hosts has to be 1 to 64 tables, each under [[hosts]]"
     if (wrong := bad_names(hosts)) is not None:
         return wrong
     for host in hosts:
         physical = host.get("physical", [])
-        if not are_texts(physical) or not all(is_name(each, 64) for each in physical) or not are_different(physical):
+        if (
+            not are_texts(physical)
+            or not all(is_name(each, 64) for each in physical)
+            or not are_different(physical)
+        ):
             return f"physical of host {host['name']} has to be a list of different names"
     for key in HOST[2:]:
         for host in hosts:
@@ -92,8 +116,13 @@ def unknown_key(table):
 
 def bad_key(table):
     """What is wrong with the settings of a table, or None."""
-    return (bad_drivers(table.get("drivers", [])) or bad_numbers(table) or bad_quotas(table.get("quotas", {}))
-            or ("hosts" in table and bad_hosts(table["hosts"])) or unknown_key(table))
+    return (
+        bad_drivers(table.get("drivers", []))
+        or bad_numbers(table)
+        or bad_quotas(table.get("quotas", {}))
+        or ("hosts" in table and bad_hosts(table["hosts"]))
+        or unknown_key(table)
+    )
 
 
 def mistake(text):

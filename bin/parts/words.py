@@ -1,15 +1,20 @@
-"""The program's command lines, as crates/command_lines defines them, and what is wrong with words that are none."""
+"""The program's command lines, as crates/command_lines defines them, and what is wrong with words
+that are none."""
 
 import os
 
 OPENING = {"--settings": "FILE", "--store": "FILE", "--delivery": "auto|manual"}
 # The options of each command with a value, and those among them that are required.
-OPTIONS = {"session": OPENING, "serve": {"--listen": "ADDRESS", "--connections": "N", **OPENING}, "drill": {}}
+OPTIONS = {
+    "session": OPENING,
+    "serve": {"--listen": "ADDRESS", "--connections": "N", **OPENING},
+    "drill": {},
+}
 REQUIRED = {"session": (), "serve": ("--listen", "--connections"), "drill": ()}
 USAGES = {
     "session": "neutron session [--settings FILE] [--store FILE] [--delivery auto|manual]",
     "serve": "neutron serve --listen ADDRESS --connections N [--settings FILE] [--store FILE]"
-             " [--delivery auto|manual]",
+    " [--delivery auto|manual]",
     "drill": "neutron drill START SIZE [--replies]",
     "--prove": "neutron --prove",
 }
@@ -28,13 +33,17 @@ class Wrong(Exception):
 
 def usage_of(command):
     """The usage of a command, or of all where there is no such command."""
-    return "\n".join(f"usage: {USAGES[name]}" for name in ([command] if command in USAGES else USAGES))
+    return "\n".join(
+        f"usage: {USAGES[name]}" for name in ([command] if command in USAGES else USAGES)
+    )
 
 
 def show_help():
     """What `--help` prints: each command with what it does."""
     lines = [line for name in USAGES for line in (f"  {USAGES[name]}", f"      {SAYS[name]}")]
-    return "\n".join(["usage:", *lines, "Without --store rows are held in memory. docs/API.md says the rest."])
+    return "\n".join(
+        ["usage:", *lines, "Without --store rows are held in memory. docs/API.md says the rest."]
+    )
 
 
 def check_value(name, value):
@@ -56,7 +65,11 @@ def options_in(command, words):
     while rest:
         name, joined, value = rest.pop(0).partition("=")
         if name not in OPTIONS[command]:
-            raise Wrong(f"{command} has no option {name}" if name.startswith("-") else f"{name} is one word too many")
+            raise Wrong(
+                f"{command} has no option {name}"
+                if name.startswith("-")
+                else f"{name} is one word too many"
+            )
         if name in found:
             raise Wrong(f"{name} is given twice")
         found[name] = value if joined else rest.pop(0) if rest else ""
@@ -91,7 +104,11 @@ def read(words):
     if not words:
         raise Wrong("a command is missing")
     if words[0] not in OPTIONS:
-        raise Wrong("--prove takes no other argument" if words[0] == "--prove" else f"{words[0]} is no command")
+        raise Wrong(
+            "--prove takes no other argument"
+            if words[0] == "--prove"
+            else f"{words[0]} is no command"
+        )
     if "--" in words:
         raise Wrong("the argument -- isn't taken")
     if words[0] == "drill":

@@ -1,4 +1,5 @@
-"""The front of examples/front for scripts: nginx in a folder of its own, before the program over a store."""
+"""The front of examples/front for scripts: nginx in a folder of its own, before the program over a
+store."""
 
 import os
 import pathlib
@@ -14,8 +15,12 @@ MODULE = "/usr/lib/nginx/modules/ngx_http_js_module.so"
 
 def install(*packages):
     """Installs packages of the distribution where nginx or one of their commands is missing."""
-    subprocess.run(["apt-get", "install", "-y", "--no-install-recommends", *packages], check=True,
-                   stdout=subprocess.DEVNULL, env=dict(os.environ, DEBIAN_FRONTEND="noninteractive"))
+    subprocess.run(
+        ["apt-get", "install", "-y", "--no-install-recommends", *packages],
+        check=True,
+        stdout=subprocess.DEVNULL,
+        env=dict(os.environ, DEBIAN_FRONTEND="noninteractive"),
+    )
 
 
 def need_nginx():
@@ -36,7 +41,8 @@ def wait_for(address):
 
 
 class Front:
-    """The front and the server after it, in a folder that has to be there. With `mended`, mend.conf is included."""
+    """The front and the server after it, in a folder that has to be there. With `mended`,
+    mend.conf is included."""
 
     def __init__(self, folder, mended=False):
         need_nginx()
@@ -55,8 +61,18 @@ class Front:
     def serve(self):
         """Starts the server over the store."""
         store = self.folder.parent / "cloud.db"
-        self.run = subprocess.Popen([neutron.PROGRAM, "serve", "--listen", f"127.0.0.1:{self.server[1]}",
-                                     "--connections", "1000000", "--store", store])
+        self.run = subprocess.Popen(
+            [
+                neutron.PROGRAM,
+                "serve",
+                "--listen",
+                f"127.0.0.1:{self.server[1]}",
+                "--connections",
+                "1000000",
+                "--store",
+                store,
+            ]
+        )
         wait_for(self.server)
 
     def words(self, *more):
@@ -68,13 +84,35 @@ class Front:
         text = path.read_text(encoding="utf-8").replace(":9797", f":{self.address[1]}")
         text = text.replace(":9696", f":{self.server[1]}")
         if mended:
-            text = text.replace("# load_module", "load_module").replace("# include mend.conf", "include mend.conf")
+            text = text.replace("# load_module", "load_module").replace(
+                "# include mend.conf", "include mend.conf"
+            )
         path.write_text(text, encoding="utf-8")
 
     def make_certificate(self):
-        subprocess.run(["openssl", "req", "-x509", "-newkey", "rsa:2048", "-nodes", "-days", "2", "-subj",
-                        "/CN=127.0.0.1", "-addext", "subjectAltName=IP:127.0.0.1", "-keyout", "server.key", "-out",
-                        "server.crt"], cwd=self.folder, check=True, stderr=subprocess.DEVNULL)
+        subprocess.run(
+            [
+                "openssl",
+                "req",
+                "-x509",
+                "-newkey",
+                "rsa:2048",
+                "-nodes",
+                "-days",
+                "2",
+                "-subj",
+                "/CN=127.0.0.1",
+                "-addext",
+                "subjectAltName=IP:127.0.0.1",
+                "-keyout",
+                "server.key",
+                "-out",
+                "server.crt",
+            ],
+            cwd=self.folder,
+            check=True,
+            stderr=subprocess.DEVNULL,
+        )
 
     @property
     def url(self):
