@@ -62,7 +62,7 @@ class Cloud:
         """A router in words."""
         hosts = [port["binding:host_id"] for port in self.ports_of(key) if port["binding:host_id"]]
         row = self.routers[key]
-        return f"router {named(row)} ({', '.join([row['project_id'], f'on {hosts[0]}' if hosts else 'on no host'])})"
+        return f"router {named(row)} ({row['project_id']}, on {hosts[0] if hosts else 'no host'})"
 
     def owner(self, row):
         """Whose MAC or address a port's is, in words."""

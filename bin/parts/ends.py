@@ -19,7 +19,8 @@ MEANS = {
     8: "standard input has more than 2^40 bytes",
 }
 SIGNALS = {
-    signal.SIGXFSZ: "a file reached the size limit of the shell (ulimit -f) or of the unit (LimitFSIZE)"
+    signal.SIGXFSZ: "a file reached the size limit of the shell (ulimit -f) or of the unit "
+    "(LimitFSIZE)"
 }
 UNHELD = {
     errno.EADDRINUSE: "is in use: ss -ltnp says by whom",
@@ -138,7 +139,8 @@ def unopened_store(name):
             else f"the store can't be made: {path.parent} can't be written to"
         )
     if not os.access(path, os.R_OK | os.W_OK):
-        return f"the store {path} can't be {'written to' if os.access(path, os.R_OK) else 'read'}: see its permissions"
+        lack = "written to" if os.access(path, os.R_OK) else "read"
+        return f"the store {path} can't be {lack}: see its permissions"
     if not os.access(path.parent, os.W_OK):
         return f"the log {path}-wal can't be made: {path.parent} can't be written to"
     if holder := holder_of(path):
@@ -173,9 +175,13 @@ def foreign_store(path):
     if not tables:
         return None
     if "format" not in tables:
-        return f"the store {path} is another program's database (it has no table format): name another file"
+        return (
+            f"the store {path} is another program's database (it has no table format): name "
+            "another file"
+        )
     if numbers not in ([1], [2]):
-        return f"the store {path} has format {', '.join(map(str, numbers)) or 'none'}, and this program reads 1 and 2"
+        found = ", ".join(map(str, numbers)) or "none"
+        return f"the store {path} has format {found}, and this program reads 1 and 2"
     if lost := sorted(TABLES - tables):
         return f"the store {path} has no table {lost[0]}: take a copy that you kept"
     return f"a row or a column of the store {path} spells no value of its field (docs/STORE.md, Tables)"
