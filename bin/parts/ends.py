@@ -1,6 +1,8 @@
 """Why the program ended: what its status means, and what can be told of the cause from outside."""
 
+import contextlib
 import errno
+import glob
 import os
 import pathlib
 import re
@@ -143,20 +145,28 @@ def unopened_store(name):
         return f"the store {path} can't be {lack}: see its permissions"
     if not os.access(path.parent, os.W_OK):
         return f"the log {path}-wal can't be made: {path.parent} can't be written to"
-    if holder := holder_of(path):
-        return f"the store {path} is in use by process {holder}: one program at a time has it open"
+    if is_locked(path):
+        user = next(users_of(path), None)
+        holder = f"process {user}" if user else "another program"
+        return f"the store {path} is in use by {holder}: one program at a time has it open"
     return foreign_store(path)
 
 
-def holder_of(path):
-    """A process that holds a lock on a file, or None."""
-    lock = re.compile(rf"^\d+: \S+ +\S+ +\S+ +(\d+) \S+:{path.stat().st_ino} ", re.M)
-    held = (
-        lock.search(pathlib.Path("/proc/locks").read_text(encoding="ascii"))
-        if os.path.exists("/proc/locks")
-        else None
-    )
-    return held and held[1]
+def is_locked(path):
+    """Whether a program holds a lock on a file."""
+    locks = pathlib.Path("/proc/locks")
+    lock = rf"^\d+: .*:{path.stat().st_ino} \d+ \S+$"
+    return locks.exists() and re.search(lock, locks.read_text(encoding="ascii"), re.M) is not None
+
+
+def users_of(path):
+    """The processes that have a file open, as far as this user may see them."""
+    wanted = path.stat()
+    for link in glob.iglob("/proc/[0-9]*/fd/*"):
+        with contextlib.suppress(OSError):
+            found = os.stat(link)
+            if (found.st_dev, found.st_ino) == (wanted.st_dev, wanted.st_ino):
+                yield link.split("/")[2]
 
 
 def foreign_store(path):
