@@ -1,6 +1,5 @@
 -- Each world that an ask leaves is one still, and so is the first.
 use Rattle.std.proofs.Common.{◌≡◌, Bool, refl, subst, sym}
-use Rattle.std.specs.Prelude.{⊤}
 use Rattle.api_types.specs.Outcome.{Outcome, Moved, Told, Refused as RefusedWith}
 use Rattle.api_types.specs.RowLists.{RowLists}
 use Rattle.api_types.specs.Rows.{no_rows}

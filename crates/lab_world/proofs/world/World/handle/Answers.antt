@@ -45,4 +45,4 @@ returns-in-Ok-answer_lab-clause-lets_out g c = λ event verdict is done synced.
 
 pub returns-in-Ok-answer_lab-clause-kept : goal.returns-in-Ok-answer_lab-clause-kept
 returns-in-Ok-answer_lab-clause-kept g c =
-    subst (Tells _) (sym (answer_keeps_rows _ _ _ _ _ c.in-Ok-answer_lab.ensures.ok)) c.requires.kept
+    subst (Tells _) (sym (answer_keeps_rows _ _ c.args.caller.now c.in-Lab.call _ c.in-Ok-answer_lab.ensures.ok)) c.requires.kept
