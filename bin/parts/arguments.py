@@ -1,5 +1,5 @@
-"""The program's command lines, as crates/command_lines defines them, and what is wrong with words
-that are none."""
+"""The program's command lines, as crates/command_lines defines them, and what is wrong with
+arguments that are none."""
 
 import os
 
@@ -28,7 +28,7 @@ NUMBERS = {"--connections": (1, 1000000), "START": (0, 2**64 - 1), "SIZE": (1, 1
 
 
 class Wrong(Exception):
-    """What is wrong with words."""
+    """What is wrong with arguments."""
 
 
 def usage_of(command):
@@ -59,16 +59,16 @@ def check_value(name, value):
             raise Wrong(f"{name} is a number from {least} to {most}, and not {value}")
 
 
-def options_in(command, words):
-    """The options that the words after a command give, by their names."""
-    found, rest = {}, list(words)
+def options_in(command, given):
+    """The options that the arguments after a command give, by their names."""
+    found, rest = {}, list(given)
     while rest:
         name, joined, value = rest.pop(0).partition("=")
         if name not in OPTIONS[command]:
             raise Wrong(
                 f"{command} has no option {name}"
                 if name.startswith("-")
-                else f"{name} is one word too many"
+                else f"{name} is one argument too many"
             )
         if name in found:
             raise Wrong(f"{name} is given twice")
@@ -80,11 +80,11 @@ def options_in(command, words):
     return found
 
 
-def check_drill(words):
+def check_drill(given):
     """Refuses what isn't START and SIZE, with or without `--replies`."""
-    if words.count("--replies") > 1:
+    if given.count("--replies") > 1:
         raise Wrong("--replies is given twice")
-    numbers = [word for word in words if word != "--replies"]
+    numbers = [word for word in given if word != "--replies"]
     for number in numbers:
         if number.startswith("-"):
             raise Wrong(f"drill has no option {number}")
@@ -94,24 +94,24 @@ def check_drill(words):
         check_value(name, number)
 
 
-def read(words):
-    """The options that a command line gives. Raises Wrong if the words are no command line."""
-    for word in words:
+def read(given):
+    """The options that a command line gives. Raises Wrong if the arguments are no command line."""
+    for word in given:
         try:
             os.fsencode(word).decode()
         except UnicodeDecodeError:
             raise Wrong("an argument isn't UTF-8") from None
-    if not words:
+    if not given:
         raise Wrong("a command is missing")
-    if words[0] not in OPTIONS:
+    if given[0] not in OPTIONS:
         raise Wrong(
             "--prove takes no other argument"
-            if words[0] == "--prove"
-            else f"{words[0]} is no command"
+            if given[0] == "--prove"
+            else f"{given[0]} is no command"
         )
-    if "--" in words:
+    if "--" in given:
         raise Wrong("the argument -- isn't taken")
-    if words[0] == "drill":
-        check_drill(words[1:])
+    if given[0] == "drill":
+        check_drill(given[1:])
         return {}
-    return options_in(words[0], words[1:])
+    return options_in(given[0], given[1:])
