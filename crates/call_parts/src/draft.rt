@@ -119,8 +119,8 @@ impl Draft {
         self.take(alloc, item)
     }
 
-    /// A row in place of the one with its id. Where that is equal, or there is none, all stays.
-    /// Its cost grows with the rows of the kind.
+    /// A row in place of the one with its id. Where that is equal, or there is none, nothing
+    /// changes. Its cost grows with the rows of the kind.
     pub fn put<R: RowKind>(self, alloc: Global, row: R) -> Result<Draft, OutOfMemory>
         ensures start { IfOk result (λ d. d.start ≡ self.start) }
         ensures rows { IfOk result (λ d. d.rows ≡ edited self.rows (Put (R.into_of row))) }

@@ -50,7 +50,7 @@ pub enum LabCall {
     Page { version: u64, number: u64 },
 }
 
-/// What a host makes of a change that it gets.
+/// How a host reacts to a change.
 #[derive(Clone, Copy, PartialEq, Eq)]
 pub enum Heard {
     /// It follows what the host has, which is now the change with this number.

@@ -10,7 +10,7 @@ use net_addr::{Addr, Mac, Seq, Text};
 pub enum DropCause {
     /// The sender isn't there, isn't live, or may send nothing.
     Dead,
-    /// No frame that is carried.
+    /// A kind of frame that is not carried.
     Unsupported,
     /// The sender has no such source.
     Spoof,
