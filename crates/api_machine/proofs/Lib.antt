@@ -89,6 +89,5 @@ mod SubnetForms
 mod SubnetUpdated
 mod SubnetsApart
 mod TypedKept
-mod TypedRows
 pub mod WholeStepApart
 mod WiderLaw

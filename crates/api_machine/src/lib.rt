@@ -22,7 +22,6 @@ mod ports;
 mod reads;
 mod routers;
 mod subnets;
-mod typed;
 
 pub use laws::{calls_keep, tenants_stay_apart};
 pub use machine::{Machine, Ready};

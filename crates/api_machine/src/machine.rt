@@ -19,9 +19,9 @@ ghost use Rattle.api_machine.specs.Plan.{Plans};
 
 use crate::calls::plan_call;
 use crate::planned::Planned;
-use crate::typed::are_typed;
 use api_check::{Inconsistent, first_broken};
 use api_types::{Call, Caller, Change, Refusal, Rows};
+use call_parts::are_typed;
 use net_addr::{Copies, OutOfMemory};
 use net_settings::Settings;
 use std::alloc::Global;

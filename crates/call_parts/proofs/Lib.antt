@@ -6,3 +6,4 @@ pub mod DrawLemmas
 pub mod DrawnLemmas
 pub mod OwnerLemmas
 pub mod RefusalLemmas
+pub mod TypedRows

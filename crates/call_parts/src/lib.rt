@@ -12,6 +12,7 @@ mod fixed;
 mod given;
 mod leaving;
 mod refusals;
+mod typed;
 
 pub use draft::Draft;
 pub use drawing::{Drawn, draw};
@@ -19,3 +20,4 @@ pub use fixed::one_fixed;
 pub use given::{are_unlike, is_for_other, is_given, owner, text_or, value_of, value_or};
 pub use leaving::disassociate;
 pub use refusals::{invalid, none_with_id, not_found};
+pub use typed::are_typed;

@@ -1,5 +1,6 @@
 //! The outside in memory: sources, sinks, keepers and desks, and the adapters of std's ends.
 ghost use Rattle.std.specs.Prelude.{◌<◌, IfOk};
+ghost use Rattle.keeper_core.specs.Desk.{IsNoneOut};
 ghost use Rattle.api_types.specs.Rows.{Fits, no_rows};
 
 use crate::listed::numbers;
@@ -111,16 +112,30 @@ fn keepers_apply_changes(rt: HostRuntime) -> Result<(), Fail> {
     Ok(())
 }
 
-/// Makes each call of a desk once.
-fn visit<D: Desk>(alloc: Global, desk: &mut D, name: &Text) -> Result<Bytes, DeskRefusal> {
+/// Makes each call of a desk once, but those for connections.
+fn visit<D: Desk>(alloc: Global, desk: &mut D, name: &Text) -> Result<Bytes, DeskRefusal>
+    requires { IsNoneOut (D.told desk.old) }
+    ensures { IsNoneOut (D.told desk.new) }
+{
     let bytes = desk.settings(alloc, name)?;
     let store = desk.store(alloc, Some(name))?;
     desk.close(store);
     desk.listen(alloc, name)?;
-    if let Some((input, output)) = desk.next(alloc)? {
-        desk.done(input, output);
-    }
     Ok(bytes)
+}
+
+/// Takes the next connection, and hands it back.
+fn greet<D: Desk>(alloc: Global, desk: &mut D) -> bool
+    requires { IsNoneOut (D.told desk.old) }
+{
+    match desk.next(alloc) {
+        Ok(Some((input, output))) => {
+            desk.done(input, output);
+            true
+        }
+        Ok(None) => true,
+        Err(_) => false,
+    }
 }
 
 fn files(alloc: Global) -> Result<NamedBytes, OutOfMemory> {
@@ -143,6 +158,7 @@ fn sure_desks_hand_out(rt: HostRuntime) -> Result<(), Fail> {
     let mut desk = SureDesk::make(alloc, files(alloc)?, Seq::new(alloc), ends)?;
     let got = visit(alloc, &mut desk, &Text::of(alloc, "a")?);
     assert!(rt; matches!(&got, Ok(bytes) if bytes.as_slice() == "x".as_bytes()));
+    assert!(rt; greet(alloc, &mut desk));
     assert!(rt; matches!(desk.ended(), Some(ended) if ended.len() == 1));
     assert!(rt; desk.asks().len() == 4 && desk.stores().len() == 1);
     Ok(())
@@ -171,6 +187,7 @@ fn memory_desks_fail_in_listed_calls(rt: HostRuntime) -> Result<(), Fail> {
     assert!(rt; visit(alloc, &mut desk, &name).is_err());
     assert!(rt; desk.asks().len() == 2 && desk.stores().is_empty());
     assert!(rt; visit(alloc, &mut desk, &name).is_ok());
+    assert!(rt; greet(alloc, &mut desk));
     assert!(rt; desk.asks().len() == 6 && desk.stores().len() == 1);
     Ok(())
 }

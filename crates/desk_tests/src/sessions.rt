@@ -5,7 +5,7 @@ ghost use Rattle.http_session.specs.Requests.{IsRequest, BeginsWith};
 
 use crate::listed::numbers;
 use api_types::Rows;
-use http_session::{Answer, Handler, Request, SessionEnd, session};
+use http_session::{Answer, BadBytes, Handler, Request, SessionEnd, session};
 use keeper_core::{
     Keeper, KeeperRefusal, MemoryKeeper, MemorySink, MemorySource, SureKeeper, SureSink, SureSource,
 };
@@ -79,6 +79,7 @@ impl Handler for Echo {
 
     ghost use Rattle.std.specs.Prelude.{codes, ◌≡◌, ◌<◌, ◌+◌, ◌%◌, ◌++◌, [], ◌∷◌, true};
     ghost use Rattle.api_types.specs.Rows.{no_rows};
+    ghost use Rattle.http_session.specs.BadBytes.{bad_number};
 
     ghost steps = { λ old asked reply new. (old < 10)
         × (reply ≡ (48 + old) ∷ (asked.body ++ 59 ∷ [])) × (new ≡ (old + 1) % 10) };
@@ -86,7 +87,7 @@ impl Handler for Echo {
     ghost fixed = { record {
       store_failed = λ close. codes "store failed;";
       no_memory = λ close. codes "no memory;";
-      refusal = λ n. codes "refused " ++ (48 + n) ∷ 59 ∷ [];
+      refusal = λ bad. codes "refused " ++ (48 + bad_number bad) ∷ 59 ∷ [];
       changes = λ old asked. true;
       may_want = true;
     } };
@@ -122,11 +123,13 @@ impl Handler for Echo {
         b"no memory;"
     }
 
-    fn refusal(alloc: Global, number: u8) -> Result<Bytes, OutOfMemory> {
-        let mut reply = Vec::from_slice(alloc, b"refused ")?;
-        reply.push(b'0' + number)?;
-        reply.push(b';')?;
-        Ok(Bytes::from_vec(reply))
+    fn refusal(alloc: Global, bad: BadBytes) -> Result<Bytes, OutOfMemory> {
+        match bad {
+            BadBytes::Malformed => text(alloc, b"refused 1;"),
+            BadBytes::HeadLarge => text(alloc, b"refused 2;"),
+            BadBytes::BodyLarge => text(alloc, b"refused 3;"),
+            BadBytes::NoLength => text(alloc, b"refused 4;"),
+        }
     }
 }
 

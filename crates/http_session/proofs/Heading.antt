@@ -71,9 +71,9 @@ refused_of b n (Refuses m) d same = subst (λ k. Decides b (Refuses k)) (sym sam
 is_refusal : (n : ℕ) → Refused n ≡ More → ⊥
 is_refusal n e = cc
 
-pub refused_so : (b : List ℕ) (n : ℕ) → IsHeadRead b false (Refused n) → (1 ≤ n) × (n ≤ 4) → Decides b (Refuses n) × (1 ≤ n) × (n ≤ 4)
-refused_so b n (inl told) numbered = (refused_of b n told.0 told.1 told.2, numbered.0, numbered.1)
-refused_so b n (inr none) numbered = absurd (is_refusal n none.1)
+pub refused_so : (b : List ℕ) (n : ℕ) → IsHeadRead b false (Refused n) → Decides b (Refuses n)
+refused_so b n (inl told) = refused_of b n told.0 told.1 told.2
+refused_so b n (inr none) = absurd (is_refusal n none.1)
 
 open_of : (b : List ℕ) (j : Judgement) → IsReadAs b j More → ⊥
 open_of b (Passes head) told = told

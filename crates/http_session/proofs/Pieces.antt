@@ -1,11 +1,16 @@
 -- Pieces of lists.
-use Rattle.std.proofs.Common.{[], ◌∷◌, append-nil, ◌≡◌, ℕ, ◌+◌, ◌-◌, ◌≤◌, ◌<◌, List, ◌++◌, length, take, drop, Option, sym, ap, subst, ◌∙◌, arith, length-drop}
-use Rattle.std.specs.Io.KnownBytes.{Appends, Consumes, Keeps, IsAtEnd, ReadConsumes}
+use Rattle.std.proofs.Common.{[], ◌∷◌, append-nil, ◌≡◌, ℕ, ◌+◌, ◌-◌, ◌≤◌, ◌<◌, List, ◌++◌, length, take, drop, Option, refl, sym, ap, subst, ◌∙◌, arith, length-drop}
+use Rattle.std.specs.Io.KnownBytes.{Appends, Consumes, Keeps, ReadConsumes}
 use Rattle.std.specs.Io.{ReadsAtMost}
-use Rattle.std.specs.Prelude.{Result, Ok, Err, IfOk, OnErr}
+use Rattle.std.specs.Prelude.{◌==◌, Bool, Result, Ok, Err, IfOk, OnErr, false, if◌then◌else◌, true}
 use Rattle.std.proofs.KnownBytes.{Appends-trans}
 use Rattle.std.proofs.lemmas.List.{take-append-le, drop-take, drop-drop, length-take, length-take-le}
 use Rattle.std.proofs.Math.Seq.{take-add, take-append_seam, take-append-add}
+use Rattle.keeper_core.specs.Ends.{SourceTold, has_failed, is_failed, last_read}
+use Rattle.keeper_core.specs.declared.last_read.LastRead.{LastRead}
+use Rattle.keeper_core.specs.declared.last_read.LastRead.TheVariants.{AtEnd, Bytes as Gave}
+use Rattle.keeper_core.specs.declared.refusal.Failed.{Failed}
+use Rattle.http_session.specs.Serves.{HasEnded}
 use lib.Seq.{paste}
 
 -- the first n elements of a list whose front has n
@@ -36,19 +41,37 @@ read_on old buf post len n fits below =
     subst (λ k. take (k + n) (take len old ++ (buf ++ post)) ≡ take len old ++ take n (buf ++ post)) (length-take-le len old fits) (take-append-add (take len old) (buf ++ post) n)
     ∙ ap (λ l. take len old ++ l) (take-append-le n buf post below)
 
-pub read_ok : {E : Type 0} (r : Result ℕ E) (a b : Option (List ℕ)) (old buf post : List ℕ) (len at_most : ℕ)
-    → len + length buf ≤ length old → length buf ≤ at_most → 0 < length buf
-    → ReadsAtMost r buf → ReadConsumes a b r buf
-    → IfOk r (λ n. (piece : List ℕ) × (take (len + n) (take len old ++ (buf ++ post)) ≡ take len old ++ piece)
-    × (length piece ≡ n) × (len + n ≤ length old) × (n ≤ at_most) × Consumes a b piece × (n ≡ 0 → IsAtEnd b))
-read_ok (Ok n) a b old buf post len at_most fits few some bound bytes =
-    (take n buf, read_on old buf post len n (omega (arith, fits)) bound.0, length-take-le n buf bound.0, omega (arith, fits, bound.0), omega (arith, few, bound.0), bytes.0, λ zero. bytes.1 zero some)
-read_ok (Err e) a b old buf post len at_most fits few some bound bytes = tt
+-- a read of no byte said that the input has ended
+ended_at : (n : ℕ) (l : LastRead) → l ≡ last_read {E = Failed} (Ok n) → n ≡ 0 → l ≡ AtEnd
+ended_at n l is zero = is ∙ ap (λ k. last_read {E = Failed} (Ok k)) zero
 
-pub read_err : {E : Type 0} (r : Result ℕ E) (a b : Option (List ℕ)) (old buf rest : List ℕ) (len : ℕ)
-    → len ≤ length old → ReadConsumes a b r buf → OnErr r ((take len (take len old ++ rest) ≡ take len old) × Keeps a b)
-read_err (Ok n) a b old buf rest len fits bytes = tt
-read_err (Err e) a b old buf rest len fits bytes = (take_front len (take len old) rest (length-take-le len old fits), bytes)
+-- and none that worked failed
+gave : (b : Bool) → is_failed (if b then AtEnd else Gave) ≡ false
+gave true = refl
+gave false = refl
+
+pub read_ok : (r : Result ℕ Failed) (i j : SourceTold) (old buf post : List ℕ) (len at_most : ℕ)
+    → len + length buf ≤ length old → length buf ≤ at_most → 0 < length buf
+    → ReadsAtMost r buf → ReadConsumes i.left j.left r buf → j.last ≡ last_read r
+    → IfOk r (λ n. (piece : List ℕ) × (take (len + n) (take len old ++ (buf ++ post)) ≡ take len old ++ piece)
+    × (length piece ≡ n) × (len + n ≤ length old) × (n ≤ at_most) × Consumes i.left j.left piece × (n ≡ 0 → HasEnded j) × (has_failed j ≡ false))
+read_ok (Ok n) i j old buf post len at_most fits few some bound bytes last = (
+  take n buf,
+  read_on old buf post len n (omega (arith, fits)) bound.0,
+  length-take-le n buf bound.0,
+  omega (arith, fits, bound.0),
+  omega (arith, few, bound.0),
+  bytes.0,
+  λ zero. (ended_at n j.last last zero, bytes.1 zero some),
+  ap is_failed last ∙ gave (n == 0),
+)
+read_ok (Err e) i j old buf post len at_most fits few some bound bytes last = tt
+
+pub read_err : (r : Result ℕ Failed) (i j : SourceTold) (old buf rest : List ℕ) (len : ℕ)
+    → len ≤ length old → ReadConsumes i.left j.left r buf → j.last ≡ last_read r
+    → OnErr r ((take len (take len old ++ rest) ≡ take len old) × Keeps i.left j.left × (has_failed j ≡ true))
+read_err (Ok n) i j old buf rest len fits bytes last = tt
+read_err (Err e) i j old buf rest len fits bytes last = (take_front len (take len old) rest (length-take-le len old fits), bytes, ap is_failed last)
 
 -- a piece without bytes adds nothing
 pub grew_none : (old new piece : List ℕ) (n : ℕ) → new ≡ old ++ piece → length piece ≡ n → n ≡ 0 → new ≡ old

@@ -15,7 +15,7 @@ MovesBy step fixed old asked NoMemory new = (fixed.may_want ≡ true) × (new �
 MovesBy step fixed old asked Unwritten new =
     (reply : Bytes) × Moves step fixed old asked (Answered reply) new
 
--- how many faults of the store it tells
+-- how many faults of the store it says
 abbrev pub answer_faults : Answer → ℕ
 answer_faults (Reply bytes) = 0
 answer_faults (StoreFault bytes) = 1

@@ -1,5 +1,6 @@
 pub mod Accounts
 pub mod Answers
+pub mod BadBytes
 pub mod Reading
 pub mod Requests
 pub mod Serves

@@ -1,13 +1,15 @@
 -- Reading on until a request has come.
-use Rattle.std.specs.Prelude.{◌≡◌, ℕ, ◌+◌, ◌<◌, ◌≤◌, Option, [], ◌++◌, length, drop}
-use Rattle.std.specs.Io.KnownBytes.{Consumes, IsAtEnd}
+use Rattle.std.specs.Prelude.{◌≡◌, ℕ, ◌+◌, ◌<◌, ◌≤◌, Bool, true, false, Option, [], ◌++◌, length, drop}
+use Rattle.std.specs.Io.KnownBytes.{Consumes}
 use Rattle.net_addr.specs.Words.{Bytes}
 use Rattle.httparse.specs.Grammar.{RequestHead, print_request}
 use Rattle.http_heads.specs.Fields.{body_length, closes}
 use Rattle.http_heads.specs.Heads.{Asked, Takes, Passes, Refuses, Decides, IsUndecided, IsWaiting}
 use Rattle.http_heads.specs.Parts.{ArePartsOf}
 use Rattle.http_session.specs.Requests.{IsRequest}
-use Rattle.http_session.specs.Serves.{IsRefused}
+use Rattle.keeper_core.specs.Ends.{SourceTold}
+use Rattle.http_session.specs.BadBytes.{bad_number}
+use Rattle.http_session.specs.Serves.{HasEnded, IsRefused}
 use Rattle.http_session.specs.declared.request.Request.{Request}
 use Rattle.http_session.specs.declared.reading.Awaited.{Awaited}
 use Rattle.http_session.specs.declared.reading.Awaited.TheVariants.{Found, Stopped}
@@ -37,20 +39,29 @@ pub record HasHead (bytes : Bytes) (request : Request) (head : RequestHead) : Ty
 abbrev pub IsLooked : Bytes → Looked → Type 0
 IsLooked bytes Open = IsUndecided bytes
 IsLooked bytes (Whole request) = (head : RequestHead) × HasHead bytes request head
-IsLooked bytes (Wrong n) = Decides bytes (Refuses n) × (1 ≤ n) × (n ≤ 4)
+IsLooked bytes (Wrong bad) = Decides bytes (Refuses (bad_number bad))
 
 -- why no request came
-abbrev pub IsStop : ℕ → Bytes → Option Bytes → ℕ → Stop → Type 0
-IsStop limit buffer left taken (Bad n) = IsRefused limit buffer left taken n × (1 ≤ n) × (n ≤ 4)
-IsStop limit buffer left taken AtEnd = (buffer ≡ []) × IsAtEnd left × (taken < limit)
-IsStop limit buffer left taken NoRead = IsWaiting buffer × (taken < limit)
-IsStop limit buffer left taken Spent = IsWaiting buffer × (taken ≡ limit)
+abbrev pub IsStop : ℕ → Bytes → SourceTold → ℕ → Stop → Type 0
+IsStop limit buffer input taken (Bad bad) = IsRefused limit buffer input taken bad
+IsStop limit buffer input taken AtEnd = (buffer ≡ []) × HasEnded input × (taken < limit)
+IsStop limit buffer input taken NoRead = IsWaiting buffer × (taken < limit)
+IsStop limit buffer input taken Spent = IsWaiting buffer × (taken ≡ limit)
+
+-- whether a read failed
+abbrev pub is_no_read : Stop → Bool
+is_no_read NoRead = true
+is_no_read other = false
+
+abbrev pub failed_read : Awaited → Bool
+failed_read (Found request) = false
+failed_read (Stopped stop) = is_no_read stop
 
 -- a head was waited for
-abbrev pub IsHeadAwaited : ℕ → Bytes → Option Bytes → ℕ → Awaited → Type 0
-IsHeadAwaited limit buffer left taken (Found request) =
+abbrev pub IsHeadAwaited : ℕ → Bytes → SourceTold → ℕ → Awaited → Type 0
+IsHeadAwaited limit buffer input taken (Found request) =
     (head : RequestHead) × HasHead buffer request head
-IsHeadAwaited limit buffer left taken (Stopped stop) = IsStop limit buffer left taken stop
+IsHeadAwaited limit buffer input taken (Stopped stop) = IsStop limit buffer input taken stop
 
 -- the buffer begins with this request
 abbrev pub IsFound : Bytes → Request → Type 0
@@ -59,6 +70,6 @@ IsFound buffer request = (request.body.end ≤ length buffer) × (0 < request.bo
     × IsRequest buffer request asked)
 
 -- a request was waited for
-abbrev pub IsAwaited : ℕ → Bytes → Option Bytes → ℕ → Awaited → Type 0
-IsAwaited limit buffer left taken (Found request) = IsFound buffer request
-IsAwaited limit buffer left taken (Stopped stop) = IsStop limit buffer left taken stop
+abbrev pub IsAwaited : ℕ → Bytes → SourceTold → ℕ → Awaited → Type 0
+IsAwaited limit buffer input taken (Found request) = IsFound buffer request
+IsAwaited limit buffer input taken (Stopped stop) = IsStop limit buffer input taken stop

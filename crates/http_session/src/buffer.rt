@@ -1,7 +1,9 @@
 //! Bytes that are read and not answered yet.
-ghost use Rattle.std.specs.Prelude.{◌≡◌, ℕ, ◌+◌, ◌-◌, ◌<◌, ◌≤◌, List, [], ◌++◌, length, take, drop, IfOk, OnErr};
-ghost use Rattle.std.specs.Io.KnownBytes.{Consumes, Keeps, IsAtEnd};
+ghost use Rattle.std.specs.Prelude.{◌≡◌, ℕ, ◌+◌, ◌-◌, ◌<◌, ◌≤◌, List, [], ◌++◌, false, true, length, take, drop, IfOk, OnErr};
+ghost use Rattle.std.specs.Io.KnownBytes.{Consumes, Keeps};
 ghost use Rattle.keeper_core.specs.Counts.{HasCause};
+ghost use Rattle.keeper_core.specs.Ends.{has_failed};
+ghost use Rattle.http_session.specs.Serves.{HasEnded};
 
 use keeper_core::{Failed, Source};
 use net_addr::OutOfMemory;
@@ -55,11 +57,13 @@ fn read_behind<I: Source>(
     ensures ok { IfOk result (λ n.
         (piece : List ℕ) × (take (len + n) bytes.new ≡ take len bytes.old ++ piece)
         × (length piece ≡ n) × (len + n ≤ length bytes.old) × (n ≤ at_most)
-        × Consumes (I.left input.old) (I.left input.new) piece
-        × (n ≡ 0 → IsAtEnd (I.left input.new))) }
+        × Consumes (I.told input.old).left (I.told input.new).left piece
+        × (n ≡ 0 → HasEnded (I.told input.new)) × (has_failed (I.told input.new) ≡ false)) }
     ensures err { OnErr result
-        ((take len bytes.new ≡ take len bytes.old) × Keeps (I.left input.old) (I.left input.new)) }
-    ensures cause { HasCause (I.faults input.old) (I.faults input.new) result }
+        ((take len bytes.new ≡ take len bytes.old)
+        × Keeps (I.told input.old).left (I.told input.new).left
+        × (has_failed (I.told input.new) ≡ true)) }
+    ensures cause { HasCause (I.told input.old).faults (I.told input.new).faults result }
 {
     let end = end_of(len, bytes.len(), at_most);
     input.read(&mut bytes[len..end])
@@ -105,11 +109,12 @@ impl Buffer {
         requires some { 0 < at_most }
         ensures ok { IfOk result (λ n. (piece : List ℕ) × (self.new ≡ self.old ++ piece)
             × (length piece ≡ n) × (n ≤ at_most)
-            × Consumes (I.left input.old) (I.left input.new) piece
-            × (n ≡ 0 → IsAtEnd (I.left input.new))) }
+            × Consumes (I.told input.old).left (I.told input.new).left piece
+            × (n ≡ 0 → HasEnded (I.told input.new)) × (has_failed (I.told input.new) ≡ false)) }
         ensures err { OnErr result
-            ((self.new ≡ self.old) × Keeps (I.left input.old) (I.left input.new)) }
-        ensures cause { HasCause (I.faults input.old) (I.faults input.new) result }
+            ((self.new ≡ self.old) × Keeps (I.told input.old).left (I.told input.new).left
+            × (has_failed (I.told input.new) ≡ true)) }
+        ensures cause { HasCause (I.told input.old).faults (I.told input.new).faults result }
     {
         close_up(self.bytes.as_mut_slice(), self.start, self.len);
         self.start = 0;

@@ -1,13 +1,15 @@
 //! What answers requests: the trait that a session is generic over.
 
-ghost use Rattle.std.specs.Prelude.{◌≡◌, ℕ, ◌≤◌, List, IfOk, is_some};
+ghost use Rattle.std.specs.Prelude.{◌≡◌, ℕ, List, IfOk};
 ghost use Rattle.api_types.specs.RowLists.{RowLists};
 ghost use Rattle.http_heads.specs.Heads.{Asked, Takes};
 ghost use Rattle.keeper_core.specs.Counts.{RoseBy, Tells};
+ghost use Rattle.keeper_core.specs.Kept.{IsStored};
 ghost use Rattle.http_session.specs.Told.{Fixed};
 ghost use Rattle.http_session.specs.Requests.{IsRequest, BeginsWith};
 ghost use Rattle.http_session.specs.Answers.{MovesBy, answer_faults};
 
+use crate::bad_bytes::BadBytes;
 use crate::request::Request;
 use keeper_core::Keeper;
 use net_addr::{Bytes, OutOfMemory};
@@ -23,7 +25,7 @@ pub enum Answer {
     StoreFault(Bytes),
     /// Memory could not be had, and nothing changed.
     NoMemory,
-    /// The step is made, and memory for its reply could not be had.
+    /// The step is made, and memory for its reply ran out.
     Unwritten,
 }
 
@@ -54,22 +56,20 @@ pub trait Handler: Drop {
         bytes: &[u8],
         request: Request,
     ) -> Answer
-        requires kept { Tells (K.kept keeper.old) (rows world.old) }
+        requires kept { Tells (K.told keeper.old).rows (rows world.old) }
         requires begins { BeginsWith bytes.now request }
         ensures moves { (asked : Asked) (rest : List ℕ) → Takes bytes.now asked rest
             → IsRequest bytes.now request asked
             → MovesBy steps fixed world.old asked result world.new }
-        ensures faults { RoseBy (answer_faults result) (K.faults keeper.old) (K.faults keeper.new) }
-        ensures kept { Tells (K.kept keeper.new) (rows world.new) }
-        ensures told { is_some (K.kept keeper.new) ≡ is_some (K.kept keeper.old) };
+        ensures faults { RoseBy (answer_faults result) (K.told keeper.old).faults
+            (K.told keeper.new).faults }
+        ensures kept { IsStored (rows world.new) (K.told keeper.old) (K.told keeper.new) };
 
     /// The whole reply of a request for which memory could not be had. It takes none itself.
     fn no_memory(close: bool) -> &'static [u8]
         ensures { result.now ≡ fixed.no_memory close };
 
-    /// The whole reply of bytes that are refused: 1 malformed, 2 too large a head, 3 too large a
-    /// body, 4 no length of the body or a transfer coding. It says that the connection ends.
-    fn refusal(alloc: Global, number: u8) -> Result<Bytes, OutOfMemory>
-        requires { (1 ≤ number) × (number ≤ 4) }
-        ensures { IfOk result (λ reply. reply ≡ fixed.refusal number) };
+    /// The whole reply of bytes that are refused. It says that the connection ends.
+    fn refusal(alloc: Global, bad: BadBytes) -> Result<Bytes, OutOfMemory>
+        ensures { IfOk result (λ reply. reply ≡ fixed.refusal bad) };
 }

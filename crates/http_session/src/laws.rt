@@ -3,7 +3,7 @@ ghost use Rattle.std.specs.Prelude.{◌≡◌, ℕ, List};
 ghost use Rattle.http_heads.specs.Heads.{IsWaiting};
 ghost use Rattle.http_session.specs.Accounts.{AllAnswered, IsFunctional};
 ghost use Rattle.http_session.specs.Serves.{Answers};
-ghost use Rattle.http_session.specs.Told.{Told};
+ghost use Rattle.http_session.specs.Told.{Stage, Told};
 
 use crate::handler::Handler;
 
@@ -12,9 +12,9 @@ use crate::handler::Handler;
 /// left are the same.
 pub fn session_laws<H: Handler>()
     ensures { IsFunctional H.steps
-        → (w x y : _) (bytes left rest : List ℕ) (ts us : List Told) → AllAnswered ts
-        → AllAnswered us
-        → Answers H.steps H.fixed w bytes ts x left → IsWaiting left
+        → (v w x y : Stage _) (bytes left rest : List ℕ) (ts us : List Told)
+        → v.world ≡ w.world → AllAnswered ts → AllAnswered us
+        → Answers H.steps H.fixed v bytes ts x left → IsWaiting left
         → Answers H.steps H.fixed w bytes us y rest → IsWaiting rest
-        → (ts ≡ us) × (x ≡ y) × (left ≡ rest) }
+        → (ts ≡ us) × (x.world ≡ y.world) × (left ≡ rest) }
 {}

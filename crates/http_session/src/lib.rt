@@ -9,6 +9,7 @@
 //! in whatever pieces they come and however many empty lines stand before it (`session`).
 #![tactic(auto)]
 
+mod bad_bytes;
 mod buffer;
 mod handler;
 mod laws;
@@ -19,6 +20,7 @@ mod session_end;
 mod sessions;
 mod turn;
 
+pub use bad_bytes::BadBytes;
 pub use buffer::REQUEST_LIMIT;
 pub use handler::{Answer, Handler};
 pub use laws::session_laws;

@@ -1,12 +1,13 @@
 //! Waiting for a request.
-ghost use Rattle.std.specs.Prelude.{◌≡◌, ℕ, ◌+◌, ◌<◌, ◌≤◌, List, ◌++◌, length, take, OnOk, OnErr, IfErr};
-ghost use Rattle.std.specs.Io.KnownBytes.{Consumes};
+ghost use Rattle.std.specs.Prelude.{◌≡◌, ◌<◌, ◌≤◌, false, take, OnOk, IfErr};
 ghost use Rattle.httparse.specs.Grammar.{RequestHead};
 ghost use Rattle.http_heads.specs.Heads.{IsUndecided, IsWaiting};
 ghost use Rattle.http_heads.specs.Lines.{AreEmptyLines};
 ghost use Rattle.keeper_core.specs.Counts.{RoseBy};
-ghost use Rattle.http_session.specs.Reading.{Reads, HasHead, IsLooked, IsStop, IsHeadAwaited, IsAwaited};
+ghost use Rattle.keeper_core.specs.Ends.{has_failed};
+ghost use Rattle.http_session.specs.Reading.{Reads, HasHead, IsLooked, IsStop, IsHeadAwaited, IsAwaited, failed_read, is_no_read};
 
+use crate::bad_bytes::BadBytes;
 use crate::buffer::Buffer;
 use crate::request::Request;
 use http_heads::{HeadRead, Part, resume_head, skip_empty_lines};
@@ -15,8 +16,8 @@ use keeper_core::Source;
 // Why no request came.
 #[derive(Clone, Copy)]
 pub(crate) enum Stop {
-    // The bytes are refused, with a number from 1 to 4.
-    Bad(u8),
+    // The bytes are refused.
+    Bad(BadBytes),
     // The input ended, and no byte is left.
     AtEnd,
     // A read failed.
@@ -39,8 +40,8 @@ enum Looked {
     Open,
     // A head, and where the request's body is to stand.
     Whole(Request),
-    // A refusal, from 1 to 4.
-    Wrong(u8),
+    // A refusal.
+    Wrong(BadBytes),
 }
 
 // Looks at bytes of which the first `seen` decide nothing, and the first `empty` are empty lines.
@@ -65,7 +66,7 @@ fn look(bytes: &[u8], empty: usize, seen: usize) -> Looked
             },
             close,
         }),
-        HeadRead::Refused(number) => Looked::Wrong(number),
+        HeadRead::Refused(number) => Looked::Wrong(BadBytes::numbered(number)),
     }
 }
 
@@ -78,14 +79,19 @@ fn read_more<I: Source>(
 ) -> Result<(), Stop>
     requires waits { IsWaiting buffer.old }
     requires within { taken.old ≤ limit }
-    ensures reads { Reads buffer.old buffer.new (I.left input.old) (I.left input.new) taken.old
-        taken.new }
+    ensures reads { Reads buffer.old buffer.new (I.told input.old).left (I.told input.new).left
+        taken.old taken.new }
     ensures within { taken.new ≤ limit }
     ensures some { OnOk result (taken.old < taken.new) }
-    ensures stop { IfErr result (IsStop limit buffer.new (I.left input.new) taken.new) }
-    ensures later { I.faults input.old ≤ I.faults input.new }
+    ensures stop { IfErr result (IsStop limit buffer.new (I.told input.new) taken.new) }
+    ensures later { (I.told input.old).faults ≤ (I.told input.new).faults }
     ensures fault { IfErr result
-        (λ stop. stop ≡ Stop.NoRead → RoseBy 1 (I.faults input.old) (I.faults input.new)) }
+        (λ stop. stop ≡ Stop.NoRead
+        → RoseBy 1 (I.told input.old).faults (I.told input.new).faults) }
+    ensures went { OnOk result (has_failed (I.told input.new) ≡ false) }
+    ensures last { IfErr result
+        (λ stop. has_failed (I.told input.old) ≡ false
+        → has_failed (I.told input.new) ≡ is_no_read stop) }
 {
     if *taken == limit {
         return Err(Stop::Spent);
@@ -98,7 +104,7 @@ fn read_more<I: Source>(
         if buffer.as_slice().len() == 0 {
             return Err(Stop::AtEnd);
         }
-        return Err(Stop::Bad(1));
+        return Err(Stop::Bad(BadBytes::Malformed));
     }
     Ok(())
 }
@@ -106,13 +112,15 @@ fn read_more<I: Source>(
 // Reads until the buffer begins with a head.
 fn await_head<I: Source>(input: &mut I, buffer: &mut Buffer, taken: &mut u64, limit: u64) -> Awaited
     requires { taken.old ≤ limit }
-    ensures reads { Reads buffer.old buffer.new (I.left input.old) (I.left input.new) taken.old
-        taken.new }
+    ensures reads { Reads buffer.old buffer.new (I.told input.old).left (I.told input.new).left
+        taken.old taken.new }
     ensures within { taken.new ≤ limit }
-    ensures is { IsHeadAwaited limit buffer.new (I.left input.new) taken.new result }
-    ensures later { I.faults input.old ≤ I.faults input.new }
+    ensures is { IsHeadAwaited limit buffer.new (I.told input.new) taken.new result }
+    ensures later { (I.told input.old).faults ≤ (I.told input.new).faults }
     ensures fault { result ≡ Awaited.Stopped Stop.NoRead
-        → RoseBy 1 (I.faults input.old) (I.faults input.new) }
+        → RoseBy 1 (I.told input.old).faults (I.told input.new).faults }
+    ensures last { has_failed (I.told input.old) ≡ false
+        → has_failed (I.told input.new) ≡ failed_read result }
 {
     let mut empty = 0;
     let mut seen = 0;
@@ -121,7 +129,7 @@ fn await_head<I: Source>(input: &mut I, buffer: &mut Buffer, taken: &mut u64, li
         empty = skip_empty_lines(bytes, empty);
         match look(bytes, empty, seen.max(empty)) {
             Looked::Whole(request) => return Awaited::Found(request),
-            Looked::Wrong(number) => return Awaited::Stopped(Stop::Bad(number)),
+            Looked::Wrong(bad) => return Awaited::Stopped(Stop::Bad(bad)),
             Looked::Open => {}
         }
         seen = bytes.len();
@@ -141,13 +149,15 @@ fn await_body<I: Source>(
 ) -> Awaited
     requires within { taken.old ≤ limit }
     requires head { (head : RequestHead) × HasHead buffer.old request head }
-    ensures reads { Reads buffer.old buffer.new (I.left input.old) (I.left input.new) taken.old
-        taken.new }
+    ensures reads { Reads buffer.old buffer.new (I.told input.old).left (I.told input.new).left
+        taken.old taken.new }
     ensures within { taken.new ≤ limit }
-    ensures is { IsAwaited limit buffer.new (I.left input.new) taken.new result }
-    ensures later { I.faults input.old ≤ I.faults input.new }
+    ensures is { IsAwaited limit buffer.new (I.told input.new) taken.new result }
+    ensures later { (I.told input.old).faults ≤ (I.told input.new).faults }
     ensures fault { result ≡ Awaited.Stopped Stop.NoRead
-        → RoseBy 1 (I.faults input.old) (I.faults input.new) }
+        → RoseBy 1 (I.told input.old).faults (I.told input.new).faults }
+    ensures last { has_failed (I.told input.old) ≡ false
+        → has_failed (I.told input.new) ≡ failed_read result }
 {
     'bodies: while buffer.as_slice().len() < request.body.end {
         if let Err(stop) = read_more(input, buffer, taken, limit) {
@@ -168,13 +178,15 @@ pub(crate) fn await_request<I: Source>(
     limit: u64,
 ) -> Awaited
     requires { taken.old ≤ limit }
-    ensures reads { Reads buffer.old buffer.new (I.left input.old) (I.left input.new) taken.old
-        taken.new }
+    ensures reads { Reads buffer.old buffer.new (I.told input.old).left (I.told input.new).left
+        taken.old taken.new }
     ensures within { taken.new ≤ limit }
-    ensures is { IsAwaited limit buffer.new (I.left input.new) taken.new result }
-    ensures later { I.faults input.old ≤ I.faults input.new }
+    ensures is { IsAwaited limit buffer.new (I.told input.new) taken.new result }
+    ensures later { (I.told input.old).faults ≤ (I.told input.new).faults }
     ensures fault { result ≡ Awaited.Stopped Stop.NoRead
-        → RoseBy 1 (I.faults input.old) (I.faults input.new) }
+        → RoseBy 1 (I.told input.old).faults (I.told input.new).faults }
+    ensures last { has_failed (I.told input.old) ≡ false
+        → has_failed (I.told input.new) ≡ failed_read result }
 {
     match await_head(input, buffer, taken, limit) {
         Awaited::Found(request) => await_body(input, buffer, taken, limit, request),

@@ -8,14 +8,16 @@ use keeper_core::{Sink, SinkRefusal};
 /// Writes all of these bytes, in as many pieces as the output takes them, and flushes it. Where a
 /// call fails, a front of them is written and nothing more is flushed.
 pub fn send<O: Sink>(output: &mut O, reply: &[u8]) -> Result<(), SinkRefusal>
-    ensures ok { OnOk result (Appends (O.written output.old) (O.written output.new) reply.now) }
+    ensures ok { OnOk result
+        (Appends (O.told output.old).written (O.told output.new).written reply.now) }
     ensures flushed { OnOk result
-        (O.flushed output.new ≡ option_map length (O.written output.new)) }
-    ensures flushed_stays { OnErr result (O.flushed output.new ≡ O.flushed output.old) }
+        ((O.told output.new).flushed ≡ option_map length (O.told output.new).written) }
+    ensures flushed_stays { OnErr result
+        ((O.told output.new).flushed ≡ (O.told output.old).flushed) }
     ensures err { OnErr result
         ((n : ℕ) × (n ≤ length reply.now)
-        × Appends (O.written output.old) (O.written output.new) (take n reply.now)) }
-    ensures cause { HasRefusalCause (O.faults output.old) (O.faults output.new) result }
+        × Appends (O.told output.old).written (O.told output.new).written (take n reply.now)) }
+    ensures cause { HasRefusalCause (O.told output.old).faults (O.told output.new).faults result }
 {
     let mut sent = 0;
     'pieces: while sent < reply.len() {

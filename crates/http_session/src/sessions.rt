@@ -1,7 +1,8 @@
 //! Requests answered one after the other.
-ghost use Rattle.std.specs.Prelude.{◌≡◌, ℕ, ◌≤◌, List, [], is_some};
+ghost use Rattle.std.specs.Prelude.{◌≡◌, ◌≤◌};
 ghost use Rattle.keeper_core.specs.Counts.{RoseBy, Tells};
-ghost use Rattle.http_session.specs.Serves.{Serves, moment};
+ghost use Rattle.keeper_core.specs.Kept.{IsStored};
+ghost use Rattle.http_session.specs.Serves.{Serves, scene};
 
 use crate::buffer::Buffer;
 use crate::handler::Handler;
@@ -13,14 +14,18 @@ use std::alloc::Global;
 /// Answers the requests of the input, one after the other, and says why it ended.
 ///
 /// At most `limit` bytes are read. The buffer of 81,920 bytes, which the longest request fills, is
-/// taken first, then the handler is made, and no other memory is taken here. Each reply is flushed
-/// before more is read. Bytes that are refused have their reply, and a reply that closes the
-/// connection is the last one.
+/// taken first, then the handler is made, and no other memory is taken here. Bytes that are refused
+/// have their reply, and a reply that closes the connection is the last one.
+///
+/// Each reply is flushed before more is read. `serves` says so of every source and sink: if a read
+/// fails, the session ends with `ReadFault`, and then each whole request has its reply and all
+/// replies are flushed. Which read fails isn't known before, and all later writes and flushes may
+/// fail too, so nothing can be left for later.
 ///
 /// A request's cost grows with its bytes and its reply, in whatever pieces either goes: each byte
 /// is read once and moved once at most, empty lines before a head are passed once, and each of at
 /// most 66 prefixes of the head that end after them with a line feed or at the limit is judged
-/// once, at a cost of its bytes. Beside it stand the costs of the handler's answers.
+/// once, at a cost of its bytes. The costs of the handler's answers come on top.
 pub fn session<H: Handler, K: Keeper, I: Source, O: Sink>(
     alloc: Global,
     world: &mut H::World,
@@ -29,21 +34,17 @@ pub fn session<H: Handler, K: Keeper, I: Source, O: Sink>(
     output: &mut O,
     limit: u64,
 ) -> SessionEnd
-    requires { Tells (K.kept keeper.old) (H.rows world.old) }
-    ensures serves { (buffer : List ℕ) × (taken : ℕ) × (taken ≤ limit)
-        × Serves H.steps H.fixed limit
-        (moment world.old [] (I.left input.old) (O.written output.old) (O.flushed output.old)
-        (K.faults keeper.old) 0)
-        (moment world.new buffer (I.left input.new) (O.written output.new) (O.flushed output.new)
-        (K.faults keeper.new) taken) result }
-    ensures kept { Tells (K.kept keeper.new) (H.rows world.new) }
-    ensures told { is_some (K.kept keeper.new) ≡ is_some (K.kept keeper.old) }
-    ensures read_later { I.faults input.old ≤ I.faults input.new }
-    ensures write_later { O.faults output.old ≤ O.faults output.new }
+    requires { Tells (K.told keeper.old).rows (H.rows world.old) }
+    ensures serves { Serves H.steps H.fixed limit
+        (scene world.old (K.told keeper.old) (I.told input.old) (O.told output.old))
+        (scene world.new (K.told keeper.new) (I.told input.new) (O.told output.new)) result }
+    ensures kept { IsStored (H.rows world.new) (K.told keeper.old) (K.told keeper.new) }
+    ensures read_later { (I.told input.old).faults ≤ (I.told input.new).faults }
+    ensures write_later { (O.told output.old).faults ≤ (O.told output.new).faults }
     ensures read_fault { result ≡ SessionEnd.ReadFault
-        → RoseBy 1 (I.faults input.old) (I.faults input.new) }
+        → RoseBy 1 (I.told input.old).faults (I.told input.new).faults }
     ensures write_fault { result ≡ SessionEnd.WriteFault
-        → RoseBy 1 (O.faults output.old) (O.faults output.new) }
+        → RoseBy 1 (O.told output.old).faults (O.told output.new).faults }
 {
     let Ok(mut buffer) = Buffer::make(alloc) else {
         return SessionEnd::OutOfMemory;

@@ -1,12 +1,15 @@
 //! One turn of a session.
-ghost use Rattle.std.specs.Prelude.{◌≡◌, ℕ, ◌+◌, ◌-◌, ◌<◌, ◌≤◌, List, length, take, option_map, true, is_some};
+ghost use Rattle.std.specs.Prelude.{◌≡◌, ◌≤◌, List, ℕ, true, false};
 ghost use Rattle.http_heads.specs.Heads.{Asked, Takes};
-ghost use Rattle.http_heads.specs.Fields.{closes};
 ghost use Rattle.keeper_core.specs.Counts.{RoseBy, Tells};
+ghost use Rattle.keeper_core.specs.Ends.{has_failed};
+ghost use Rattle.keeper_core.specs.Kept.{IsStored};
 ghost use Rattle.http_session.specs.Requests.{IsRequest, BeginsWith};
-ghost use Rattle.http_session.specs.Serves.{moment};
-ghost use Rattle.http_session.specs.Turns.{IsTurn, IsSent, IsAnswered};
+ghost use Rattle.http_session.specs.Serves.{scene};
+ghost use Rattle.http_session.specs.Told.{stage};
+ghost use Rattle.http_session.specs.Turns.{IsTurn, IsSent, IsAnswered, ends_by_read};
 
+use crate::bad_bytes::BadBytes;
 use crate::buffer::Buffer;
 use crate::handler::{Answer, Handler};
 use crate::reading::{Awaited, Stop, await_request};
@@ -24,12 +27,12 @@ pub(crate) enum Turn {
 }
 
 // Sends a reply, and says whether the session goes on.
-fn sent<O: Sink>(output: &mut O, reply: &[u8], close: bool) -> Turn
-    ensures is { IsSent (O.written output.old) (O.written output.new) (O.flushed output.old)
-        (O.flushed output.new) reply.now close result }
-    ensures later { O.faults output.old ≤ O.faults output.new }
+fn send_reply<O: Sink>(output: &mut O, reply: &[u8], close: bool) -> Turn
+    ensures is { IsSent (O.told output.old) (O.told output.new) reply.now close result }
+    ensures later { (O.told output.old).faults ≤ (O.told output.new).faults }
     ensures fault { result ≡ Turn.Ends SessionEnd.WriteFault
-        → RoseBy 1 (O.faults output.old) (O.faults output.new) }
+        → RoseBy 1 (O.told output.old).faults (O.told output.new).faults }
+    ensures no_read { ends_by_read result ≡ false }
 {
     match send(output, reply) {
         Ok(()) => {
@@ -45,7 +48,7 @@ fn sent<O: Sink>(output: &mut O, reply: &[u8], close: bool) -> Turn
 }
 
 // Answers the request that the bytes begin with.
-fn answered<H: Handler, K: Keeper, O: Sink>(
+fn answer_request<H: Handler, K: Keeper, O: Sink>(
     alloc: Global,
     handler: &H,
     world: &mut H::World,
@@ -54,42 +57,41 @@ fn answered<H: Handler, K: Keeper, O: Sink>(
     request: Request,
     output: &mut O,
 ) -> Turn
-    requires kept { Tells (K.kept keeper.old) (H.rows world.old) }
+    requires kept { Tells (K.told keeper.old).rows (H.rows world.old) }
     requires begins { BeginsWith bytes.now request }
     ensures is { (asked : Asked) (rest : List ℕ) → Takes bytes.now asked rest
         → IsRequest bytes.now request asked
-        → IsAnswered H.steps H.fixed world.old world.new asked (K.faults keeper.old)
-        (K.faults keeper.new)
-        (O.written output.old) (O.written output.new) (O.flushed output.old) (O.flushed output.new)
+        → IsAnswered H.steps H.fixed asked (stage world.old (K.told keeper.old).faults)
+        (stage world.new (K.told keeper.new).faults) (O.told output.old) (O.told output.new)
         request.close result }
-    ensures kept { Tells (K.kept keeper.new) (H.rows world.new) }
-    ensures told { is_some (K.kept keeper.new) ≡ is_some (K.kept keeper.old) }
-    ensures later { O.faults output.old ≤ O.faults output.new }
+    ensures kept { IsStored (H.rows world.new) (K.told keeper.old) (K.told keeper.new) }
+    ensures later { (O.told output.old).faults ≤ (O.told output.new).faults }
     ensures fault { result ≡ Turn.Ends SessionEnd.WriteFault
-        → RoseBy 1 (O.faults output.old) (O.faults output.new) }
+        → RoseBy 1 (O.told output.old).faults (O.told output.new).faults }
+    ensures no_read { ends_by_read result ≡ false }
 {
     let close = request.close;
     match handler.answer(world, alloc, keeper, bytes, request) {
-        Answer::Reply(reply) => sent(output, reply.as_slice(), close),
-        Answer::StoreFault(reply) => sent(output, reply.as_slice(), close),
-        Answer::NoMemory => sent(output, H::no_memory(close), close),
+        Answer::Reply(reply) => send_reply(output, reply.as_slice(), close),
+        Answer::StoreFault(reply) => send_reply(output, reply.as_slice(), close),
+        Answer::NoMemory => send_reply(output, H::no_memory(close), close),
         Answer::Unwritten => Turn::Ends(SessionEnd::OutOfMemory),
     }
 }
 
 // Sends the reply of a refusal, which closes the session.
-fn refused<H: Handler, O: Sink>(alloc: Global, output: &mut O, number: u8) -> Turn
-    requires { (1 ≤ number) × (number ≤ 4) }
-    ensures is { IsSent (O.written output.old) (O.written output.new) (O.flushed output.old)
-        (O.flushed output.new) (H.fixed.refusal number) true result }
-    ensures later { O.faults output.old ≤ O.faults output.new }
+fn send_refusal<H: Handler, O: Sink>(alloc: Global, output: &mut O, bad: BadBytes) -> Turn
+    ensures is { IsSent (O.told output.old) (O.told output.new) (H.fixed.refusal bad) true
+        result }
+    ensures later { (O.told output.old).faults ≤ (O.told output.new).faults }
     ensures fault { result ≡ Turn.Ends SessionEnd.WriteFault
-        → RoseBy 1 (O.faults output.old) (O.faults output.new) }
+        → RoseBy 1 (O.told output.old).faults (O.told output.new).faults }
+    ensures no_read { ends_by_read result ≡ false }
 {
-    let Ok(reply) = H::refusal(alloc, number) else {
+    let Ok(reply) = H::refusal(alloc, bad) else {
         return Turn::Ends(SessionEnd::OutOfMemory);
     };
-    sent(output, reply.as_slice(), true)
+    send_reply(output, reply.as_slice(), true)
 }
 
 // Waits for one request and answers it.
@@ -104,26 +106,33 @@ pub(crate) fn take_turn<H: Handler, K: Keeper, I: Source, O: Sink>(
     taken: &mut u64,
     limit: u64,
 ) -> Turn
-    requires kept { Tells (K.kept keeper.old) (H.rows world.old) }
+    requires kept { Tells (K.told keeper.old).rows (H.rows world.old) }
     requires within { taken.old ≤ limit }
     ensures is { IsTurn H.steps H.fixed limit
-        (moment world.old buffer.old (I.left input.old) (O.written output.old)
-        (O.flushed output.old) (K.faults keeper.old) taken.old)
-        (moment world.new buffer.new (I.left input.new) (O.written output.new)
-        (O.flushed output.new) (K.faults keeper.new) taken.new) result }
-    ensures kept { Tells (K.kept keeper.new) (H.rows world.new) }
-    ensures told { is_some (K.kept keeper.new) ≡ is_some (K.kept keeper.old) }
+        (record {
+          scene = scene world.old (K.told keeper.old) (I.told input.old) (O.told output.old);
+          buffer = buffer.old;
+          taken = taken.old;
+        })
+        (record {
+          scene = scene world.new (K.told keeper.new) (I.told input.new) (O.told output.new);
+          buffer = buffer.new;
+          taken = taken.new;
+        }) result }
+    ensures kept { IsStored (H.rows world.new) (K.told keeper.old) (K.told keeper.new) }
     ensures within { taken.new ≤ limit }
-    ensures read_later { I.faults input.old ≤ I.faults input.new }
-    ensures write_later { O.faults output.old ≤ O.faults output.new }
+    ensures read_later { (I.told input.old).faults ≤ (I.told input.new).faults }
+    ensures write_later { (O.told output.old).faults ≤ (O.told output.new).faults }
     ensures read_fault { result ≡ Turn.Ends SessionEnd.ReadFault
-        → RoseBy 1 (I.faults input.old) (I.faults input.new) }
+        → RoseBy 1 (I.told input.old).faults (I.told input.new).faults }
     ensures write_fault { result ≡ Turn.Ends SessionEnd.WriteFault
-        → RoseBy 1 (O.faults output.old) (O.faults output.new) }
+        → RoseBy 1 (O.told output.old).faults (O.told output.new).faults }
+    ensures last_read { has_failed (I.told input.old) ≡ false
+        → has_failed (I.told input.new) ≡ ends_by_read result }
 {
     match await_request(input, buffer, taken, limit) {
         Awaited::Found(request) => {
-            let turn = answered::<H, K, O>(
+            let turn = answer_request::<H, K, O>(
                 alloc,
                 handler,
                 world,
@@ -135,7 +144,7 @@ pub(crate) fn take_turn<H: Handler, K: Keeper, I: Source, O: Sink>(
             buffer.drop_front(request.body.end);
             turn
         }
-        Awaited::Stopped(Stop::Bad(number)) => refused::<H, O>(alloc, output, number),
+        Awaited::Stopped(Stop::Bad(bad)) => send_refusal::<H, O>(alloc, output, bad),
         Awaited::Stopped(Stop::AtEnd) => Turn::Ends(SessionEnd::Done),
         Awaited::Stopped(Stop::NoRead) => Turn::Ends(SessionEnd::ReadFault),
         Awaited::Stopped(Stop::Spent) => Turn::Ends(SessionEnd::Budget),

@@ -1,3 +1,4 @@
+mod DeskLemmas
 mod FreshLemmas
 mod NamedLemmas
 mod PieceLemmas

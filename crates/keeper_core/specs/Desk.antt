@@ -1,31 +1,19 @@
 -- What a desk tells, and what its calls do to that.
-use Rattle.std.specs.Prelude.{◌≡◌, ℕ, ◌+◌, ◌-◌, List, [], ◌∷◌, ◌++◌, Option, Some, None, option_map, unwrap_or, Result, Ok, Err, ⊤, Bool, ◌&&◌, nat_eq}
+use Rattle.std.specs.Prelude.{◌≡◌, ℕ, ◌+◌, ◌-◌, ◌^◌, min, List, [], ◌∷◌, ◌++◌, Option, Some, None, IfSome, option_map, unwrap_or, Result, Ok, Err, ⊤, Bool, ◌&&◌, nat_eq}
 use Rattle.std.specs.List.{list_all}
 use Rattle.net_addr.specs.Words.{Bytes, Text}
 use Rattle.api_types.specs.RowLists.{RowLists}
 use Rattle.api_types.specs.Rows.{no_rows}
-use Rattle.keeper_core.specs.Ends.{Unread, FailingUnread, Written, FailingWritten}
+use Rattle.keeper_core.specs.Counts.{HasRefusalCause}
+use Rattle.keeper_core.specs.Ends.{FailingUnread, FailingWritten, SinkTold, SourceTold, failing_unread, failing_written}
+use Rattle.keeper_core.specs.Kept.{KeeperTold}
 use Rattle.keeper_core.specs.Named.{value_named, with_value}
 use Rattle.keeper_core.specs.declared.named.Named.{Named}
 use Rattle.keeper_core.specs.declared.ask.DeskAsk.{DeskAsk}
+use Rattle.keeper_core.specs.declared.ask.DeskAsk.TheVariants.{Next}
 use Rattle.keeper_core.specs.declared.calls.Calls.{Calls}
 use Rattle.keeper_core.specs.declared.refusal.OutsideRefusal.{OutsideRefusal}
 use Rattle.keeper_core.specs.declared.refusal.OutsideRefusal.TheVariants.{Failed, OutOfMemory}
-
--- the ask is last among the asks, but where memory could not be had
-abbrev pub AddsRefused : OutsideRefusal → DeskAsk → Option (List DeskAsk) → Option (List DeskAsk)
-    → Type 0
-AddsRefused Failed ask old new = new ≡ option_map (λ asks. asks ++ ask ∷ []) old
-AddsRefused OutOfMemory ask old new = new ≡ old
-
-abbrev pub AddsAsk : {T : Type 0} → Result T OutsideRefusal → DeskAsk → Option (List DeskAsk)
-    → Option (List DeskAsk) → Type 0
-AddsAsk (Ok x) ask old new = new ≡ option_map (λ asks. asks ++ ask ∷ []) old
-AddsAsk (Err refusal) ask old new = AddsRefused refusal ask old new
-
--- the bytes of the settings with this name, and none where there are no such settings
-abbrev pub file_named : Text → List (Named Bytes) → Bytes
-file_named name files = unwrap_or (value_named name files) []
 
 -- rows of stores: by name, those of the last one without a name that was closed, and the name of
 -- the one that is open, where one is
@@ -34,6 +22,68 @@ pub record Stores : Type 0 where
   pub unnamed : Option RowLists
   pub opened : Option (Option Text)
 
+-- the connections that were handed back, and how many are out
+pub record Returned (P : Type 0) : Type 0 where
+  pub ended : List P
+  pub out : ℕ
+
+-- what a desk tells, each part where it tells it: its asks, settings by name, stores, connections
+-- to come and those handed back; and how many of its calls failed, and of those of its stores
+pub record DeskTold (P : Type 0) : Type 0 where
+  pub asks : Option (List DeskAsk)
+  pub files : Option (List (Named Bytes))
+  pub stores : Option Stores
+  pub to_come : Option (List P)
+  pub returned : Option (Returned P)
+  pub faults : ℕ
+  pub store_faults : ℕ
+
+-- a desk that tells nothing but its counts
+abbrev pub untold_desk : {P : Type 0} → ℕ → ℕ → DeskTold P
+untold_desk faults store_faults = record {
+  asks = None;
+  files = None;
+  stores = None;
+  to_come = None;
+  returned = None;
+  faults = faults;
+  store_faults = store_faults;
+}
+
+-- ---- asks
+
+abbrev pub with_ask : DeskAsk → Option (List DeskAsk) → Option (List DeskAsk)
+with_ask ask asks = option_map (λ made. made ++ ask ∷ []) asks
+
+abbrev pub asks_refused : OutsideRefusal → DeskAsk → Option (List DeskAsk) → Option (List DeskAsk)
+asks_refused Failed ask asks = with_ask ask asks
+asks_refused OutOfMemory ask asks = asks
+
+-- the asks after a call: it is the last of them, also where it failed, but not where it ran out of
+-- memory
+abbrev pub asks_after : {T : Type 0} → Result T OutsideRefusal → DeskAsk → Option (List DeskAsk)
+    → Option (List DeskAsk)
+asks_after (Ok x) ask asks = with_ask ask asks
+asks_after (Err refusal) ask asks = asks_refused refusal ask asks
+
+-- a call for something: it is noted, a failure is counted, and nothing else changes
+pub record Asks {P T : Type 0} (ask : DeskAsk) (result : Result T OutsideRefusal)
+    (old new : DeskTold P) : Type 0 where
+  pub is : new ≡ record old { asks = asks_after result ask old.asks; faults = new.faults }
+  pub cause : HasRefusalCause old.faults new.faults result
+
+-- ---- settings
+
+-- the bytes of the settings with this name, and none where there are no such settings
+abbrev pub file_named : Text → List (Named Bytes) → Bytes
+file_named name files = unwrap_or (value_named name files) []
+
+-- bytes are those of the settings with this name, where they are told
+abbrev pub AreNamed : Option (List (Named Bytes)) → Text → Bytes → Type 0
+AreNamed files name bytes = IfSome files (λ told. bytes ≡ file_named name told)
+
+-- ---- stores
+
 -- the rows with which a store opens: those with its name, and none where there are no such rows or
 -- it has no name
 abbrev pub opening_rows : Option Text → Stores → RowLists
@@ -41,148 +91,150 @@ opening_rows None stores = no_rows
 opening_rows (Some name) stores = unwrap_or (value_named name stores.named) no_rows
 
 abbrev pub opened_as : Option Text → Stores → Stores
-opened_as name stores =
-    record { named = stores.named; unnamed = stores.unnamed; opened = Some name }
+opened_as name stores = record stores { opened = Some name }
+
+-- a store opens without faults, with the rows under the name, where stores are told
+pub record OpensWith (name : Option Text) (stores : Option Stores) (store : KeeperTold)
+    : Type 0 where
+  pub fresh : store.faults ≡ 0
+  pub rows : IfSome stores (λ told. store.rows ≡ Some (opening_rows name told))
+
+-- the desk after it was asked for a store, whether or not it opened one
+abbrev pub with_opened : {P T : Type 0} → Option Text → Result T OutsideRefusal → DeskTold P
+    → DeskTold P
+with_opened name (Ok store) desk =
+    record desk { stores = option_map (opened_as name) desk.stores }
+with_opened name (Err refusal) desk = desk
 
 -- the store that is open closes with these rows
 abbrev pub closed_as : Option (Option Text) → RowLists → Stores → Stores
 closed_as None rows stores = stores
-closed_as (Some None) rows stores =
-    record { named = stores.named; unnamed = Some rows; opened = None }
+closed_as (Some None) rows stores = record stores { unnamed = Some rows; opened = None }
 closed_as (Some (Some name)) rows stores =
-    record { named = with_value name rows stores.named; unnamed = stores.unnamed; opened = None }
+    record stores { named = with_value name rows stores.named; opened = None }
 
--- a store is handed back: the rows that it tells become those of the store that was opened last
-abbrev pub Closes : Option Stores → Option RowLists → Option Stores → Type 0
-Closes None rows new = new ≡ None
-Closes (Some stores) None new = ⊤
-Closes (Some stores) (Some rows) new = new ≡ Some (closed_as stores.opened rows stores)
+-- the rows that the store tells become those of the store that was opened last
+abbrev pub StoresClose : Option Stores → Option RowLists → Option Stores → Type 0
+StoresClose None rows new = new ≡ None
+StoresClose (Some stores) None new = ⊤
+StoresClose (Some stores) (Some rows) new = new ≡ Some (closed_as stores.opened rows stores)
 
--- a connection that was handed back: what its two ends tell, and their counts of faults
-pub record Ended : Type 0 where
-  pub left : Option Bytes
-  pub written : Option Bytes
-  pub flushed : Option ℕ
-  pub input_faults : ℕ
-  pub output_faults : ℕ
+-- a store is handed back: its faults are counted, and nothing else changes
+pub record Closes {P : Type 0} (store : KeeperTold) (old new : DeskTold P) : Type 0 where
+  pub is : new
+      ≡ record old {
+        stores = new.stores;
+        store_faults = min (old.store_faults + store.faults) (2 ^ 64 - 1);
+      }
+  pub stores : StoresClose old.stores store.rows new.stores
 
--- the connections that were handed back, and how many are out
-pub record Returned : Type 0 where
-  pub ended : List Ended
-  pub out : ℕ
+-- ---- connections
+
+-- the ends of a connection haven't failed
+pub record AreFresh (input : SourceTold) (output : SinkTold) : Type 0 where
+  pub input_fresh : input.faults ≡ 0
+  pub output_fresh : output.faults ≡ 0
+
+-- no connection is out
+abbrev pub IsNoneOut : {P : Type 0} → DeskTold P → Type 0
+IsNoneOut desk = IfSome desk.returned (λ returned. returned.out ≡ 0)
 
 -- none is to come, as far as they are told
 abbrev pub IsSpent : {P : Type 0} → Option (List P) → Type 0
 IsSpent None = ⊤
 IsSpent (Some pairs) = pairs ≡ []
 
--- the next connection goes out, where there is one
-abbrev pub HandsOut : {P : Type 0} → Result (Option P) OutsideRefusal → Option (List P)
+-- the first of those to come is the connection that came
+abbrev pub Comes : {P : Type 0} → Result (Option P) OutsideRefusal → Option (List P)
     → Option (List P) → Type 0
-HandsOut (Ok (Some pair)) old new = old ≡ option_map (λ rest. pair ∷ rest) new
-HandsOut (Ok None) old new = (new ≡ old) × IsSpent old
-HandsOut (Err e) old new = new ≡ old
+Comes (Ok (Some pair)) old new = old ≡ option_map (λ rest. pair ∷ rest) new
+Comes (Ok None) old new = (new ≡ old) × IsSpent old
+Comes (Err e) old new = new ≡ old
 
--- one more connection is out
-abbrev pub one_out : Returned → Returned
-one_out returned = record { ended = returned.ended; out = returned.out + 1 }
+abbrev pub one_out : {P : Type 0} → Returned P → Returned P
+one_out returned = record returned { out = returned.out + 1 }
 
--- how many are out after a call for the next connection
-abbrev pub CountsOut : {P : Type 0} → Result (Option P) OutsideRefusal → Option Returned
-    → Option Returned → Type 0
-CountsOut (Ok (Some pair)) old new = new ≡ option_map one_out old
-CountsOut (Ok None) old new = new ≡ old
-CountsOut (Err e) old new = new ≡ old
+-- one more is out, where one came
+abbrev pub out_after : {P : Type 0} → Result (Option P) OutsideRefusal → Option (Returned P)
+    → Option (Returned P)
+out_after (Ok (Some pair)) returned = option_map one_out returned
+out_after (Ok None) returned = returned
+out_after (Err e) returned = returned
 
--- a connection is handed back, and comes last among those that were. A desk stops telling them
--- only where none was out
-abbrev pub TakesBack : Option Returned → Ended → Option Returned → Type 0
-TakesBack None end new = new ≡ None
-TakesBack (Some returned) end None = returned.out ≡ 0
-TakesBack (Some returned) end (Some new) =
-    new ≡ record { ended = returned.ended ++ end ∷ []; out = returned.out - 1 }
+-- a call for the next connection, which goes out where there is one
+pub record HandsOut {P : Type 0} (result : Result (Option P) OutsideRefusal)
+    (old new : DeskTold P) : Type 0 where
+  pub comes : Comes result old.to_come new.to_come
+  pub asks : Asks Next result
+      (record old { to_come = new.to_come; returned = out_after result old.returned })
+      new
+
+-- the connection is last among those that were handed back. A desk stops telling them only where
+-- none was out
+abbrev pub IsReturned : {P : Type 0} → Option (Returned P) → P → Option (Returned P) → Type 0
+IsReturned None pair new = new ≡ None
+IsReturned (Some returned) pair None = returned.out ≡ 0
+IsReturned (Some returned) pair (Some new) =
+    new ≡ record { ended = returned.ended ++ pair ∷ []; out = returned.out - 1 }
+
+-- a connection is handed back, and nothing else changes
+pub record TakesBack {P : Type 0} (pair : P) (old new : DeskTold P) : Type 0 where
+  pub is : new ≡ record old { returned = new.returned }
+  pub returned : IsReturned old.returned pair new.returned
 
 -- ---- desks in memory
 
-module _ {I O : Type 0} (left : I → Option Bytes) (input_faults : I → ℕ)
-    (written : O → Option Bytes) (flushed : O → Option ℕ) (output_faults : O → ℕ) where
-  abbrev pub end_of : I × O → Ended
-  end_of pair = record {
-    left = left pair.0;
-    written = written pair.1;
-    flushed = flushed pair.1;
-    input_faults = input_faults pair.0;
-    output_faults = output_faults pair.1;
-  }
-
 -- no end of a connection has failed
-abbrev pub are_fresh : {I O : Type 0} → (I → ℕ) → (O → ℕ) → List (I × O) → Bool
-are_fresh input_faults output_faults pairs =
-    list_all (λ pair. nat_eq (input_faults pair.0) 0 && nat_eq (output_faults pair.1) 0) pairs
+abbrev pub are_fresh : {I O : Type 0} → (I → SourceTold) → (O → SinkTold) → List (I × O) → Bool
+are_fresh input output pairs =
+    list_all (λ pair. nat_eq (input pair.0).faults 0 && nat_eq (output pair.1).faults 0) pairs
 
-abbrev pub memory_end : FailingUnread × FailingWritten → Ended
-memory_end =
-    end_of (λ input. Some input.left) (λ input. input.calls.faults) (λ output. Some output.written)
-    (λ output. Some output.flushed) (λ output. output.calls.faults)
-
-abbrev pub sure_end : Unread × Written → Ended
-sure_end =
-    end_of (λ input. Some input.left) (λ _. 0) (λ output. Some output.written)
-    (λ output. Some output.flushed) (λ _. 0)
-
--- no end of a connection in memory has failed
 abbrev pub fresh_ends : List (FailingUnread × FailingWritten) → Bool
-fresh_ends pairs = are_fresh (λ input. input.calls.faults) (λ output. output.calls.faults) pairs
+fresh_ends pairs = are_fresh failing_unread failing_written pairs
 
--- connections to come and those that were handed back, as far as they are told
-pub record Handed (P : Type 0) : Type 0 where
-  pub to_come : List P
-  pub returned : Option Returned
-
--- all that a desk in memory tells
-pub record DeskTold (P : Type 0) : Type 0 where
+-- what a desk in memory holds
+pub record DeskHeld (P : Type 0) : Type 0 where
   pub asks : List DeskAsk
   pub files : List (Named Bytes)
   pub stores : Stores
   pub to_come : List P
-  pub returned : Option Returned
+  pub returned : Option (Returned P)
 
--- one more ask
-abbrev pub asked : {P : Type 0} → DeskAsk → DeskTold P → DeskTold P
-asked ask told = record {
-  asks = told.asks ++ ask ∷ [];
-  files = told.files;
-  stores = told.stores;
-  to_come = told.to_come;
-  returned = told.returned;
-}
-
--- an ask that was refused counts, but where memory could not be had
-abbrev pub asked_in_vain : {P : Type 0} → OutsideRefusal → DeskAsk → DeskTold P → DeskTold P
-asked_in_vain Failed ask told = asked ask told
-asked_in_vain OutOfMemory ask told = told
-
-abbrev pub with_stores : {P : Type 0} → Stores → DeskTold P → DeskTold P
-with_stores stores told = record {
-  asks = told.asks;
-  files = told.files;
-  stores = stores;
-  to_come = told.to_come;
-  returned = told.returned;
-}
-
-abbrev pub with_returned : {P : Type 0} → Option Returned → DeskTold P → DeskTold P
-with_returned returned told = record {
-  asks = told.asks;
-  files = told.files;
-  stores = told.stores;
-  to_come = told.to_come;
-  returned = returned;
+-- it tells all of it
+abbrev pub desk_told : {P : Type 0} → DeskHeld P → ℕ → ℕ → DeskTold P
+desk_told held faults store_faults = record {
+  asks = Some held.asks;
+  files = Some held.files;
+  stores = Some held.stores;
+  to_come = Some held.to_come;
+  returned = held.returned;
+  faults = faults;
+  store_faults = store_faults;
 }
 
 -- a desk in memory that fails in listed calls
 pub record FailingDesk (P : Type 0) : Type 0 where
-  pub told : DeskTold P
+  pub held : DeskHeld P
   pub calls : Calls
   pub store_failing : List ℕ
   pub store_faults : ℕ
+
+abbrev pub sure_told : {P : Type 0} → DeskHeld P → DeskTold P
+sure_told held = desk_told held 0 0
+
+abbrev pub failing_told : {P : Type 0} → FailingDesk P → DeskTold P
+failing_told desk = desk_told desk.held desk.calls.faults desk.store_faults
+
+-- an ask is noted, also where it was refused, but not where it ran out of memory
+abbrev pub asked : {P : Type 0} → DeskAsk → DeskHeld P → DeskHeld P
+asked ask held = record held { asks = held.asks ++ ask ∷ [] }
+
+abbrev pub asked_in_vain : {P : Type 0} → OutsideRefusal → DeskAsk → DeskHeld P → DeskHeld P
+asked_in_vain Failed ask held = asked ask held
+asked_in_vain OutOfMemory ask held = held
+
+abbrev pub with_stores : {P : Type 0} → Stores → DeskHeld P → DeskHeld P
+with_stores stores held = record held { stores = stores }
+
+abbrev pub with_returned : {P : Type 0} → Option (Returned P) → DeskHeld P → DeskHeld P
+with_returned returned held = record held { returned = returned }

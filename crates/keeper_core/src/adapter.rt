@@ -1,9 +1,11 @@
 //! Readers and writers of std as sources and sinks.
 
 ghost use Rattle.std.specs.Prelude.{◌≡◌, ◌<◌, ◌≤◌, None, IfOk, length};
-ghost use Rattle.std.specs.Io.KnownBytes.{WriteAppends, Keeps};
+ghost use Rattle.std.specs.Io.{ReadsAtMost};
+ghost use Rattle.std.specs.Io.KnownBytes.{ReadConsumes, WriteAppends, Keeps};
 ghost use Rattle.keeper_core.specs.Counts.{HasCause, HasRefusalCause};
 
+use crate::last_read::LastRead;
 use crate::refusal::{Failed, SinkRefusal};
 use crate::sink::Sink;
 use crate::source::Source;
@@ -15,32 +17,40 @@ use std::marker::Model;
 #[derive(Drop)]
 pub struct ReaderSource<R> {
     inner: R,
+    last: LastRead,
     faults: u64,
 }
 
 impl<R> Model for ReaderSource<R> {
-    ghost use Rattle.keeper_core.specs.Ends.{Counting};
+    ghost use Rattle.keeper_core.specs.Ends.{CountingReader};
 
-    ghost Value = { Counting R };
+    ghost Value = { CountingReader R };
 
-    ghost view = { λ s. record { inner = s.inner; faults = s.faults } };
+    ghost view = { λ s. record { inner = s.inner; last = s.last; faults = s.faults } };
 }
 
 impl<R> ReaderSource<R> {
-    /// A source over this reader, without faults yet.
+    /// A source over this reader, of which nothing is read yet.
     pub fn make(inner: R) -> ReaderSource<R>
-        ensures { result ≡ record { inner = inner; faults = 0 } }
+        ensures { result ≡ record { inner = inner; last = LastRead.Unread; faults = 0 } }
     {
-        ReaderSource { inner, faults: 0 }
+        ReaderSource {
+            inner,
+            last: LastRead::Unread,
+            faults: 0,
+        }
     }
-}
 
-impl<R: Read> Source for ReaderSource<R> {
-    ghost left = { λ s. R.remaining s.inner };
-
-    ghost faults = { λ s. s.faults };
-
-    fn read(&mut self, buf: &mut [u8]) -> Result<usize, Failed> {
+    // A read, counted where it fails.
+    fn read_counted(&mut self, buf: &mut [u8]) -> Result<usize, Failed>
+    where
+        R: Read,
+        requires { 0 < length buf.old }
+        ensures bound { ReadsAtMost result buf.new }
+        ensures bytes { ReadConsumes (R.remaining self.old.inner) (R.remaining self.new.inner)
+            result buf.new }
+        ensures cause { HasCause self.old.faults self.new.faults result }
+    {
         match self.inner.read(buf) {
             Ok(count) => Ok(count),
             Err(_) => {
@@ -48,6 +58,16 @@ impl<R: Read> Source for ReaderSource<R> {
                 Err(Failed)
             }
         }
+    }
+}
+
+impl<R: Read> Source for ReaderSource<R> {
+    ghost told = { λ s. record { left = R.remaining s.inner; last = s.last; faults = s.faults } };
+
+    fn read(&mut self, buf: &mut [u8]) -> Result<usize, Failed> {
+        let answer = self.read_counted(buf);
+        self.last = LastRead::of(&answer);
+        answer
     }
 }
 
@@ -59,9 +79,9 @@ pub struct WriterSink<W> {
 }
 
 impl<W> Model for WriterSink<W> {
-    ghost use Rattle.keeper_core.specs.Ends.{Counting};
+    ghost use Rattle.keeper_core.specs.Ends.{CountingWriter};
 
-    ghost Value = { Counting W };
+    ghost Value = { CountingWriter W };
 
     ghost view = { λ s. record { inner = s.inner; faults = s.faults } };
 }
@@ -83,11 +103,7 @@ impl<W> WriterSink<W> {
 }
 
 impl<W: Write> Sink for WriterSink<W> {
-    ghost written = { λ s. None };
-
-    ghost flushed = { λ s. None };
-
-    ghost faults = { λ s. s.faults };
+    ghost told = { λ s. record { written = None; flushed = None; faults = s.faults } };
 
     /// A write that takes nothing of the piece counts as a fault.
     fn write(&mut self, piece: &[u8]) -> Result<usize, SinkRefusal>

@@ -1,8 +1,8 @@
 //! What a desk in memory has and notes: asks, settings, stores and connections.
 
-ghost use Rattle.std.specs.Prelude.{◌≡◌, ◌<◌, ◌++◌, [], ◌∷◌, map, Some, None, Ok, IsTrue, IfOk, IfErr, OnOk, OnErr, vec_len, vec_capacity, option_map, option_copied};
+ghost use Rattle.std.specs.Prelude.{◌≡◌, ◌<◌, ◌++◌, [], ◌∷◌, Some, None, IsTrue, IfOk, IfSome, IfErr, OnOk, OnErr, vec_len, vec_capacity, option_map, option_copied};
 ghost use Rattle.keeper_core.specs.Counts.{IsWant};
-ghost use Rattle.keeper_core.specs.Desk.{file_named, opening_rows, opened_as, closed_as, asked, asked_in_vain, with_stores, with_returned, HandsOut, CountsOut, TakesBack, AddsAsk, end_of, are_fresh};
+ghost use Rattle.keeper_core.specs.Desk.{AreFresh, Comes, IsReturned, are_fresh, asked, asked_in_vain, asks_after, closed_as, file_named, opened_as, opening_rows, out_after, with_returned, with_stores};
 
 use crate::ask::DeskAsk;
 use crate::connections::Connections;
@@ -26,17 +26,17 @@ pub struct Book<I: Source, O: Sink> {
 }
 
 impl<I: Source, O: Sink> Model for Book<I, O> {
-    ghost use Rattle.keeper_core.specs.Desk.{DeskTold};
+    ghost use Rattle.keeper_core.specs.Desk.{DeskHeld};
 
-    ghost Value = { DeskTold (I × O) };
+    ghost Value = { DeskHeld (I × O) };
 
     ghost view = { λ b.
         record {
           asks = b.asks.items;
           files = b.files;
           stores = b.shelf;
-          to_come = b.connections.to_come;
-          returned = b.connections.returned;
+          to_come = b.connections.0;
+          returned = b.connections.1;
         } };
 }
 
@@ -69,7 +69,7 @@ impl<I: Source, O: Sink> Book<I, O> {
         stores: NamedRows,
         to_come: Seq<(I, O)>,
     ) -> Book<I, O>
-        requires { IsTrue (are_fresh I.faults O.faults to_come) }
+        requires { IsTrue (are_fresh I.told O.told to_come) }
         ensures { result
             ≡ record {
               asks = [];
@@ -103,9 +103,8 @@ impl<I: Source, O: Sink> Book<I, O> {
 
     /// The connections that were handed back, where they are told.
     pub fn ended(&self) -> Option<&[(I, O)]>
-        ensures { option_map
-            (λ ended. map (end_of I.left I.faults O.written O.flushed O.faults) ended.now)
-            result ≡ option_map (λ returned. returned.ended) self.now.returned }
+        ensures { option_map (λ ended. ended.now) result
+            ≡ option_map (λ returned. returned.ended) self.now.returned }
     {
         self.connections.ended()
     }
@@ -169,11 +168,11 @@ impl<I: Source, O: Sink> Book<I, O> {
 
     /// The next connection, or nothing changes.
     pub fn next(&mut self) -> Result<Option<(I, O)>, DeskRefusal>
-        ensures fresh { (input : I) (output : O) → result ≡ Ok (Some (input, output))
-            → (I.faults input ≡ 0) × (O.faults output ≡ 0) }
-        ensures to_come { HandsOut result (Some self.old.to_come) (Some self.new.to_come) }
-        ensures returned { CountsOut result self.old.returned self.new.returned }
-        ensures asks { AddsAsk result DeskAsk.Next (Some self.old.asks) (Some self.new.asks) }
+        ensures fresh { IfOk result (λ next. IfSome next (λ pair.
+            AreFresh (I.told pair.0) (O.told pair.1))) }
+        ensures to_come { Comes result (Some self.old.to_come) (Some self.new.to_come) }
+        ensures returned { self.new.returned ≡ out_after result self.old.returned }
+        ensures asks { Some self.new.asks ≡ asks_after result DeskAsk.Next (Some self.old.asks) }
         ensures files { self.new.files ≡ self.old.files }
         ensures stores { self.new.stores ≡ self.old.stores }
         ensures sure { IfErr result IsWant }
@@ -189,9 +188,7 @@ impl<I: Source, O: Sink> Book<I, O> {
     where
         I: Drop,
         O: Drop,
-        ensures returned { TakesBack self.old.returned
-            (end_of I.left I.faults O.written O.flushed O.faults (input, output))
-            self.new.returned }
+        ensures returned { IsReturned self.old.returned (input, output) self.new.returned }
         ensures others { self.new ≡ with_returned self.new.returned self.old }
     {
         self.connections.take_back(input, output);

@@ -1,8 +1,8 @@
 //! The connections of a desk in memory: to come, out, and handed back.
 
-ghost use Rattle.std.specs.Prelude.{◌≡◌, map, Some, Ok, [], IsTrue, IfErr, option_map};
+ghost use Rattle.std.specs.Prelude.{◌≡◌, Some, [], IsTrue, IfErr, IfOk, IfSome, option_map};
 ghost use Rattle.keeper_core.specs.Counts.{IsWant};
-ghost use Rattle.keeper_core.specs.Desk.{HandsOut, CountsOut, TakesBack, end_of, are_fresh};
+ghost use Rattle.keeper_core.specs.Desk.{AreFresh, Comes, IsReturned, are_fresh, out_after};
 
 use crate::refusal::DeskRefusal;
 use crate::sink::Sink;
@@ -25,33 +25,25 @@ pub struct Connections<I: Source, O: Sink> {
 // one comes that never was out, and there is no room for it, those that came back are told no
 // more.
 impl<I: Source, O: Sink> Model for Connections<I, O> {
-    ghost use Rattle.std.specs.Prelude.{◌+◌, ◌≤◌, Some, None, IsTrue, if◌then◌else◌, map, vec_len, vec_capacity};
-    ghost use Rattle.keeper_core.specs.Desk.{Handed, end_of, are_fresh};
+    ghost use Rattle.std.specs.Prelude.{List, Option, ◌+◌, ◌≤◌, Some, None, IsTrue, if◌then◌else◌, vec_len, vec_capacity};
+    ghost use Rattle.keeper_core.specs.Desk.{Returned, are_fresh};
 
-    ghost Value = { Handed (I × O) };
+    ghost Value = { List (I × O) × Option (Returned (I × O)) };
 
-    ghost view = { λ c.
-        record {
-          to_come = c.to_come.items;
-          returned = if c.told
-              then Some
-              (record {
-                ended = map (end_of I.left I.faults O.written O.flushed O.faults)
-                    c.ended.items;
-                out = c.out;
-              }) else None;
-        } };
+    ghost view = { λ c. (
+      c.to_come.items,
+      if c.told then Some (record { ended = c.ended.items; out = c.out }) else None,
+    ) };
 
     ghost invariant = { λ c. (vec_len c.ended + c.out ≤ vec_capacity c.ended)
-        × IsTrue (are_fresh I.faults O.faults c.to_come.items) };
+        × IsTrue (are_fresh I.told O.told c.to_come.items) };
 }
 
 impl<I: Source, O: Sink> Connections<I, O> {
     /// These connections are to come.
     pub fn make(alloc: Global, to_come: Seq<(I, O)>) -> Connections<I, O>
-        requires { IsTrue (are_fresh I.faults O.faults to_come) }
-        ensures { result
-            ≡ record { to_come = to_come; returned = Some (record { ended = []; out = 0 }) } }
+        requires { IsTrue (are_fresh I.told O.told to_come) }
+        ensures { result ≡ (to_come, Some (record { ended = []; out = 0 })) }
     {
         Connections {
             to_come: VecDeque::from(to_come.into_vec()),
@@ -63,9 +55,8 @@ impl<I: Source, O: Sink> Connections<I, O> {
 
     /// The connections that were handed back, where they are told.
     pub fn ended(&self) -> Option<&[(I, O)]>
-        ensures { option_map
-            (λ ended. map (end_of I.left I.faults O.written O.flushed O.faults) ended.now)
-            result ≡ option_map (λ returned. returned.ended) self.now.returned }
+        ensures { option_map (λ ended. ended.now) result
+            ≡ option_map (λ returned. returned.ended) self.now.1 }
     {
         if self.told {
             Some(self.ended.as_slice())
@@ -76,10 +67,10 @@ impl<I: Source, O: Sink> Connections<I, O> {
 
     /// The next connection, or nothing changes.
     pub fn next(&mut self) -> Result<Option<(I, O)>, DeskRefusal>
-        ensures fresh { (input : I) (output : O) → result ≡ Ok (Some (input, output))
-            → (I.faults input ≡ 0) × (O.faults output ≡ 0) }
-        ensures to_come { HandsOut result (Some self.old.to_come) (Some self.new.to_come) }
-        ensures returned { CountsOut result self.old.returned self.new.returned }
+        ensures fresh { IfOk result (λ next. IfSome next (λ pair.
+            AreFresh (I.told pair.0) (O.told pair.1))) }
+        ensures to_come { Comes result (Some self.old.0) (Some self.new.0) }
+        ensures returned { self.new.1 ≡ out_after result self.old.1 }
         ensures sure { IfErr result IsWant }
     {
         let Some(out) = self.out.checked_add(1) else {
@@ -98,10 +89,8 @@ impl<I: Source, O: Sink> Connections<I, O> {
     where
         I: Drop,
         O: Drop,
-        ensures to_come { self.new.to_come ≡ self.old.to_come }
-        ensures returned { TakesBack self.old.returned
-            (end_of I.left I.faults O.written O.flushed O.faults (input, output))
-            self.new.returned }
+        ensures to_come { self.new.0 ≡ self.old.0 }
+        ensures returned { IsReturned self.old.1 (input, output) self.new.1 }
     {
         if self.ended.len() < self.ended.capacity() {
             self.out = self.out.saturating_sub(1);

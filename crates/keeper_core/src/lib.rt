@@ -15,6 +15,7 @@ mod calls;
 mod connections;
 mod desk;
 mod keeper;
+mod last_read;
 mod memory_desk;
 mod memory_keeper;
 mod memory_sink;
@@ -28,8 +29,10 @@ mod sure_desk;
 
 pub use adapter::{ReaderSource, WriterSink};
 pub use ask::DeskAsk;
+pub use calls::Calls;
 pub use desk::Desk;
 pub use keeper::Keeper;
+pub use last_read::LastRead;
 pub use memory_desk::{EndsList, MemoryDesk};
 pub use memory_keeper::{MemoryKeeper, SureKeeper};
 pub use memory_sink::{MemorySink, SureSink};

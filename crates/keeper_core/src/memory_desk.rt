@@ -1,10 +1,10 @@
 //! A desk in memory that fails in listed calls.
 
-ghost use Rattle.std.specs.Prelude.{◌≡◌, Some, None, Ok, [], map, IsOk, IsTrue, IfOk, IfErr, OnOk, OnErr, false, option_map, option_copied};
+ghost use Rattle.std.specs.Prelude.{◌≡◌, Some, None, [], IsOk, IsTrue, IfOk, IfSome, IfErr, OnOk, OnErr, false, option_map, option_copied};
 ghost use Rattle.keeper_core.specs.Calls.{counted, fails_next};
 ghost use Rattle.keeper_core.specs.Counts.{HasRefusalCause, IsFailure};
-ghost use Rattle.keeper_core.specs.Desk.{file_named, opening_rows, opened_as, asked, asked_in_vain, with_stores, fresh_ends, memory_end, HandsOut, CountsOut, AddsAsk};
-ghost use Rattle.keeper_core.specs.Ends.{FailingUnread, FailingWritten};
+ghost use Rattle.keeper_core.specs.Desk.{AreFresh, Comes, asked, asked_in_vain, asks_after, failing_told, file_named, fresh_ends, opened_as, opening_rows, out_after, with_stores};
+ghost use Rattle.keeper_core.specs.Ends.{failing_unread, failing_written};
 
 use crate::ask::DeskAsk;
 use crate::book::Book;
@@ -41,7 +41,7 @@ impl Model for MemoryDesk {
 
     ghost view = { λ d.
         record {
-          told = d.book;
+          held = d.book;
           calls = d.calls;
           store_failing = d.store_failing;
           store_faults = d.store_faults;
@@ -65,7 +65,7 @@ impl MemoryDesk {
         ensures { IfOk result
             (λ desk. desk
             ≡ record {
-              told = record {
+              held = record {
                 asks = [];
                 files = files;
                 stores = record { named = stores; unnamed = None; opened = None };
@@ -87,14 +87,14 @@ impl MemoryDesk {
 
     /// The asks so far, in order.
     pub fn asks(&self) -> &[DeskAsk]
-        ensures { result.now ≡ self.now.told.asks }
+        ensures { result.now ≡ self.now.held.asks }
     {
         self.book.asks()
     }
 
     /// The rows of stores by name.
     pub fn stores(&self) -> &[Named<Rows>]
-        ensures { result.now ≡ self.now.told.stores.named }
+        ensures { result.now ≡ self.now.held.stores.named }
     {
         self.book.stores()
     }
@@ -102,8 +102,8 @@ impl MemoryDesk {
     /// The connections that were handed back, in order, where they are told. They are until one is
     /// handed back that never was handed out, and for which there is no room.
     pub fn ended(&self) -> Option<&[(MemorySource, MemorySink)]>
-        ensures { option_map (λ ended. map memory_end ended.now) result
-            ≡ option_map (λ returned. returned.ended) self.now.told.returned }
+        ensures { option_map (λ ended. ended.now) result
+            ≡ option_map (λ returned. returned.ended) self.now.held.returned }
     {
         self.book.ended()
     }
@@ -112,15 +112,15 @@ impl MemoryDesk {
         ensures store { IfOk result
             (λ store. store
             ≡ record {
-              rows = opening_rows (option_copied name.entry) self.old.told.stores;
+              rows = opening_rows (option_copied name.entry) self.old.held.stores;
               calls = record { made = 0; failing = self.old.store_failing; faults = 0 };
             }) }
         ensures ok { OnOk result
-            (self.new.told
+            (self.new.held
             ≡ asked (DeskAsk.Store (option_copied name.entry))
-            (with_stores (opened_as (option_copied name.entry) self.old.told.stores)
-            self.old.told)) }
-        ensures err { OnErr result (self.new.told ≡ self.old.told) }
+            (with_stores (opened_as (option_copied name.entry) self.old.held.stores)
+            self.old.held)) }
+        ensures err { OnErr result (self.new.held ≡ self.old.held) }
         ensures calls { self.new.calls ≡ self.old.calls }
         ensures store_failing { self.new.store_failing ≡ self.old.store_failing }
         ensures store_faults { self.new.store_faults ≡ self.old.store_faults }
@@ -138,27 +138,15 @@ impl Desk for MemoryDesk {
 
     type Store = MemoryKeeper;
 
-    ghost asks = { λ d. Some d.told.asks };
-
-    ghost files = { λ d. Some d.told.files };
-
-    ghost stores = { λ d. Some d.told.stores };
-
-    ghost to_come = { λ d. Some d.told.to_come };
-
-    ghost returned = { λ d. d.told.returned };
-
-    ghost faults = { λ d. d.calls.faults };
-
-    ghost store_faults = { λ d. d.store_faults };
+    ghost told = { failing_told };
 
     fn settings(&mut self, alloc: Global, name: &Text) -> Result<Bytes, DeskRefusal>
-        ensures bytes { IfOk result (λ bytes. bytes ≡ file_named name.now self.old.told.files) }
+        ensures bytes { IfOk result (λ bytes. bytes ≡ file_named name.now self.old.held.files) }
         ensures ok { IfOk result
-            (λ _. self.new.told ≡ asked (DeskAsk.Settings name.now) self.old.told) }
+            (λ _. self.new.held ≡ asked (DeskAsk.Settings name.now) self.old.held) }
         ensures err { IfErr result
-            (λ refusal. self.new.told
-            ≡ asked_in_vain refusal (DeskAsk.Settings name.now) self.old.told) }
+            (λ refusal. self.new.held
+            ≡ asked_in_vain refusal (DeskAsk.Settings name.now) self.old.held) }
         ensures store_failing { self.new.store_failing ≡ self.old.store_failing }
         ensures store_faults { self.new.store_faults ≡ self.old.store_faults }
         ensures calls { self.new.calls ≡ counted self.old.calls }
@@ -176,17 +164,17 @@ impl Desk for MemoryDesk {
         ensures store { IfOk result
             (λ store. store
             ≡ record {
-              rows = opening_rows (option_copied name.entry) self.old.told.stores;
+              rows = opening_rows (option_copied name.entry) self.old.held.stores;
               calls = record { made = 0; failing = self.old.store_failing; faults = 0 };
             }) }
         ensures ok { IfOk result
-            (λ _. self.new.told
+            (λ _. self.new.held
             ≡ asked (DeskAsk.Store (option_copied name.entry))
-            (with_stores (opened_as (option_copied name.entry) self.old.told.stores)
-            self.old.told)) }
+            (with_stores (opened_as (option_copied name.entry) self.old.held.stores)
+            self.old.held)) }
         ensures err { IfErr result
-            (λ refusal. self.new.told
-            ≡ asked_in_vain refusal (DeskAsk.Store (option_copied name.entry)) self.old.told) }
+            (λ refusal. self.new.held
+            ≡ asked_in_vain refusal (DeskAsk.Store (option_copied name.entry)) self.old.held) }
         ensures store_failing { self.new.store_failing ≡ self.old.store_failing }
         ensures store_faults { self.new.store_faults ≡ self.old.store_faults }
         ensures calls { self.new.calls ≡ counted self.old.calls }
@@ -208,10 +196,10 @@ impl Desk for MemoryDesk {
 
     fn listen(&mut self, alloc: Global, address: &Text) -> Result<(), DeskRefusal>
         ensures ok { IfOk result
-            (λ _. self.new.told ≡ asked (DeskAsk.Listen address.now) self.old.told) }
+            (λ _. self.new.held ≡ asked (DeskAsk.Listen address.now) self.old.held) }
         ensures err { IfErr result
-            (λ refusal. self.new.told
-            ≡ asked_in_vain refusal (DeskAsk.Listen address.now) self.old.told) }
+            (λ refusal. self.new.held
+            ≡ asked_in_vain refusal (DeskAsk.Listen address.now) self.old.held) }
         ensures store_failing { self.new.store_failing ≡ self.old.store_failing }
         ensures store_faults { self.new.store_faults ≡ self.old.store_faults }
         ensures calls { self.new.calls ≡ counted self.old.calls }
@@ -226,16 +214,16 @@ impl Desk for MemoryDesk {
     }
 
     fn next(&mut self, _alloc: Global) -> Result<Option<(MemorySource, MemorySink)>, DeskRefusal>
-        ensures fresh { (input : FailingUnread) (output : FailingWritten)
-            → result ≡ Ok (Some (input, output))
-            → (input.calls.faults ≡ 0) × (output.calls.faults ≡ 0) }
-        ensures to_come { HandsOut result (Some self.old.told.to_come)
-            (Some self.new.told.to_come) }
-        ensures returned { CountsOut result self.old.told.returned self.new.told.returned }
-        ensures asks { AddsAsk result DeskAsk.Next (Some self.old.told.asks)
-            (Some self.new.told.asks) }
-        ensures files { self.new.told.files ≡ self.old.told.files }
-        ensures stores { self.new.told.stores ≡ self.old.told.stores }
+        ensures fresh { IfOk result (λ next. IfSome next (λ pair.
+            AreFresh (failing_unread pair.0) (failing_written pair.1))) }
+        ensures to_come { Comes result (Some self.old.held.to_come)
+            (Some self.new.held.to_come) }
+        ensures returned { self.new.held.returned
+            ≡ out_after result self.old.held.returned }
+        ensures asks { Some self.new.held.asks
+            ≡ asks_after result DeskAsk.Next (Some self.old.held.asks) }
+        ensures files { self.new.held.files ≡ self.old.held.files }
+        ensures stores { self.new.held.stores ≡ self.old.held.stores }
         ensures store_failing { self.new.store_failing ≡ self.old.store_failing }
         ensures store_faults { self.new.store_faults ≡ self.old.store_faults }
         ensures calls { self.new.calls ≡ counted self.old.calls }

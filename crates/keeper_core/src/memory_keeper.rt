@@ -4,6 +4,7 @@ ghost use Rattle.std.specs.Prelude.{◌≡◌, ◌↔◌, Some, IfOk, IfErr, OnO
 ghost use Rattle.api_types.specs.Rows.{Fits, after};
 ghost use Rattle.keeper_core.specs.Calls.{counted, fails_next};
 ghost use Rattle.keeper_core.specs.Counts.{HasRefusalCause, IsFailure, IsWant};
+ghost use Rattle.keeper_core.specs.Kept.{failing_rows, sure_rows};
 
 use crate::calls::Calls;
 use crate::keeper::Keeper;
@@ -13,7 +14,7 @@ use net_addr::{Numbers, OutOfMemory};
 use std::alloc::Global;
 use std::marker::Model;
 
-/// Rows that are kept in memory, by a keeper that never fails. Contracts see it as its rows.
+/// Rows that are stored in memory, by a keeper that never fails. Contracts see it as its rows.
 #[derive(Drop)]
 pub struct SureKeeper {
     rows: Rows,
@@ -27,7 +28,7 @@ impl Model for SureKeeper {
     ghost view = { λ k. k.rows };
 }
 
-/// Rows that are kept in memory, by a keeper that fails in listed calls.
+/// Rows that are stored in memory, by a keeper that fails in listed calls.
 #[derive(Drop)]
 pub struct MemoryKeeper {
     inner: SureKeeper,
@@ -65,9 +66,7 @@ impl SureKeeper {
 }
 
 impl Keeper for SureKeeper {
-    ghost kept = { λ k. Some k };
-
-    ghost faults = { λ k. 0 };
+    ghost told = { sure_rows };
 
     fn load(&mut self, alloc: Global) -> Result<Rows, KeeperRefusal>
         ensures rows { IfOk result (λ r. r ≡ self.old) }
@@ -126,9 +125,7 @@ impl MemoryKeeper {
 }
 
 impl Keeper for MemoryKeeper {
-    ghost kept = { λ k. Some k.rows };
-
-    ghost faults = { λ k. k.calls.faults };
+    ghost told = { failing_rows };
 
     fn load(&mut self, alloc: Global) -> Result<Rows, KeeperRefusal>
         ensures rows { IfOk result (λ r. r ≡ self.old.rows) }

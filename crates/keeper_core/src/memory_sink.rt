@@ -4,6 +4,7 @@ ghost use Rattle.std.specs.Prelude.{◌≡◌, ◌↔◌, ◌<◌, ◌≤◌, []
 ghost use Rattle.std.specs.Io.KnownBytes.{WriteAppends};
 ghost use Rattle.keeper_core.specs.Calls.{counted, fails_next};
 ghost use Rattle.keeper_core.specs.Counts.{HasCause, HasRefusalCause, IsFailure, IsWant};
+ghost use Rattle.keeper_core.specs.Ends.{failing_written, sure_written};
 
 use crate::calls::Calls;
 use crate::refusal::{Failed, SinkRefusal};
@@ -63,11 +64,7 @@ impl SureSink {
 }
 
 impl Sink for SureSink {
-    ghost written = { λ s. Some s.written };
-
-    ghost flushed = { λ s. Some s.flushed };
-
-    ghost faults = { λ s. 0 };
+    ghost told = { sure_written };
 
     fn write(&mut self, piece: &[u8]) -> Result<usize, SinkRefusal>
         requires { 0 < length piece.now }
@@ -116,14 +113,17 @@ impl MemorySink {
     {
         self.inner.as_slice()
     }
+
+    /// How many calls failed.
+    pub fn faults(&self) -> u64
+        ensures { result ≡ self.now.calls.faults }
+    {
+        self.calls.faults
+    }
 }
 
 impl Sink for MemorySink {
-    ghost written = { λ s. Some s.written };
-
-    ghost flushed = { λ s. Some s.flushed };
-
-    ghost faults = { λ s. s.calls.faults };
+    ghost told = { failing_written };
 
     fn write(&mut self, piece: &[u8]) -> Result<usize, SinkRefusal>
         requires { 0 < length piece.now }

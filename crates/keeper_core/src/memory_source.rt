@@ -5,8 +5,10 @@ ghost use Rattle.std.specs.Io.{ReadsAtMost};
 ghost use Rattle.std.specs.Io.KnownBytes.{ReadConsumes};
 ghost use Rattle.keeper_core.specs.Calls.{counted, fails_next};
 ghost use Rattle.keeper_core.specs.Counts.{HasCause};
+ghost use Rattle.keeper_core.specs.Ends.{failing_unread, last_read, sure_unread};
 
 use crate::calls::Calls;
+use crate::last_read::LastRead;
 use crate::refusal::Failed;
 use crate::source::Source;
 use net_addr::{Bytes, Numbers};
@@ -18,6 +20,7 @@ pub struct SureSource {
     bytes: Bytes,
     at: usize,
     piece: usize,
+    last: LastRead,
 }
 
 impl Model for SureSource {
@@ -26,7 +29,8 @@ impl Model for SureSource {
 
     ghost Value = { Unread };
 
-    ghost view = { λ s. record { left = drop s.at s.bytes; piece = s.piece } };
+    ghost view = { λ s.
+        record { left = drop s.at s.bytes; piece = s.piece; last = s.last } };
 
     ghost invariant = { λ s. (s.at ≤ length s.bytes) × (0 < s.piece) };
 }
@@ -35,6 +39,7 @@ impl Model for SureSource {
 #[derive(Drop)]
 pub struct MemorySource {
     inner: SureSource,
+    last: LastRead,
     calls: Calls,
 }
 
@@ -43,7 +48,13 @@ impl Model for MemorySource {
 
     ghost Value = { FailingUnread };
 
-    ghost view = { λ s. record { left = s.inner.left; piece = s.inner.piece; calls = s.calls } };
+    ghost view = { λ s.
+        record {
+          left = s.inner.left;
+          piece = s.inner.piece;
+          last = s.last;
+          calls = s.calls;
+        } };
 }
 
 /// Copies as many bytes as fit to the front of a buffer, and answers how many.
@@ -60,25 +71,25 @@ impl SureSource {
     /// A source that gives these bytes, at most `piece` of them in one read.
     pub fn make(bytes: Bytes, piece: usize) -> SureSource
         requires { 0 < piece }
-        ensures { result ≡ record { left = bytes; piece = piece } }
+        ensures { result ≡ record { left = bytes; piece = piece; last = LastRead.Unread } }
     {
         SureSource {
             bytes,
             at: 0,
             piece,
+            last: LastRead::Unread,
         }
     }
 }
 
 impl Source for SureSource {
-    ghost left = { λ s. Some s.left };
-
-    ghost faults = { λ s. 0 };
+    ghost told = { sure_unread };
 
     fn read(&mut self, buf: &mut [u8]) -> Result<usize, Failed>
         requires { 0 < length buf.old }
         ensures bound { ReadsAtMost result buf.new }
         ensures bytes { ReadConsumes (Some self.old.left) (Some self.new.left) result buf.new }
+        ensures last { self.new.last ≡ last_read result }
         ensures cause { HasCause 0 0 result }
         ensures piece { self.new.piece ≡ self.old.piece }
         ensures count { result
@@ -88,7 +99,9 @@ impl Source for SureSource {
         let (_, rest) = self.bytes.as_slice().split_at(self.at);
         let count = copy_front(rest, &mut buf[..limit]);
         self.at += count;
-        Ok(count)
+        let answer = Ok(count);
+        self.last = LastRead::of(&answer);
+        answer
     }
 }
 
@@ -101,22 +114,26 @@ impl MemorySource {
             ≡ record {
               left = bytes;
               piece = piece;
+              last = LastRead.Unread;
               calls = record { made = 0; failing = failing; faults = 0 };
             } }
     {
         MemorySource {
             inner: SureSource::make(bytes, piece),
+            last: LastRead::Unread,
             calls: Calls::make(failing),
         }
     }
-}
 
-impl Source for MemorySource {
-    ghost left = { λ s. Some s.left };
+    /// How many calls failed.
+    pub fn faults(&self) -> u64
+        ensures { result ≡ self.now.calls.faults }
+    {
+        self.calls.faults
+    }
 
-    ghost faults = { λ s. s.calls.faults };
-
-    fn read(&mut self, buf: &mut [u8]) -> Result<usize, Failed>
+    // A read that is counted, and fails where its number is listed.
+    fn read_counted(&mut self, buf: &mut [u8]) -> Result<usize, Failed>
         requires { 0 < length buf.old }
         ensures bound { ReadsAtMost result buf.new }
         ensures bytes { ReadConsumes (Some self.old.left) (Some self.new.left) result buf.new }
@@ -129,5 +146,26 @@ impl Source for MemorySource {
     {
         self.calls.count()?;
         self.inner.read(buf)
+    }
+}
+
+impl Source for MemorySource {
+    ghost told = { failing_unread };
+
+    fn read(&mut self, buf: &mut [u8]) -> Result<usize, Failed>
+        requires { 0 < length buf.old }
+        ensures bound { ReadsAtMost result buf.new }
+        ensures bytes { ReadConsumes (Some self.old.left) (Some self.new.left) result buf.new }
+        ensures last { self.new.last ≡ last_read result }
+        ensures cause { HasCause self.old.calls.faults self.new.calls.faults result }
+        ensures piece { self.new.piece ≡ self.old.piece }
+        ensures count { IfOk result
+            (λ n. n ≡ min (min self.old.piece (length buf.old)) (length self.old.left)) }
+        ensures calls { self.new.calls ≡ counted self.old.calls }
+        ensures fails { IsErr result ↔ IsTrue (fails_next self.old.calls) }
+    {
+        let answer = self.read_counted(buf);
+        self.last = LastRead::of(&answer);
+        answer
     }
 }

@@ -1,8 +1,8 @@
 //! A desk in memory that never fails.
 
-ghost use Rattle.std.specs.Prelude.{◌≡◌, Some, None, [], map, IfOk, IfErr, OnOk, OnErr, option_map, option_copied};
+ghost use Rattle.std.specs.Prelude.{◌≡◌, Some, None, [], IfOk, IfErr, OnOk, OnErr, option_map, option_copied};
 ghost use Rattle.keeper_core.specs.Counts.{IsWant};
-ghost use Rattle.keeper_core.specs.Desk.{file_named, opening_rows, opened_as, asked, with_stores, sure_end};
+ghost use Rattle.keeper_core.specs.Desk.{asked, file_named, opened_as, opening_rows, sure_told, with_stores};
 
 use crate::ask::DeskAsk;
 use crate::book::Book;
@@ -28,9 +28,9 @@ pub struct SureDesk {
 
 impl Model for SureDesk {
     ghost use Rattle.keeper_core.specs.Ends.{Unread, Written};
-    ghost use Rattle.keeper_core.specs.Desk.{DeskTold};
+    ghost use Rattle.keeper_core.specs.Desk.{DeskHeld};
 
-    ghost Value = { DeskTold (Unread × Written) };
+    ghost Value = { DeskHeld (Unread × Written) };
 
     ghost view = { λ d. d.book };
 }
@@ -76,7 +76,7 @@ impl SureDesk {
     /// The connections that were handed back, in order, where they are told. They are until one is
     /// handed back that never was handed out, and for which there is no room.
     pub fn ended(&self) -> Option<&[(SureSource, SureSink)]>
-        ensures { option_map (λ ended. map sure_end ended.now) result
+        ensures { option_map (λ ended. ended.now) result
             ≡ option_map (λ returned. returned.ended) self.now.returned }
     {
         self.book.ended()
@@ -90,19 +90,7 @@ impl Desk for SureDesk {
 
     type Store = SureKeeper;
 
-    ghost asks = { λ d. Some d.asks };
-
-    ghost files = { λ d. Some d.files };
-
-    ghost stores = { λ d. Some d.stores };
-
-    ghost to_come = { λ d. Some d.to_come };
-
-    ghost returned = { λ d. d.returned };
-
-    ghost faults = { λ d. 0 };
-
-    ghost store_faults = { λ d. 0 };
+    ghost told = { sure_told };
 
     fn settings(&mut self, alloc: Global, name: &Text) -> Result<Bytes, DeskRefusal>
         ensures bytes { IfOk result (λ bytes. bytes ≡ file_named name.now self.old.files) }

@@ -183,9 +183,7 @@ impl<S: Alter> SqlKeeper<S> {
 }
 
 impl<S: Alter> Keeper for SqlKeeper<S> {
-    ghost kept = { λ k. None };
-
-    ghost faults = { λ k. k };
+    ghost told = { λ k. record { rows = None; faults = k } };
 
     fn load(&mut self, alloc: Global) -> Result<Rows, KeeperRefusal> {
         match read_rows(alloc, &mut self.conn) {

@@ -1,7 +1,6 @@
 -- What frames come to at hosts that hold the version of now, and what they leave.
-use Rattle.std.proofs.Common.{◌≡◌, ℕ, zero, suc, List, [], ◌∷◌, ◌++◌, Option, Some, refl, ap, sym, subst, ◌∙◌, map, length, ◌≤◌}
+use Rattle.std.proofs.Common.{◌≡◌, ℕ, suc, List, [], ◌∷◌, ◌++◌, refl, ap, sym, subst, ◌∙◌, map, length, ◌≤◌}
 use Rattle.std.specs.List.{filter_map}
-use Rattle.api_types.specs.Lists.{Each}
 use Rattle.api_types.specs.declared.call.Caller.{Caller}
 use Rattle.api_ml2.specs.Carrying.{carries}
 use Rattle.plane_types.specs.Crossing.{CrossesAtRouters}
@@ -64,14 +63,3 @@ added_hosts place (a ∷ agents) fresh = λ j. record { name = a.name; tables = 
 
 pub sent_hosts : (w : World) (event : Event) → hosts_of (step w (Send event)) ≡ hosts_after (hosts_of w) event
 sent_hosts w event = added_hosts 0 w.agents (fabric_verdict (hosts_of w) event).fresh
-
-added_held : (held : Option ℕ) (place : ℕ) (agents : List Agent) (fresh : List Made) → Each (λ (a : Agent). a.held ≡ held) agents → Each (λ (a : Agent). a.held ≡ held) (add_from place agents fresh)
-added_held held place [] fresh each k a at = each k a at
-added_held held place (b ∷ agents) fresh each zero a at = ap (λ (x : Agent). x.held) (sym (same at)) ∙ each 0 b refl
-  where
-    same : Some (record b { entries = b.entries ++ filter_map (made_at place) fresh }) ≡ Some a → record b { entries = b.entries ++ filter_map (made_at place) fresh } ≡ a
-    same h = cc
-added_held held place (b ∷ agents) fresh each (suc k) a at = added_held held (suc place) agents fresh (λ i x here. each (suc i) x here) k a at
-
-pub sent_synced : (w : World) → IsSynced w → (event : Event) → IsSynced (step w (Send event))
-sent_synced w synced event = added_held (Some w.history.version) 0 w.agents (fabric_verdict (hosts_of w) event).fresh synced

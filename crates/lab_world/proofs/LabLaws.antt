@@ -20,15 +20,15 @@ use Rattle.world_laws.specs.World.{World}
 use Rattle.lab_world.specs.Lab.{Answered, Barred, LabOutcome, delivered, event_refusal, for_admins, host_named, lab_outcome, unless_barred, with_host}
 use Rattle.lab_world.specs.World.{ByLab, IsHandled, MovesBy}
 
--- every step but a change of the rows
-abbrev pub IsOfHosts : Step → Type 0
-IsOfHosts (Accept left_out change) = ⊥
-IsOfHosts (Deliver name number) = ⊤
-IsOfHosts (Resync name) = ⊤
-IsOfHosts (Restart name) = ⊤
-IsOfHosts (Forget name) = ⊤
-IsOfHosts Settle = ⊤
-IsOfHosts (Send event) = ⊤
+-- the step of the hosts that a call asks for
+abbrev pub IsAskedBy : LabCall → Step → Type 0
+IsAskedBy c (Accept change) = ⊥
+IsAskedBy c (Deliver name number) = c ≡ call.Deliver name number
+IsAskedBy c (Resync name) = c ≡ call.Resync name
+IsAskedBy c (Restart name) = c ≡ call.Restart name
+IsAskedBy c (Forget name) = c ≡ call.Forget name
+IsAskedBy c Settle = c ≡ call.Settle
+IsAskedBy c (Send event) = c ≡ call.Frames event
 
 -- this holds of the world that an answer leads to
 abbrev pub LeadsTo : (World → Type 0) → LabOutcome → Type 0
@@ -53,36 +53,36 @@ delivered_leads : (P : World → Type 0) (w : World) (name : Text) (number : Ver
 delivered_leads P w name number a None leads = tt
 delivered_leads P w name number a (Some c) leads = leads
 
-pub lab_leads : (P : World → Type 0) (w : World) → P w → ((s : Step) → IsOfHosts s → P (step w s)) → (caller : Caller) (c : LabCall) → LeadsTo P (lab_outcome w caller c)
-lab_leads P w now steps caller (call.Frames event) = unless_leads P (event_refusal w.history.rows caller event) _ (steps (Send event) tt)
-lab_leads P w now steps caller (call.Explain event) = unless_leads P (event_refusal w.history.rows caller event) _ now
-lab_leads P w now steps caller call.Hosts = admin_leads P caller _ now
-lab_leads P w now steps caller (call.Tables name) = host_leads P caller name (host_named w name) _ (λ a. now)
-lab_leads P w now steps caller (call.Deliver name number) =
-    host_leads P caller name (host_named w name) _ (λ a. delivered_leads P w name number a (change_at w.history number) (steps (Deliver name number) tt))
-lab_leads P w now steps caller (call.Resync name) = host_leads P caller name (host_named w name) _ (λ a. steps (Resync name) tt)
-lab_leads P w now steps caller (call.Restart name) = host_leads P caller name (host_named w name) _ (λ a. steps (Restart name) tt)
-lab_leads P w now steps caller (call.Forget name) = host_leads P caller name (host_named w name) _ (λ a. steps (Forget name) tt)
-lab_leads P w now steps caller call.Settle = admin_leads P caller _ (steps Settle tt)
-lab_leads P w now steps caller call.Version = tt
-lab_leads P w now steps caller (call.Change number) = tt
-lab_leads P w now steps caller (call.Page version number) = tt
+pub lab_leads : (P : World → Type 0) (w : World) → P w → (caller : Caller) (c : LabCall) → ((s : Step) → IsAskedBy c s → P (step w s)) → LeadsTo P (lab_outcome w caller c)
+lab_leads P w now caller (call.Frames event) steps = unless_leads P (event_refusal w.history.rows caller event) _ (steps (Send event) refl)
+lab_leads P w now caller (call.Explain event) steps = unless_leads P (event_refusal w.history.rows caller event) _ now
+lab_leads P w now caller call.Hosts steps = admin_leads P caller _ now
+lab_leads P w now caller (call.Tables name) steps = host_leads P caller name (host_named w name) _ (λ a. now)
+lab_leads P w now caller (call.Deliver name number) steps =
+    host_leads P caller name (host_named w name) _ (λ a. delivered_leads P w name number a (change_at w.history number) (steps (Deliver name number) refl))
+lab_leads P w now caller (call.Resync name) steps = host_leads P caller name (host_named w name) _ (λ a. steps (Resync name) refl)
+lab_leads P w now caller (call.Restart name) steps = host_leads P caller name (host_named w name) _ (λ a. steps (Restart name) refl)
+lab_leads P w now caller (call.Forget name) steps = host_leads P caller name (host_named w name) _ (λ a. steps (Forget name) refl)
+lab_leads P w now caller call.Settle steps = admin_leads P caller _ (steps Settle refl)
+lab_leads P w now caller call.Version steps = tt
+lab_leads P w now caller (call.Change number) steps = tt
+lab_leads P w now caller (call.Page version number) steps = tt
 
 delivery_keeps_rows : (w : World) (name : Text) (number : Version) (c : Option (List Item)) → (deliver_kept w name number c).history.rows ≡ w.history.rows
 delivery_keeps_rows w name number None = refl
 delivery_keeps_rows w name number (Some c) = refl
 
-steps_keep_rows : (w : World) (s : Step) → IsOfHosts s → (step w s).history.rows ≡ w.history.rows
-steps_keep_rows w (Accept left_out change) at = absurd at
-steps_keep_rows w (Deliver name number) at = delivery_keeps_rows w name number (change_at w.history number)
-steps_keep_rows w (Resync name) at = refl
-steps_keep_rows w (Restart name) at = refl
-steps_keep_rows w (Forget name) at = refl
-steps_keep_rows w Settle at = refl
-steps_keep_rows w (Send event) at = refl
+steps_keep_rows : (w : World) (c : LabCall) (s : Step) → IsAskedBy c s → (step w s).history.rows ≡ w.history.rows
+steps_keep_rows w c (Accept change) asked = absurd asked
+steps_keep_rows w c (Deliver name number) asked = delivery_keeps_rows w name number (change_at w.history number)
+steps_keep_rows w c (Resync name) asked = refl
+steps_keep_rows w c (Restart name) asked = refl
+steps_keep_rows w c (Forget name) asked = refl
+steps_keep_rows w c Settle asked = refl
+steps_keep_rows w c (Send event) asked = refl
 
 pub lab_keeps_rows : (w v : World) (caller : Caller) (c : LabCall) (answer : LabAnswer) → lab_outcome w caller c ≡ Answered answer v → v.history.rows ≡ w.history.rows
-lab_keeps_rows w v caller c answer is = subst (LeadsTo (λ (x : World). x.history.rows ≡ w.history.rows)) is (lab_leads (λ (x : World). x.history.rows ≡ w.history.rows) w refl (steps_keep_rows w) caller c)
+lab_keeps_rows w v caller c answer is = subst (LeadsTo (λ (x : World). x.history.rows ≡ w.history.rows)) is (lab_leads (λ (x : World). x.history.rows ≡ w.history.rows) w refl caller c (steps_keep_rows w c))
 
 -- so they do where a call of the lab is answered
 pub answer_keeps_rows : (w v : World) (caller : Caller) (c : LabCall) (answer : LabAnswer) → IsHandled (ByLab (lab_outcome w caller c)) w v (LabDone answer) → v.history.rows ≡ w.history.rows

@@ -10,4 +10,6 @@ pub mod Planning
 pub mod MessageLaws
 pub mod LabLaws
 pub mod WorldLaws
+pub mod SyncLaws
 pub mod AskApart
+mod Following

@@ -23,7 +23,7 @@ use Rattle.bus_core.specs.Kept.{IsGone, Kept, change_of, first_of}
 use Rattle.bus_core.proofs.HistoryLaw.{gone_none}
 use Rattle.world_laws.specs.Steps.{Deliver, Forget, Resync, Restart, Send, Settle, Step, add_from, after_settle, at_host, deliver_kept, step}
 use Rattle.world_laws.specs.World.{World}
-use Rattle.world_laws.proofs.MeaningLaw.{settle_syncs}
+use Rattle.world_laws.proofs.SyncLaw.{settle_syncs}
 use Rattle.lab_world.specs.Lab.{Answered, Barred, IsBarred, LabOutcome, delivered, event_refusal, for_admins, host_named, host_state, lab_outcome, stepped, with_host}
 use Rattle.lab_world.specs.Hosts.{IsNamedAt, at_place, named_node, settle_each, state_at_version, state_with}
 use Rattle.lab_world.specs.Parts.{AreParts, world_seen}

@@ -15,8 +15,8 @@ pub told_handled : (w : World) (outcome : Outcome) (answer : Answer) → PlansAs
 told_handled w outcome answer told = record { tells = inl told; moves = subst (λ (o : Outcome). MovesBy w (ByMachine o) w) (sym told) refl }
 
 pub moved_handled : (w v : World) (outcome : Outcome) (answer : Answer) (change : List Item) → Leads w.settings (state_of w) outcome change (reply_of answer)
-    → (left_out : List (List ℕ)) × (v ≡ step w (Accept left_out change)) → IsHandled (ByMachine outcome) w v (Done answer)
-moved_handled w v outcome answer change leads (left_out, is) = record {
+    → v ≡ step w (Accept change) → IsHandled (ByMachine outcome) w v (Done answer)
+moved_handled w v outcome answer change leads is = record {
   tells = inr (after w.history.rows change, leads.moved);
-  moves = subst (λ (o : Outcome). MovesBy w (ByMachine o) v) (sym leads.moved) (record { change = change; left_out = left_out; fits = leads.fits; leads = refl; is = is });
+  moves = subst (λ (o : Outcome). MovesBy w (ByMachine o) v) (sym leads.moved) (record { change = change; fits = leads.fits; leads = refl; is = is });
 }

@@ -1,18 +1,18 @@
 -- What is done with all hosts one by one, as the world sees them.
-use Rattle.std.proofs.Common.{◌⊎◌, ◌≡◌, ℕ, suc, ◌+◌, List, [], ◌∷◌, ◌++◌, Bool, true, false, cond, Option, Some, refl, ap, sym, ◌∙◌, arith, length, map, slice_get}
+use Rattle.std.proofs.Common.{◌≡◌, ℕ, zero, suc, ◌+◌, List, [], ◌∷◌, ◌++◌, Bool, true, false, cond, Option, Some, refl, ap, sym, subst, ◌∙◌, arith, length, map, slice_get}
 use Rattle.std.specs.Prelude.{flat_map}
 use Rattle.std.specs.List.{filter_map}
 use Rattle.std.specs.Str.{bytes_eq}
 use Rattle.api_types.specs.Lists.{Each}
 use Rattle.api_types.specs.RowLists.{RowLists}
-use Rattle.api_types.specs.declared.change.Item.{Item}
 use Rattle.plane_types.specs.Hosts.{all_entries}
-use Rattle.plane_types.specs.Node.{Agent, Node, Ready, after_change, after_resync, agents_of, host_of, ready_for, with_entries}
+use Rattle.plane_types.specs.Node.{Agent, Node, Ready, after_resync, agents_of, host_of, ready_for, with_entries}
 use Rattle.plane_types.specs.Verdicts.{made_at}
 use Rattle.plane_types.specs.declared.verdict.Made.{Made}
-use Rattle.world_laws.specs.Steps.{MayHaveHeard, add_from, after_settle, at_host, holds}
-use Rattle.lab_world.specs.Hosts.{made_for, name_and_tags, settle_each, state_at_version, state_with}
+use Rattle.world_laws.specs.Steps.{add_from, after_settle, at_host, holds}
+use Rattle.lab_world.specs.Hosts.{AreNextFor, IsNextFor, after_next, made_for, name_and_tags, settle_each, state_at_version, state_with, take_each}
 use Rattle.lab_world.specs.Lab.{host_state}
+use Rattle.api_types.proofs.ListLemmas.{some_equal}
 use Rattle.lab_world.proofs.SoFar.{Stepwise}
 
 later : {S : Type 0} (step : ℕ → S → S → Type 0) (x y : S) (old new : List S) → Stepwise step (x ∷ old) (y ∷ new) → Stepwise (λ k. step (suc k)) old new
@@ -22,17 +22,36 @@ pub entries_joined : (nodes : List Node) → flat_map (λ (n : Node). n.agent.en
 entries_joined [] = refl
 entries_joined (n ∷ nodes) = λ j. n.agent.entries ++ entries_joined nodes j
 
--- ---- told
+-- ---- given the next rows
 
--- a host is told a change, or found no memory and is as it was
-abbrev pub IsHeardAt : ℕ → List Item → ℕ → Node → Node → Type 0
-IsHeardAt number c k n m = (m.agent ≡ after_change number c n.agent) ⊎ (m.agent ≡ n.agent)
+-- a host is given what was made ready for it, if anything
+abbrev pub IsTakenAt : List (Option Ready) → ℕ → Node → Node → Type 0
+IsTakenAt ready k n m = (o : Option Ready) → slice_get ready k ≡ Some o → m.agent ≡ after_next o n.agent
 
-pub all_heard : (number : ℕ) (c : List Item) (old new : List Node) → Stepwise (IsHeardAt number c) old new → MayHaveHeard number c (agents_of old) (agents_of new)
-all_heard number c [] [] s = tt
-all_heard number c [] (y ∷ new) s = absurd (omega (arith, s.length))
-all_heard number c (x ∷ old) [] s = absurd (omega (arith, s.length))
-all_heard number c (x ∷ old) (y ∷ new) s = (s.each 0 x y refl refl, all_heard number c old new (later (IsHeardAt number c) x y old new s))
+pub next_long : (ready : List (Option Ready)) (nodes : List Node) → AreNextFor ready nodes → length ready ≡ length nodes
+next_long [] [] h = refl
+next_long [] (n ∷ nodes) h = absurd h
+next_long (o ∷ ready) [] h = absurd h
+next_long (o ∷ ready) (n ∷ nodes) h = ap (λ k. suc k) (next_long ready nodes h.1)
+
+pub next_at : (ready : List (Option Ready)) (nodes : List Node) → AreNextFor ready nodes → (k : ℕ) (o : Option Ready) (n : Node)
+    → slice_get ready k ≡ Some o → slice_get nodes k ≡ Some n → IsNextFor o n.agent
+next_at [] [] h k o n at bt = cc
+next_at [] (x ∷ nodes) h k o n at bt = absurd h
+next_at (p ∷ ready) [] h k o n at bt = absurd h
+next_at (p ∷ ready) (x ∷ nodes) h zero o n at bt =
+    subst (λ (a : Agent). IsNextFor o a) (ap (λ (m : Node). m.agent) (some_equal x n bt)) (subst (λ (q : Option Ready). IsNextFor q x.agent) (some_equal p o at) h.0)
+next_at (p ∷ ready) (x ∷ nodes) h (suc k) o n at bt = next_at ready nodes h.1 k o n at bt
+
+pub all_taken : (ready : List (Option Ready)) (old new : List Node) → length ready ≡ length old → Stepwise (IsTakenAt ready) old new
+    → agents_of new ≡ take_each ready (agents_of old)
+all_taken [] [] [] long s = refl
+all_taken [] [] (y ∷ new) long s = absurd (omega (arith, s.length))
+all_taken [] (x ∷ old) new long s = absurd (omega (arith, long))
+all_taken (o ∷ ready) [] new long s = absurd (omega (arith, long))
+all_taken (o ∷ ready) (x ∷ old) [] long s = absurd (omega (arith, s.length))
+all_taken (o ∷ ready) (x ∷ old) (y ∷ new) long s =
+    λ j. s.each 0 x y refl refl o refl j ∷ all_taken ready old new (omega (arith, long)) (later (IsTakenAt (o ∷ ready)) x y old new s) j
 
 -- ---- settled
 

@@ -11,6 +11,7 @@ use Rattle.net_settings.specs.Rules.{MeetsRules}
 use Rattle.net_settings.specs.Settings.{SettingsParts}
 use Rattle.plane_types.specs.declared.ask.Ask.{Ask}
 use Rattle.plane_types.specs.declared.ask.Ask.TheVariants.{Api, Lab}
+use Rattle.plane_types.specs.declared.ask.LabCall.{LabCall}
 use Rattle.api_machine.specs.Kept.{AreKept}
 use Rattle.api_machine.specs.WholeStep.{api_step}
 use Rattle.api_machine.proofs.CallsKept.{call_kept}
@@ -21,7 +22,7 @@ use Rattle.world_laws.proofs.AgentLaw.{sound_now}
 use Rattle.world_laws.proofs.StepLaw.{opened_stands, step_kept}
 use Rattle.lab_world.specs.Lab.{Answered, Barred, LabOutcome, lab_outcome}
 use Rattle.lab_world.specs.World.{ByLab, ByMachine, IsAskInForm, MovesBy, ask_outcome, state_of}
-use Rattle.lab_world.proofs.LabLaws.{IsOfHosts, LeadsTo, lab_leads}
+use Rattle.lab_world.proofs.LabLaws.{IsAskedBy, LeadsTo, lab_leads}
 
 -- ---- a call of the API
 
@@ -34,18 +35,18 @@ by_call w v is (Told reply) kept moves = subst IsWorld (sym moves) is
 by_call w v is (Moved rows reply) kept moves =
     let k = kept rows reply refl in
     let sound : AreSound w.settings rows = record { consistent = k.consistent; typed = k.typed; carried = k.carried (sound_of w is).carried } in
-    subst IsWorld (sym moves.is) (step_kept w (Accept moves.left_out moves.change) is (moves.fits, subst (AreSound w.settings) moves.leads sound))
+    subst IsWorld (sym moves.is) (step_kept w (Accept moves.change) is (moves.fits, subst (AreSound w.settings) moves.leads sound))
 
 -- ---- a call of the lab
 
-may : (w : World) (s : Step) → IsOfHosts s → May w s
-may w (Accept left_out change) of_hosts = absurd of_hosts
-may w (Deliver name number) of_hosts = tt
-may w (Resync name) of_hosts = tt
-may w (Restart name) of_hosts = tt
-may w (Forget name) of_hosts = tt
-may w Settle of_hosts = tt
-may w (Send event) of_hosts = tt
+may : (w : World) (c : LabCall) (s : Step) → IsAskedBy c s → May w s
+may w c (Accept change) asked = absurd asked
+may w c (Deliver name number) asked = tt
+may w c (Resync name) asked = tt
+may w c (Restart name) asked = tt
+may w c (Forget name) asked = tt
+may w c Settle asked = tt
+may w c (Send event) asked = tt
 
 by_lab : (w v : World) → IsWorld w → (o : LabOutcome) → LeadsTo IsWorld o → MovesBy w (ByLab o) v → IsWorld v
 by_lab w v is (Barred refusal) leads moves = subst IsWorld (sym moves) is
@@ -55,7 +56,7 @@ pub ask_keeps : (caller : Caller) (ask : Ask) (v w : World) → IsAskInForm call
 ask_keeps caller (Api c) v w form is moves =
     let sound = sound_of v is in
     by_call v w is (api_step v.settings (state_of v) caller c) (λ rows reply e. call_kept v.settings is.rules c (state_of v) caller rows reply sound.consistent sound.typed form e) moves
-ask_keeps caller (Lab c) v w form is moves = by_lab v w is (lab_outcome v caller c) (lab_leads IsWorld v is (λ s of_hosts. step_kept v s is (may v s of_hosts)) caller c) moves
+ask_keeps caller (Lab c) v w form is moves = by_lab v w is (lab_outcome v caller c) (lab_leads IsWorld v is caller c (λ s asked. step_kept v s is (may v c s asked))) moves
 
 -- ---- the first world
 

@@ -1,7 +1,8 @@
 -- What is done at one host of a list, and with all of them one by one.
-use Rattle.std.specs.Prelude.{◌≡◌, ℕ, zero, suc, true, List, [], ◌∷◌, Option, Some, find, map, slice_get, if◌then◌else◌}
+use Rattle.std.specs.Prelude.{◌≡◌, ℕ, zero, suc, ◌&&◌, Bool, true, not, ⊤, List, [], ◌∷◌, Option, None, Some, find, map, slice_get, if◌then◌else◌}
 use Rattle.std.specs.Str.{bytes_eq}
-use Rattle.plane_types.specs.Node.{Agent, Node, Ready}
+use Rattle.api_types.specs.RowLists.{RowLists}
+use Rattle.plane_types.specs.Node.{Agent, Node, Ready, after_resync, follows, ready_for}
 use Rattle.plane_types.specs.declared.ask.HostState.{HostState}
 use Rattle.plane_types.specs.declared.table.TagRow.{TagRow}
 use Rattle.world_laws.specs.Steps.{after_settle}
@@ -43,6 +44,31 @@ name_and_tags a = (a.name, a.tables.tags)
 
 abbrev pub AreFor : List Ready → List Node → Type 0
 AreFor ready nodes = map made_for ready ≡ map (λ (n : Node). name_and_tags n.agent) nodes
+
+-- what a host is given with the rows of a version, where it holds the one before and delivery isn't
+-- by hand alone
+abbrev pub next_for : Bool → ℕ → RowLists → Agent → Option Ready
+next_for manual n rows a =
+    if not manual && follows n a.held then Some (ready_for n rows a) else None
+
+abbrev pub IsNextFor : Option Ready → Agent → Type 0
+IsNextFor None a = ⊤
+IsNextFor (Some r) a = (r.name ≡ a.name) × (r.old ≡ a.tables.tags)
+
+abbrev pub AreNextFor : List (Option Ready) → List Node → Type 0
+AreNextFor [] [] = ⊤
+AreNextFor [] (n ∷ nodes) = ⊥
+AreNextFor (o ∷ ready) [] = ⊥
+AreNextFor (o ∷ ready) (n ∷ nodes) = IsNextFor o n.agent × AreNextFor ready nodes
+
+abbrev pub after_next : Option Ready → Agent → Agent
+after_next None a = a
+after_next (Some r) a = after_resync r.version r.rows a
+
+abbrev pub take_each : List (Option Ready) → List Agent → List Agent
+take_each [] agents = agents
+take_each (o ∷ ready) [] = []
+take_each (o ∷ ready) (a ∷ agents) = after_next o a ∷ take_each ready agents
 
 -- each is given the rows that were made ready for it, where it doesn't hold the version
 abbrev pub settle_each : ℕ → List Ready → List Agent → List Agent

@@ -1,7 +1,6 @@
 -- What a server makes of an ask: the machine's step, which is a message to its hosts, or what the
 -- lab answers.
 use Rattle.std.specs.Prelude.{◌≡◌, ◌⊎◌, Bool, true, false, List, Result, Ok, Err, ⊤}
-use Rattle.net_addr.specs.Words.{Text}
 use Rattle.api_types.specs.Outcome.{Outcome, Refused as RefusedWith, Told, Moved}
 use Rattle.api_types.specs.Printed.{reply_of}
 use Rattle.api_types.specs.Refusing.{answer_alone}
@@ -43,13 +42,12 @@ IsAskInForm caller (Api call) = IsInForm caller call
 IsAskInForm caller (Lab call) = ⊤
 
 -- an accepted call: some change that fits the rows leads to the rows of its outcome; it is kept as
--- a message, and in automatic delivery each host is told it but some that find no memory
+-- a message, and in automatic delivery each host is told it
 pub record Accepts (w : World) (rows : RowLists) (v : World) : Type 0 where
   pub change : List Item
-  pub left_out : List Text
   pub fits : Fits w.history.rows change
   pub leads : rows ≡ after w.history.rows change
-  pub is : v ≡ step w (Accept left_out change)
+  pub is : v ≡ step w (Accept change)
 
 -- how the world moves with an outcome
 abbrev pub MovesBy : World → AskOutcome → World → Type 0

@@ -1,11 +1,12 @@
 //! Calls of the API, whose changes are kept, put in place and told to the hosts.
-ghost use Rattle.std.specs.Prelude.{◌≡◌, ◌⊎◌, ◌-◌, ◌^◌, ◌<◌, ◌≤◌, IfErr, IfOk, List, OnErr, OnOk, true, ℕ, is_some};
+ghost use Rattle.std.specs.Prelude.{◌≡◌, ◌⊎◌, ◌-◌, ◌^◌, ◌<◌, ◌≤◌, IfErr, IfOk, OnErr, OnOk, true};
 ghost use Rattle.api_types.specs.Outcome.{Refused as RefusedWith};
 ghost use Rattle.api_types.specs.Rows.{Fits, after};
 ghost use Rattle.api_machine.specs.Kept.{AreKept};
 ghost use Rattle.api_machine.specs.WholeStep.{api_step};
 ghost use Rattle.call_parts.specs.InForm.{IsInForm};
 ghost use Rattle.keeper_core.specs.Counts.{RoseBy, Tells};
+ghost use Rattle.keeper_core.specs.Kept.{IsStored};
 ghost use Rattle.world_laws.specs.Steps.{Accept, step};
 ghost use Rattle.lab_world.specs.World.{ByMachine, IsHandled, is_change, state_of};
 
@@ -25,7 +26,7 @@ impl World {
         caller: &Caller,
         call: &Call,
     ) -> Result<Answer, Refusal>
-        requires kept { Tells (K.kept keeper.old) self.old.history.rows }
+        requires kept { Tells (K.told keeper.old).rows self.old.history.rows }
         requires in_form { IsInForm caller.now call.now }
         ensures ok { IfOk result
             (λ answer.
@@ -47,10 +48,9 @@ impl World {
             (λ refusal. refusal ≡ Refusal.StoreFault
             → (is_change (ByMachine
             (api_step self.old.settings (state_of self.old) caller.now call.now))
-            ≡ true) × RoseBy 1 (K.faults keeper.old) (K.faults keeper.new)) }
-        ensures later { K.faults keeper.old ≤ K.faults keeper.new }
-        ensures kept { Tells (K.kept keeper.new) self.new.history.rows }
-        ensures told { is_some (K.kept keeper.new) ≡ is_some (K.kept keeper.old) }
+            ≡ true) × RoseBy 1 (K.told keeper.old).faults (K.told keeper.new).faults) }
+        ensures later { (K.told keeper.old).faults ≤ (K.told keeper.new).faults }
+        ensures kept { IsStored self.new.history.rows (K.told keeper.old) (K.told keeper.new) }
     {
         let _world = self.rows(); // for the proof: brings in the world's invariant
         let Planned { change, answer } = self.machine.plan(alloc, caller, call)?;
@@ -60,38 +60,38 @@ impl World {
         Ok(answer)
     }
 
-    // Hands a planned change to the keeper, puts it in place, tells it to the hosts and keeps it as
-    // a message, or leaves all as it is.
+    // Makes all ready for a planned change, at the hosts too, hands it to the keeper, puts it in
+    // place, tells it to the hosts and keeps it as a message, or leaves all as it is.
     fn keep<K: Keeper>(
         &mut self,
         alloc: Global,
         keeper: &mut K,
         change: Change,
     ) -> Result<(), Refusal>
-        requires kept { Tells (K.kept keeper.old) self.old.history.rows }
+        requires kept { Tells (K.told keeper.old).rows self.old.history.rows }
         requires fits { Fits self.old.history.rows change }
         requires sound { AreKept self.old.settings self.old.history.rows
             (after self.old.history.rows change) }
         requires room { self.old.history.version < 2 ^ 64 - 1 }
-        ensures ok { OnOk result
-            ((left_out : List (List ℕ))
-            × (self.new ≡ step self.old (Accept left_out change))) }
+        ensures ok { OnOk result (self.new ≡ step self.old (Accept change)) }
         ensures err { OnErr result (self.new ≡ self.old) }
         ensures cause { IfErr result
             (λ refusal. (refusal ≡ Refusal.OutOfMemory)
             ⊎ ((refusal ≡ Refusal.StoreFault)
-            × RoseBy 1 (K.faults keeper.old) (K.faults keeper.new))) }
-        ensures later { K.faults keeper.old ≤ K.faults keeper.new }
-        ensures kept { Tells (K.kept keeper.new) self.new.history.rows }
-        ensures told { is_some (K.kept keeper.new) ≡ is_some (K.kept keeper.old) }
+            × RoseBy 1 (K.told keeper.old).faults (K.told keeper.new).faults)) }
+        ensures later { (K.told keeper.old).faults ≤ (K.told keeper.new).faults }
+        ensures kept { IsStored self.new.history.rows (K.told keeper.old) (K.told keeper.new) }
     {
         let ready = self.machine.prepare(alloc, &change)?;
+        let version = self.machine.version();
+        let told = self
+            .hosts
+            .prepare_next(alloc, self.manual, version + 1, ready.rows())?;
         match keeper.apply(alloc, &change) {
             Ok(()) => {
                 self.machine.accept(ready);
-                self.hosts
-                    .tell(alloc, self.manual, self.machine.version(), &change);
-                let _number = self.bus.push(change);
+                self.hosts.take(told);
+                let _kept = self.bus.push(change);
                 Ok(())
             }
             Err(KeeperRefusal::Failed) => Err(Refusal::StoreFault),

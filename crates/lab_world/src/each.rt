@@ -1,39 +1,71 @@
 //! Loops over all hosts, each as one step of one host.
 
-ghost use Rattle.std.specs.Prelude.{◌≡◌, ◌⊎◌, ◌≤◌, ◌++◌, OnOk, length, map};
+ghost use Rattle.std.specs.Prelude.{◌≡◌, ◌≤◌, ◌++◌, IfOk, OnOk, length, map};
 ghost use Rattle.std.specs.List.{filter_map};
+ghost use Rattle.api_types.specs.Consistent.{IsConsistent};
 ghost use Rattle.api_types.specs.Lists.{Each};
 ghost use Rattle.plane_types.specs.Attached.{IsAttached};
 ghost use Rattle.plane_types.specs.Verdicts.{with_made, made_at};
-ghost use Rattle.plane_types.specs.Node.{CanFollow, Node, Ready, after_change, agents_of, host_of, host_with, with_entries};
-ghost use Rattle.world_laws.specs.Steps.{MayHaveHeard, add_from, after_settle};
-ghost use Rattle.lab_world.specs.Hosts.{AreFor, settle_each};
+ghost use Rattle.plane_types.specs.Node.{Node, Ready, agents_of, follows, host_of, host_with, with_entries};
+ghost use Rattle.world_laws.specs.Steps.{add_from, after_settle};
+ghost use Rattle.lab_world.specs.Hosts.{AreFor, AreNextFor, IsNextFor, after_next, next_for, settle_each, take_each};
 
 use agent_node::{AgentNode, ReadyNode};
-use api_types::Change;
+use api_types::Rows;
 use net_addr::OutOfMemory;
 use plane_types::{Entries, Entry, Made};
 use std::alloc::Global;
 
-// Tells a host a change, or leaves it as it is where memory runs out.
-fn tell(alloc: Global, node: &mut AgentNode, number: u64, change: &Change)
-    requires { CanFollow node.old.agent number change.now }
-    ensures { (node.new.agent ≡ after_change number change.now node.old.agent)
-        ⊎ (node.new.agent ≡ node.old.agent) }
+// Whether a number is the next one after what is held.
+#[tactic(auto, using(crate::proofs::Following::next_after))]
+fn is_next(held: Option<u64>, number: u64) -> bool
+    ensures { result ≡ follows number held }
 {
-    match node.deliver(alloc, number, change) {
-        Ok(_) => {}
-        Err(_) => {}
+    match held {
+        Some(held) => number > held && number - held == 1,
+        None => false,
     }
 }
 
-/// Tells each host a change; those that find no memory stay as they are.
-pub(crate) fn tell_all(alloc: Global, nodes: &mut [AgentNode], number: u64, change: &Change)
-    requires { Each (λ (n : Node). CanFollow n.agent number change.now) nodes.old }
-    ensures { MayHaveHeard number change.now (agents_of nodes.old) (agents_of nodes.new) }
+/// What a host would be given with the rows of a version, if it holds the one before and delivery
+/// isn't by hand alone.
+pub(crate) fn next_of(
+    alloc: Global,
+    node: &AgentNode,
+    manual: bool,
+    number: u64,
+    rows: &Rows,
+) -> Result<Option<ReadyNode>, OutOfMemory>
+    requires { IsConsistent rows.now }
+    ensures { IfOk result (λ o. o ≡ next_for manual number rows.now node.now.agent) }
 {
+    if !manual && is_next(node.held(), number) {
+        Ok(Some(node.prepare_resync(alloc, number, rows)?))
+    } else {
+        Ok(None)
+    }
+}
+
+// Puts in place what was made ready for a host, if anything.
+fn take(node: &mut AgentNode, ready: Option<ReadyNode>)
+    requires { IsNextFor ready node.old.agent }
+    ensures { node.new.agent ≡ after_next ready node.old.agent }
+{
+    if let Some(ready) = ready {
+        node.put(ready);
+    }
+}
+
+/// Puts in place at each host what was made ready for it, if anything.
+pub(crate) fn take_all(nodes: &mut [AgentNode], ready: Vec<Option<ReadyNode>>)
+    requires { AreNextFor ready.items nodes.old }
+    ensures { agents_of nodes.new ≡ take_each ready.items (agents_of nodes.old) }
+{
+    let mut left = ready.into_iter();
     for node in nodes.iter_mut() {
-        tell(alloc, node, number, change);
+        if let Some(ready) = left.next() {
+            take(node, ready);
+        }
     }
 }
 

@@ -1,6 +1,6 @@
 //! The hosts in order, each with its agents; frames see them as a fleet.
 
-ghost use Rattle.std.specs.Prelude.{◌≡◌, ◌↔◌, ◌<◌, ◌≤◌, ◌++◌, ◌∷◌, [], None, Some, IfNone, IfOk, IfSome, IsTrue, OnErr, OnOk, find, flat_map, if◌then◌else◌, length, map, option_copied, option_map, slice_get};
+ghost use Rattle.std.specs.Prelude.{◌≡◌, ◌↔◌, ◌<◌, ◌≤◌, ◌++◌, ◌∷◌, [], None, Some, IfNone, IfOk, IfSome, IsTrue, OnErr, OnOk, flat_map, if◌then◌else◌, length, map, option_copied, option_map, slice_get};
 ghost use Rattle.std.specs.Str.{bytes_eq};
 ghost use Rattle.api_types.specs.Consistent.{IsConsistent};
 ghost use Rattle.api_types.specs.Lists.{Each};
@@ -10,11 +10,11 @@ ghost use Rattle.plane_types.specs.Verdicts.{with_made};
 ghost use Rattle.plane_types.specs.Node.{CanFollow, Node, Ready, after_change, after_forget, after_restart, after_resync, agents_of, first_agent, hearing, host_of, ready_for};
 ghost use Rattle.plane_types.specs.Room.{Room};
 ghost use Rattle.plane_types.specs.Tables.{Tables};
-ghost use Rattle.world_laws.specs.Steps.{DeliversBy, add_from};
-ghost use Rattle.lab_world.specs.Hosts.{AreFor, IsNamedAt, at_place, named_node, settle_each, state_at_version, state_with};
+ghost use Rattle.world_laws.specs.Steps.{add_from};
+ghost use Rattle.lab_world.specs.Hosts.{AreFor, AreNextFor, IsNamedAt, at_place, named_node, next_for, settle_each, state_at_version, state_with, take_each};
 ghost use Rattle.lab_world.specs.Lab.{host_state};
 
-use crate::each::{add_entries, keep_all, reserve_all, settle_all, tell_all};
+use crate::each::{add_entries, keep_all, next_of, reserve_all, settle_all, take_all};
 use agent_node::{AgentNode, ReadyNode};
 use api_types::{Change, Rows};
 use fabric_run::Fleet;
@@ -99,15 +99,34 @@ impl Hosts {
         settle_all(self.nodes.as_mut_slice(), ready, version);
     }
 
-    /// Tells each host a change with its number, unless delivery is by hand alone. Those that find
-    /// no memory stay as they are. Its cost is that of wiring each host.
-    pub fn tell(&mut self, alloc: Global, manual: bool, number: u64, change: &Change)
-        requires { Each (λ (n : Node). CanFollow n.agent number change.now) self.old }
-        ensures { DeliversBy manual number change.now (agents_of self.old) (agents_of self.new) }
+    /// What each host would be given with the rows of a version that a change leads to, unless
+    /// delivery is by hand alone or the host doesn't hold the version before. Nothing changes. Its
+    /// cost is that of wiring each host; they share the rows.
+    pub fn prepare_next(
+        &self,
+        alloc: Global,
+        manual: bool,
+        number: u64,
+        rows: &Rows,
+    ) -> Result<Vec<Option<ReadyNode>>, OutOfMemory>
+        requires { IsConsistent rows.now }
+        ensures { IfOk result
+            (λ ready. ready.items ≡ map (next_for manual number rows.now) (agents_of self.now)) }
     {
-        if !manual {
-            tell_all(alloc, self.nodes.as_mut_slice(), number, change);
+        let mut ready = Vec::new(alloc);
+        for node in &self.nodes {
+            ready.push(next_of(alloc, node, manual, number, rows)?)?;
         }
+        Ok(ready)
+    }
+
+    /// Puts in place what was made ready for each host, if anything. It allocates nothing. Its cost
+    /// grows with the entries of each host times its taps and routers.
+    pub fn take(&mut self, ready: Vec<Option<ReadyNode>>)
+        requires { AreNextFor ready.items self.old }
+        ensures { agents_of self.new ≡ take_each ready.items (agents_of self.old) }
+    {
+        take_all(self.nodes.as_mut_slice(), ready);
     }
 
     /// The place of the first host of this name.

@@ -1,6 +1,6 @@
 //! The world: machine, messages and hosts, and the one call that answers an ask.
 
-ghost use Rattle.std.specs.Prelude.{◌≡◌, ◌↔◌, ◌≤◌, IfErr, IfOk, IsTrue, None, OnOk, map, true, is_some};
+ghost use Rattle.std.specs.Prelude.{◌≡◌, ◌↔◌, ◌≤◌, IfErr, IfOk, IsTrue, None, OnOk, map, true};
 ghost use Rattle.api_types.specs.Consistent.{IsConsistent};
 ghost use Rattle.api_check.specs.FirstBroken.{first_broken_of};
 ghost use Rattle.net_settings.specs.declared.settings.Host as config;
@@ -16,6 +16,7 @@ ghost use Rattle.plane_types.specs.declared.ask.LabCall.TheVariants.{Frames};
 ghost use Rattle.plane_types.specs.declared.event.Event.{Event as TheEvent};
 ghost use Rattle.plane_types.specs.declared.verdict.Verdict.{Verdict as TheVerdict};
 ghost use Rattle.keeper_core.specs.Counts.{RoseBy, Tells};
+ghost use Rattle.keeper_core.specs.Kept.{IsStored};
 ghost use Rattle.world_laws.specs.Lead.{IsWorld};
 ghost use Rattle.world_laws.specs.World.{IsSynced, first_world, hosts_of};
 ghost use Rattle.lab_world.specs.Lab.{IsBarred, lab_outcome};
@@ -120,14 +121,14 @@ impl World {
 
     /// Answers what a caller asks. An accepted change is in the rows and in the kept rows, it is
     /// kept as a message, of which the last 1,024 are, and the version has risen by one; where
-    /// delivery isn't manual each host is told it but those that find no memory. Frames go by the
-    /// tables that the hosts hold. While each host holds the current version they come to what the
-    /// rows say, cross between networks at routers alone, and are let in and out by ports as their
-    /// groups and guards allow, or as answers to that. The entries that they make are kept at
-    /// the hosts that made them. After a refusal all is as it was: one because memory ran out,
-    /// which is free, one because the store failed to keep an accepted change, where the keeper
-    /// counted a fault, or that of the ask. The cost grows with the rows, for an accepted change
-    /// with that of wiring each host too, and for a frame with the entries of the hosts.
+    /// delivery isn't manual each host is told it. Frames go by the tables that the hosts hold.
+    /// While each host holds the current version they come to what the rows say, cross between
+    /// networks at routers alone, and are let in and out by ports as their groups and guards allow,
+    /// or as answers to that. The entries that they make are kept at the hosts that made them.
+    /// After a refusal all is as it was: one because memory ran out, which is free, one because the
+    /// store failed to keep an accepted change, where the keeper counted a fault, or that of the
+    /// ask. The cost grows with the rows, for an accepted change with that of wiring each host too,
+    /// and for a frame with the entries of the hosts.
     pub fn handle<K: Keeper>(
         &mut self,
         alloc: Global,
@@ -135,7 +136,7 @@ impl World {
         caller: &Caller,
         ask: &Ask,
     ) -> Reply
-        requires kept { Tells (K.kept keeper.old) self.old.history.rows }
+        requires kept { Tells (K.told keeper.old).rows self.old.history.rows }
         requires in_form { IsAskInForm caller.now ask.now }
         ensures handled { Handles (ask_outcome self.old caller.now ask.now) self.old self.new
             result }
@@ -158,10 +159,9 @@ impl World {
             → IsLetOut self.old.history.rows event verdict }
         ensures store_fault { result ≡ Reply.Refused Refusal.StoreFault
             → (is_change (ask_outcome self.old caller.now ask.now) ≡ true)
-            × RoseBy 1 (K.faults keeper.old) (K.faults keeper.new) }
-        ensures later { K.faults keeper.old ≤ K.faults keeper.new }
-        ensures kept { Tells (K.kept keeper.new) self.new.history.rows }
-        ensures told { is_some (K.kept keeper.new) ≡ is_some (K.kept keeper.old) }
+            × RoseBy 1 (K.told keeper.old).faults (K.told keeper.new).faults }
+        ensures later { (K.told keeper.old).faults ≤ (K.told keeper.new).faults }
+        ensures kept { IsStored self.new.history.rows (K.told keeper.old) (K.told keeper.new) }
     {
         let _world = self.rows(); // for the proof: brings in the world's invariant
         match ask {

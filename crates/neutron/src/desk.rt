@@ -1,6 +1,7 @@
 //! The desk of the program: files, databases and sockets.
 ghost use Rattle.std.specs.Prelude.{◌≡◌};
 
+use crate::accepting::{Accepted, accept};
 use crate::ends::{SystemSink, SystemSource};
 use crate::parting::part;
 use crate::store::SystemStore;
@@ -36,14 +37,6 @@ impl SystemDesk {
     }
 }
 
-// The next connection, and its two ends.
-fn accepted(listener: &TcpListener) -> io::Result<(TcpStream, TcpStream, TcpStream)> {
-    let (stream, _) = listener.accept()?;
-    let input = stream.try_clone()?;
-    let output = stream.try_clone()?;
-    Ok((stream, input, output))
-}
-
 // Copies the log of a file into it. Where that fails the log stays beside it, and the next that
 // opens it reads it.
 fn shut_file(keeper: SqlKeeper<FileStore<File>>) {
@@ -64,21 +57,9 @@ impl Desk for SystemDesk {
 
     type Store = SystemStore;
 
-    ghost use Rattle.std.specs.Prelude.{None};
+    ghost use Rattle.keeper_core.specs.Desk.{untold_desk};
 
-    ghost asks = { λ _. None };
-
-    ghost files = { λ _. None };
-
-    ghost stores = { λ _. None };
-
-    ghost to_come = { λ _. None };
-
-    ghost returned = { λ _. None };
-
-    ghost faults = { λ desk. desk.faults };
-
-    ghost store_faults = { λ desk. desk.store_faults };
+    ghost told = { λ desk. untold_desk desk.faults desk.store_faults };
 
     fn settings(&mut self, _alloc: Global, name: &Text) -> Result<Bytes, DeskRefusal> {
         match fs::read(&self.rt, name.as_str()) {
@@ -129,8 +110,14 @@ impl Desk for SystemDesk {
         let Some(listener) = &self.listener else {
             return Ok(None);
         };
-        match accepted(listener) {
-            Ok((stream, input, output)) => {
+        match accept(&self.rt, listener) {
+            Ok(
+                Accepted {
+                    stream,
+                    input,
+                    output,
+                },
+            ) => {
                 self.peer = Some(stream);
                 Ok(Some((
                     SystemSource::Peer(ReaderSource::make(input)),

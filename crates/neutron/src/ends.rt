@@ -1,6 +1,6 @@
 //! Standard input and output, and the two ends of connections.
 ghost use Rattle.std.specs.Prelude.{◌≡◌, ◌<◌, length};
-ghost use Rattle.neutron.specs.Counts.{sink_faults, source_faults};
+ghost use Rattle.neutron.specs.Told.{sink_told, source_told};
 
 use keeper_core::{Failed, ReaderSource, Sink, SinkRefusal, Source, WriterSink};
 use std::io::{Stdin, Stdout};
@@ -21,11 +21,7 @@ pub(crate) enum SystemSink {
 }
 
 impl Source for SystemSource {
-    ghost use Rattle.std.specs.Prelude.{None};
-
-    ghost left = { λ _. None };
-
-    ghost faults = { source_faults };
+    ghost told = { source_told };
 
     fn read(&mut self, buf: &mut [u8]) -> Result<usize, Failed> {
         match self {
@@ -36,13 +32,7 @@ impl Source for SystemSource {
 }
 
 impl Sink for SystemSink {
-    ghost use Rattle.std.specs.Prelude.{None};
-
-    ghost written = { λ _. None };
-
-    ghost flushed = { λ _. None };
-
-    ghost faults = { sink_faults };
+    ghost told = { sink_told };
 
     fn write(&mut self, piece: &[u8]) -> Result<usize, SinkRefusal> {
         match self {

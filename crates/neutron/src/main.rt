@@ -2,6 +2,7 @@
 //! desk of the system.
 #![tactic(auto)]
 
+mod accepting;
 mod desk;
 mod ends;
 mod parting;

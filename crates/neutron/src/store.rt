@@ -1,6 +1,6 @@
 //! The stores of the desk.
 ghost use Rattle.std.specs.Prelude.{◌≡◌};
-ghost use Rattle.neutron.specs.Counts.{store_faults, store_kept};
+ghost use Rattle.neutron.specs.Told.{store_told};
 
 use api_types::{Change, Rows};
 use keeper_core::{Keeper, KeeperRefusal, SureKeeper};
@@ -18,7 +18,7 @@ pub(crate) enum SystemStore {
 impl SystemStore {
     /// How many calls failed.
     pub(crate) fn faults(&self) -> u64
-        ensures { result ≡ store_faults self.now }
+        ensures { result ≡ (store_told self.now).faults }
     {
         match self {
             SystemStore::Memory(_) => 0,
@@ -28,9 +28,7 @@ impl SystemStore {
 }
 
 impl Keeper for SystemStore {
-    ghost kept = { store_kept };
-
-    ghost faults = { store_faults };
+    ghost told = { store_told };
 
     fn load(&mut self, alloc: Global) -> Result<Rows, KeeperRefusal> {
         match self {

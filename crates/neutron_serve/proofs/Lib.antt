@@ -1,13 +1,14 @@
 mod AskLemmas
-pub mod Asking
 mod DrillLemmas
+mod OpeningLemmas
+mod RunLemmas
+mod ServingLemmas
+mod StatusLemmas
+pub mod Asking
 pub mod FormsGiven
 pub mod GoodMembers
 pub mod InForm
-mod LineLemmas
 pub mod Naming
-mod OpeningLemmas
 pub mod Promising
 pub mod Replying
 pub mod SaidValues
-mod ServingLemmas

@@ -12,22 +12,24 @@ use Rattle.json_values.specs.Grammars.{is_project_name}
 use Rattle.plane_types.specs.Verdicts.{fabric_verdict}
 use Rattle.plane_types.specs.declared.ask.Ask.{Ask}
 use Rattle.plane_types.specs.declared.ask.Ask.TheVariants.{Lab}
-use Rattle.plane_types.specs.declared.ask.LabCall.TheVariants.{Frames}
+use Rattle.plane_types.specs.declared.ask.LabCall.TheVariants.{Frames, Restart}
 use Rattle.plane_types.specs.declared.event.Event.{Event}
 use Rattle.world_laws.specs.Lead.{IsWorld}
-use Rattle.world_laws.specs.World.{World, hosts_of}
+use Rattle.world_laws.specs.World.{IsSynced, World, hosts_of}
 use Rattle.world_laws.proofs.MeaningLaw.{held_rows, rows_of_now, synced_cross, synced_let_in, synced_let_out, synced_mean}
+use Rattle.world_laws.proofs.SyncLaw.{sent_synced}
 use Rattle.lab_world.specs.Lab.{Answered, Barred, event_refusal}
 use Rattle.lab_world.specs.World.{AskOutcome, ByLab, ByMachine, IsAskInForm, MovesBy, OfApi, OfLab, Said, ask_outcome, state_of, told_of}
 use Rattle.lab_world.proofs.AskApart.{ask_apart}
 use Rattle.lab_world.proofs.Asking.{frames_told}
-use Rattle.lab_world.proofs.FrameLaws.{frame_crosses, frame_let_in, frame_let_out, frame_means, sent_hosts, sent_synced}
+use Rattle.lab_world.proofs.FrameLaws.{frame_crosses, frame_let_in, frame_let_out, frame_means, sent_hosts}
+use Rattle.lab_world.proofs.SyncLaws.{ask_syncs}
 use Rattle.lab_world.proofs.WorldLaws.{ask_keeps, sound_of}
 use Rattle.http_heads.specs.Fields.{closes, is_admin, project_of}
 use Rattle.http_heads.specs.Heads.{Asked}
 use Rattle.http_heads.specs.Parts.{path_of, query_of}
-use Rattle.http_session.specs.Serves.{Answers, EndsBy, EndsShort, EndsWhole, Ending, Goes, IsLast, Last, LastRefusal, LastRequest, Moment, Serves}
-use Rattle.http_session.specs.Told.{Moves, NoMemory, StoreFailed, Told, Answered as ToldStep}
+use Rattle.http_session.specs.Serves.{Answers, EndsBy, EndsShort, EndsWhole, Ending, Goes, IsLast, Last, LastRefusal, LastRequest, Moment, Scene, Serves, ServesFrom, stage_of}
+use Rattle.http_session.specs.Told.{IsStep, Moves, NoMemory, Stage, StoreFailed, Told, Answered as ToldStep}
 use Rattle.http_session.specs.declared.session_end.SessionEnd.{SessionEnd}
 use Rattle.http_session.specs.declared.session_end.SessionEnd.TheVariants.{Budget, Done, OutOfMemory, ReadFault, WriteFault}
 use Rattle.neutron_serve.specs.Promises.{FrameTold, Promised, Promises, is_refusal}
@@ -124,6 +126,11 @@ stays old new (ByMachine (Moved rows reply)) moves is = absurd cc
 stays old new (ByLab (Barred refusal)) moves is = moves
 stays old new (ByLab (Answered answer world)) moves is = absurd cc
 
+syncs_by : (old new : World) (r : Result (Caller × Ask) Refusal) → IsWorld old → old.manual ≡ false → IsSynced old
+    → ((caller : Caller) (name : List ℕ) → r ≡ Ok (caller, Lab (Restart name)) → ⊥) → MovesBy old (request_outcome old r) new → IsSynced new
+syncs_by old new (Err refusal) is automatic synced other moves = subst IsSynced (sym moves) synced
+syncs_by old new (Ok (caller, ask)) is automatic synced other moves = ask_syncs caller ask old new is automatic synced (λ name same. other caller name (λ j. Ok (caller, same j))) moves
+
 pub step_promised : (old new : World) (asked : Asked) (reply : List ℕ) → IsWorld old → Steps old asked reply new → Promised old asked reply new
 step_promised old new asked reply world s = record {
   steps = s;
@@ -138,6 +145,7 @@ step_promised old new asked reply world s = record {
     follows = sent_hosts old;
     stays = sent_synced old;
   };
+  synced = λ automatic synced other. syncs_by old new (request_of asked) world automatic synced other s.moves;
   apart = λ caller ask is tenant other consistent one same.
       s.replies ∙ ap (λ r. outcome_bytes (closes asked.head) (request_outcome old r)) is
       ∙ told_apart old other caller ask (closes asked.head) (formed asked caller ask is).named world tenant consistent one same;
@@ -154,41 +162,50 @@ moves_more old new asked (ToldStep reply) held s = (step_promised old new asked 
 moves_more old new asked (StoreFailed reply) held m = (m, subst IsWorld (sym m.1) held)
 moves_more old new asked (NoMemory reply) held m = (m, subst IsWorld (sym m.1) held)
 
-answers_more : (old new : World) (bytes : List ℕ) (tolds : List Told) (rest : List ℕ) → IsWorld old → Answers Steps fixed_replies old bytes tolds new rest
-    → Answers Promised fixed_replies old bytes tolds new rest × IsWorld new
-answers_more old new bytes [] rest held a = (a, subst IsWorld (sym a.0) held)
-answers_more old new bytes (told ∷ tolds) rest held (asked, behind, takes, on, (mid, moves, more)) =
-    let first = moves_more old mid asked told held moves in
-    let later = answers_more mid new behind tolds rest first.1 more in
-    ((asked, behind, takes, on, (mid, first.0, later.0)), later.1)
+stage_more : (old new : Stage World) (asked : Asked) (told : Told) → IsWorld old.world → IsStep Steps fixed_replies asked told old new → IsStep Promised fixed_replies asked told old new × IsWorld new.world
+stage_more old new asked told held s =
+    let more = moves_more old.world new.world asked told held s.moves in (record { moves = more.0; faults = s.faults }, more.1)
 
-goes_more : (a b : Moment World) → IsWorld a.world → Goes Steps fixed_replies a b → Goes Promised fixed_replies a b × IsWorld b.world
+world_on : (old new : Stage World) → new ≡ old → IsWorld old.world → IsWorld new.world
+world_on old new same held = subst (λ (s : Stage World). IsWorld s.world) (sym same) held
+
+answers_more : (old new : Stage World) (bytes : List ℕ) (tolds : List Told) (rest : List ℕ) → IsWorld old.world → Answers Steps fixed_replies old bytes tolds new rest
+    → Answers Promised fixed_replies old bytes tolds new rest × IsWorld new.world
+answers_more old new bytes [] rest held a = (a, world_on old new a.0 held)
+answers_more old new bytes (told ∷ tolds) rest held (asked, after, takes, on, (mid, steps, more)) =
+    let first = stage_more old mid asked told held steps in
+    let later = answers_more mid new after tolds rest first.1 more in
+    ((asked, after, takes, on, (mid, first.0, later.0)), later.1)
+
+goes_more : (a b : Moment World) → IsWorld a.scene.world → Goes Steps fixed_replies a b → Goes Promised fixed_replies a b × IsWorld b.scene.world
 goes_more a b held g =
-    let more = answers_more a.world b.world _ g.tolds b.buffer held g.answers in
-    (record { more = g.more; tolds = g.tolds; read = g.read; taken = g.taken; answers = more.0; wrote = g.wrote; flushed = g.flushed; store_faults = g.store_faults }, more.1)
+    let more = answers_more (stage_of a) (stage_of b) _ g.tolds b.buffer held g.answers in
+    (record { more = g.more; tolds = g.tolds; read = g.read; taken = g.taken; answers = more.0; wrote = g.wrote; flushed = g.flushed }, more.1)
 
-last_more : (limit : ℕ) (m : Moment World) (last : Last) (new : World) → IsWorld m.world → IsLast Steps fixed_replies limit m last new
-    → IsLast Promised fixed_replies limit m last new × IsWorld new
-last_more limit m (LastRequest asked told) new held is = let more = moves_more m.world new asked told held is.1 in ((is.0, more.0), more.1)
-last_more limit m (LastRefusal n) new held is = (is, subst IsWorld (sym is.1) held)
+last_more : (limit : ℕ) (m : Moment World) (last : Last) (new : Stage World) → IsWorld m.scene.world → IsLast Steps fixed_replies limit m last new
+    → IsLast Promised fixed_replies limit m last new × IsWorld new.world
+last_more limit m (LastRequest asked told) new held is = let more = stage_more (stage_of m) new asked told held is.1 in ((is.0, more.0), more.1)
+last_more limit m (LastRefusal bad) new held is = (is, world_on (stage_of m) new is.1 held)
 
-ends_more : (limit : ℕ) (m z : Moment World) (last : Last) (front : List ℕ) → IsWorld m.world → EndsBy Steps fixed_replies limit m z last front
-    → EndsBy Promised fixed_replies limit m z last front × IsWorld z.world
+ends_more : (limit : ℕ) (m z : Moment World) (last : Last) (front : List ℕ) → IsWorld m.scene.world → EndsBy Steps fixed_replies limit m z last front
+    → EndsBy Promised fixed_replies limit m z last front × IsWorld z.scene.world
 ends_more limit m z last front held e =
-    let more = last_more limit m last z.world held e.is in
-    (record { is = more.0; wrote = e.wrote; store_faults = e.store_faults; left = e.left; taken = e.taken }, more.1)
+    let more = last_more limit m last (stage_of z) held e.is in
+    (record { is = more.0; wrote = e.wrote; input = e.input; taken = e.taken }, more.1)
 
-same_holds : (m z : Moment World) → z ≡ m → IsWorld m.world → IsWorld z.world
-same_holds m z same held = subst (λ (x : Moment World). IsWorld x.world) (sym same) held
+same_holds : (m z : Moment World) → z ≡ m → IsWorld m.scene.world → IsWorld z.scene.world
+same_holds m z same held = subst (λ (x : Moment World). IsWorld x.scene.world) (sym same) held
 
-short_more : (limit : ℕ) (m z : Moment World) (last : Last) → IsWorld m.world → EndsShort Steps fixed_replies limit m z last → EndsShort Promised fixed_replies limit m z last × IsWorld z.world
+short_more : (limit : ℕ) (m z : Moment World) (last : Last) → IsWorld m.scene.world → EndsShort Steps fixed_replies limit m z last
+    → EndsShort Promised fixed_replies limit m z last × IsWorld z.scene.world
 short_more limit m z last held (front, back, whole, by, unflushed) =
     let more = ends_more limit m z last front held by in ((front, back, whole, more.0, unflushed), more.1)
 
-whole_more : (limit : ℕ) (m z : Moment World) (last : Last) → IsWorld m.world → EndsWhole Steps fixed_replies limit m z last → EndsWhole Promised fixed_replies limit m z last × IsWorld z.world
+whole_more : (limit : ℕ) (m z : Moment World) (last : Last) → IsWorld m.scene.world → EndsWhole Steps fixed_replies limit m z last
+    → EndsWhole Promised fixed_replies limit m z last × IsWorld z.scene.world
 whole_more limit m z last held (by, close, flushed) = let more = ends_more limit m z last _ held by in ((more.0, close, flushed), more.1)
 
-ending_more : (limit : ℕ) (m z : Moment World) (end : SessionEnd) → IsWorld m.world → Ending Steps fixed_replies limit m z end → Ending Promised fixed_replies limit m z end × IsWorld z.world
+ending_more : (limit : ℕ) (m z : Moment World) (end : SessionEnd) → IsWorld m.scene.world → Ending Steps fixed_replies limit m z end → Ending Promised fixed_replies limit m z end × IsWorld z.scene.world
 ending_more limit m z Done held (inl e) = (inl e, same_holds m z e.0 held)
 ending_more limit m z Done held (inr (last, e)) = let more = whole_more limit m z last held e in (inr (last, more.0), more.1)
 ending_more limit m z ReadFault held e = (e, same_holds m z e.0 held)
@@ -196,9 +213,15 @@ ending_more limit m z Budget held e = (e, same_holds m z e.0 held)
 ending_more limit m z WriteFault held (last, e) = let more = short_more limit m z last held e in ((last, more.0), more.1)
 ending_more limit m z OutOfMemory held (last, e) = let more = short_more limit m z last held e in ((last, more.0), more.1)
 
-pub session_promised : (limit : ℕ) (a z : Moment World) (end : SessionEnd) → IsWorld a.world → Serves Steps fixed_replies limit a z end → Promises limit a z end
-session_promised limit a z end held (inl (m, goes, ending)) =
+serves_more : (limit : ℕ) (a z : Moment World) (end : SessionEnd) → IsWorld a.scene.world → ServesFrom Steps fixed_replies limit a z end
+    → ServesFrom Promised fixed_replies limit a z end × IsWorld z.scene.world
+serves_more limit a z end held (inl (m, goes, ending)) =
     let on = goes_more a m held goes in
     let last = ending_more limit m z end on.1 ending in
-    record { serves = inl (m, on.0, last.0); world = last.1 }
-session_promised limit a z end held (inr (none, same)) = record { serves = inr (none, same); world = same_holds a z same held }
+    (inl (m, on.0, last.0), last.1)
+serves_more limit a z end held (inr (none, same)) = (inr (none, same), same_holds a z same held)
+
+pub session_promised : (limit : ℕ) (a z : Scene World) (end : SessionEnd) → IsWorld a.world → Serves Steps fixed_replies limit a z end → Promises limit a z end
+session_promised limit a z end held s =
+    let more = serves_more limit _ _ end held s.serves in
+    record { serves = record { buffer = s.buffer; taken = s.taken; within = s.within; serves = more.0; last_read = s.last_read }; world = more.1 }

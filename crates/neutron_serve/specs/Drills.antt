@@ -1,5 +1,5 @@
 -- A drill: a session over requests that are made, and its summary.
-use Rattle.std.specs.Prelude.{◌≡◌, ◌⊎◌, ℕ, ◌^◌, ◌==◌, Bool, true, false, if◌then◌else◌, [], ◌++◌, length, Option, Some, codes, option_map}
+use Rattle.std.specs.Prelude.{◌≡◌, ◌⊎◌, ℕ, ◌^◌, ◌==◌, Bool, true, false, if◌then◌else◌, [], ◌++◌, length, Some, codes, option_map}
 use Rattle.std.specs.Fmt.{decimal}
 use Rattle.std.specs.Io.KnownBytes.{Appends}
 use Rattle.net_addr.specs.Words.{Bytes, Text, Version}
@@ -8,10 +8,13 @@ use Rattle.api_types.specs.declared.refusal.Refusal.{Refusal}
 use Rattle.api_types.specs.declared.refusal.Refusal.TheVariants as refusal
 use Rattle.drill_gen.specs.Stream.{stream}
 use Rattle.http_heads.specs.Heads.{Asked}
-use Rattle.http_session.specs.Serves.{Serves, moment}
+use Rattle.http_session.specs.Serves.{Scene, Serves, scene}
 use Rattle.http_session.specs.Told.{Fixed}
 use Rattle.http_session.specs.declared.session_end.SessionEnd.TheVariants.{Done}
 use Rattle.keeper_core.specs.Counts.{raised}
+use Rattle.keeper_core.specs.Ends.{SinkTold}
+use Rattle.keeper_core.specs.Kept.{sure_rows}
+use Rattle.keeper_core.specs.declared.last_read.LastRead.TheVariants.{Unread}
 use Rattle.lab_world.specs.Lab.{Answered, Barred}
 use Rattle.lab_world.specs.World.{AskOutcome, ByLab, ByMachine}
 use Rattle.api_types.specs.Outcome.{Moved, Refused, Told}
@@ -29,6 +32,8 @@ use Rattle.neutron_serve.specs.Requests.{request_of}
 use Rattle.neutron_serve.specs.Steps.{Steps, fixed_replies, request_outcome}
 use Rattle.neutron_serve.specs.declared.drilling.Drill.{Drill}
 use Rattle.neutron_serve.specs.declared.drilling.Tally.{Tally}
+use Rattle.neutron_serve.specs.declared.status.Status.{Status}
+use Rattle.neutron_serve.specs.declared.status.Status.TheVariants as ends
 
 -- ---- what is counted
 
@@ -115,21 +120,24 @@ fresh_tally =
 abbrev pub fresh_drill : Drill
 fresh_drill = record { world = first_world default_parts false no_rows; tally = fresh_tally }
 
+-- what the session of a drill begins with: the made requests as its input, and an empty output
+abbrev pub first_scene : ℕ → ℕ → Scene Drill
+first_scene start size =
+    scene fresh_drill (sure_rows no_rows)
+    (record { left = Some (stream start size); last = Unread; faults = 0 })
+    (record { written = Some []; flushed = Some 0; faults = 0 })
+
 -- a session over the made requests comes to its end: its replies, what is counted of them, and the
 -- version of the rows after it
 pub record IsDrilled (start size : ℕ) (out : Bytes) (tally : Tally) (version : Version)
     : Type 0 where
-  pub drill : Drill
-  pub buffer : Bytes
-  pub left : Option Bytes
-  pub flushed : Option ℕ
-  pub taken : ℕ
-  pub serves : Serves DrillSteps drill_replies (2 ^ 40)
-      (moment fresh_drill [] (Some (stream start size)) (Some []) (Some 0) 0 0)
-      (moment drill buffer left (Some out) flushed 0 taken) Done
-  pub whole : drill.tally.whole ≡ true
-  pub tally_is : tally ≡ drill.tally
-  pub version_is : version ≡ drill.world.history.version
+  pub after : Scene Drill
+  pub serves : Serves DrillSteps drill_replies (2 ^ 40) (first_scene start size) after Done
+  pub written : after.output.written ≡ Some out
+  pub sure : after.store.faults ≡ 0
+  pub whole : after.world.tally.whole ≡ true
+  pub tally_is : tally ≡ after.world.tally
+  pub version_is : version ≡ after.world.world.history.version
 
 -- ---- what is written
 
@@ -151,15 +159,16 @@ pub record IsDrillText (start size : ℕ) (replies : Bool) (text : Bytes) : Type
   pub is : text ≡ (if replies then out else []) ++ summary_text tally version
 
 -- all of it is written and flushed, or a front of it
-abbrev pub IsWrittenOut : ℕ → Bytes → Option Bytes → Option Bytes → Option ℕ → Type 0
-IsWrittenOut status text old new flushed =
-    ((status ≡ 0) × Appends old new text × (flushed ≡ option_map length new))
-    ⊎ (((status ≡ 3) ⊎ (status ≡ 4))
-    × ((front : Bytes) × (back : Bytes) × (text ≡ front ++ back) × Appends old new front))
+abbrev pub IsWrittenOut : Status → Bytes → SinkTold → SinkTold → Type 0
+IsWrittenOut status text old new =
+    ((status ≡ ends.Done) × Appends old.written new.written text
+    × (new.flushed ≡ option_map length new.written))
+    ⊎ (((status ≡ ends.WriteFault) ⊎ (status ≡ ends.OutOfMemory))
+    × ((front : Bytes) × (back : Bytes) × (text ≡ front ++ back)
+    × Appends old.written new.written front))
 
--- a drill writes what it is to write, or nothing where memory ran out
-abbrev pub RunsDrill : ℕ → ℕ → Bool → Option Bytes → Option Bytes → Option ℕ → ℕ → Type 0
-RunsDrill start size replies old new flushed status =
-    ((status ≡ 4) × (new ≡ old))
-    ⊎ ((text : Bytes) × IsDrillText start size replies text
-    × IsWrittenOut status text old new flushed)
+-- a drill writes nothing since memory ran out, or what it is to write
+abbrev pub RunsDrill : ℕ → ℕ → Bool → Status → SinkTold → SinkTold → Type 0
+RunsDrill start size replies status old new =
+    ((status ≡ ends.OutOfMemory) × (new.written ≡ old.written))
+    ⊎ ((text : Bytes) × IsDrillText start size replies text × IsWrittenOut status text old new)

@@ -7,4 +7,5 @@ pub mod Reading
 pub mod Replies
 pub mod Requests
 pub mod Runs
+pub mod Status
 pub mod Steps

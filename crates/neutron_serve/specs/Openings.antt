@@ -1,6 +1,6 @@
 -- What a run starts from: settings, and the rows that a store keeps; or why it starts from
 -- nothing.
-use Rattle.std.specs.Prelude.{◌≡◌, ◌⊎◌, ℕ, Bool, true, false, List, [], ◌∷◌, ◌++◌, Option, Some, None, Ok, Err, IfSome, is_some, option_map, ⊤}
+use Rattle.std.specs.Prelude.{◌≡◌, ◌⊎◌, Bool, true, false, List, [], ◌∷◌, ◌++◌, Option, Some, None, Ok, Err, IfSome, is_some, option_map, ⊤}
 use Rattle.net_addr.specs.Words.{Bytes, Text}
 use Rattle.api_check.specs.FirstBroken.{first_broken_of}
 use Rattle.api_check.specs.declared.broken.Inconsistent.{Inconsistent}
@@ -9,7 +9,7 @@ use Rattle.command_lines.specs.declared.line.Delivery.{Delivery}
 use Rattle.command_lines.specs.declared.line.Delivery.TheVariants.{Automatic, Manual}
 use Rattle.command_lines.specs.declared.line.Opening.{Opening}
 use Rattle.keeper_core.specs.Counts.{RoseBy}
-use Rattle.keeper_core.specs.Desk.{Stores, closed_as, file_named, opened_as, opening_rows}
+use Rattle.keeper_core.specs.Desk.{AreNamed, DeskTold, Stores, closed_as, opened_as, opening_rows}
 use Rattle.keeper_core.specs.declared.ask.DeskAsk.{DeskAsk}
 use Rattle.keeper_core.specs.declared.ask.DeskAsk.TheVariants.{Settings, Store}
 use Rattle.keeper_core.specs.declared.named.Named.{Named}
@@ -29,27 +29,9 @@ abbrev pub is_manual : Delivery → Bool
 is_manual Automatic = false
 is_manual Manual = true
 
--- what a desk tells, its connections aside
-pub record DeskSeen : Type 0 where
-  pub asks : Option (List DeskAsk)
-  pub files : Option (List (Named Bytes))
-  pub stores : Option Stores
-  pub faults : ℕ
-  pub store_faults : ℕ
-
-abbrev pub desk_seen : Option (List DeskAsk) → Option (List (Named Bytes)) → Option Stores → ℕ → ℕ
-    → DeskSeen
-desk_seen asks files stores faults store_faults = record {
-  asks = asks;
-  files = files;
-  stores = stores;
-  faults = faults;
-  store_faults = store_faults;
-}
-
 -- ---- what is asked
 
--- the settings, where they are named
+-- the settings, if they are named
 abbrev pub settings_asks : Option Text → List DeskAsk
 settings_asks None = []
 settings_asks (Some name) = Settings name ∷ []
@@ -58,18 +40,18 @@ settings_asks (Some name) = Settings name ∷ []
 abbrev pub opening_asks : Opening → List DeskAsk
 opening_asks opening = settings_asks opening.settings ++ Store opening.store ∷ []
 
+-- these asks come after those of before, where they are told
+abbrev pub with_asks : List DeskAsk → Option (List DeskAsk) → Option (List DeskAsk)
+with_asks made asks = option_map (λ before. before ++ made) asks
+
 -- the asks that were made after others are these, in their order, or the first ones of them
 pub record AsksFirst (all : List DeskAsk) (old new : Option (List DeskAsk)) : Type 0 where
   pub made : List DeskAsk
   pub rest : List DeskAsk
   pub parts : all ≡ made ++ rest
-  pub asked : new ≡ option_map (λ asks. asks ++ made) old
+  pub asked : new ≡ with_asks made old
 
 -- ---- what is given
-
--- bytes are those of the settings with this name, where they are told
-abbrev pub AreNamed : Option (List (Named Bytes)) → Text → Bytes → Type 0
-AreNamed files name bytes = IfSome files (λ told. bytes ≡ file_named name told)
 
 -- the settings are those that the named bytes spell, and the default ones without a name
 abbrev pub AreSettings : Option (List (Named Bytes)) → Option Text → SettingsParts → Type 0
@@ -88,38 +70,44 @@ abbrev pub AreStored : Option Stores → Option Text → RowLists → Type 0
 AreStored stores name rows = IfSome stores (λ told. rows ≡ opening_rows name told)
 
 -- settings and rows with which a world is opened: they break no clause of consistency
-pub record Opens (old : DeskSeen) (opening : Opening) (settings : SettingsParts) (rows : RowLists)
-    : Type 0 where
-  pub spelled : AreSettings old.files opening.settings settings
-  pub stored : AreStored old.stores opening.store rows
+pub record Opens {P : Type 0} (opening : Opening) (settings : SettingsParts) (rows : RowLists)
+    (desk : DeskTold P) : Type 0 where
+  pub spelled : AreSettings desk.files opening.settings settings
+  pub stored : AreStored desk.stores opening.store rows
   pub consistent : first_broken_of settings.hosts rows ≡ None
 
 -- the rows of the store break a clause under these settings
-pub record RowsBreak (old : DeskSeen) (opening : Opening) (settings : SettingsParts) : Type 0 where
+pub record RowsBreak {P : Type 0} (opening : Opening) (settings : SettingsParts)
+    (desk : DeskTold P) : Type 0 where
   pub rows : RowLists
   pub broken : Inconsistent
-  pub stored : AreStored old.stores opening.store rows
+  pub stored : AreStored desk.stores opening.store rows
   pub breaks : first_broken_of settings.hosts rows ≡ Some broken
 
 -- and do so under the settings that are named
-pub record AreBroken (old : DeskSeen) (opening : Opening) : Type 0 where
+pub record AreBroken {P : Type 0} (opening : Opening) (desk : DeskTold P) : Type 0 where
   pub settings : SettingsParts
-  pub spelled : AreSettings old.files opening.settings settings
-  pub breaks : RowsBreak old opening settings
+  pub spelled : AreSettings desk.files opening.settings settings
+  pub breaks : RowsBreak opening settings desk
 
 -- ---- why nothing is opened
 
--- all of these asks are made; where memory runs out, maybe only the first ones
+-- all of these asks are made; if memory runs out, maybe only the first ones
 abbrev pub AreMade : Unopened → List DeskAsk → Option (List DeskAsk) → Option (List DeskAsk)
     → Type 0
-AreMade BadSettings all old new = new ≡ option_map (λ asks. asks ++ all) old
-AreMade BrokenRows all old new = new ≡ option_map (λ asks. asks ++ all) old
-AreMade Failed all old new = new ≡ option_map (λ asks. asks ++ all) old
+AreMade BadSettings all old new = new ≡ with_asks all old
+AreMade BrokenRows all old new = new ≡ with_asks all old
+AreMade Failed all old new = new ≡ with_asks all old
 AreMade OutOfMemory all old new = AsksFirst all old new
 
+-- the desk's count of faults rose, or that of its stores
+abbrev pub DeskRose : {P : Type 0} → DeskTold P → DeskTold P → Type 0
+DeskRose old new =
+    RoseBy 1 old.faults new.faults ⊎ RoseBy 1 old.store_faults new.store_faults
+
 -- why there are no settings: the named bytes spell none, the desk failed to give them, or memory
---  runs out
-abbrev pub IsSettingsCause : Unopened → Opening → DeskSeen → DeskSeen → Type 0
+-- ran out
+abbrev pub IsSettingsCause : {P : Type 0} → Unopened → Opening → DeskTold P → DeskTold P → Type 0
 IsSettingsCause BadSettings opening old new = AreBadSettings old.files opening.settings
 IsSettingsCause BrokenRows opening old new = ⊥
 IsSettingsCause Failed opening old new =
@@ -127,19 +115,19 @@ IsSettingsCause Failed opening old new =
 IsSettingsCause OutOfMemory opening old new = ⊤
 
 -- it ends with the settings, and the store isn't asked for
-pub record EndsAtSettings (why : Unopened) (opening : Opening) (old new : DeskSeen) : Type 0 where
+pub record EndsAtSettings {P : Type 0} (why : Unopened) (opening : Opening) (old new : DeskTold P)
+    : Type 0 where
   pub cause : IsSettingsCause why opening old new
   pub asks : AreMade why (settings_asks opening.settings) old.asks new.asks
-  pub stores : new.stores ≡ old.stores
-  pub store_faults : new.store_faults ≡ old.store_faults
+  pub stays : new ≡ record old { asks = new.asks; faults = new.faults }
 
 -- why there is no world under these settings: the desk or the store failed, the rows break a
--- clause, or memory runs out
-abbrev pub IsStoreCause : Unopened → SettingsParts → Opening → DeskSeen → DeskSeen → Type 0
+-- clause, or memory ran out
+abbrev pub IsStoreCause : {P : Type 0} → Unopened → SettingsParts → Opening → DeskTold P
+    → DeskTold P → Type 0
 IsStoreCause BadSettings settings opening old new = ⊥
-IsStoreCause BrokenRows settings opening old new = RowsBreak old opening settings
-IsStoreCause Failed settings opening old new =
-    RoseBy 1 old.faults new.faults ⊎ RoseBy 1 old.store_faults new.store_faults
+IsStoreCause BrokenRows settings opening old new = RowsBreak opening settings old
+IsStoreCause Failed settings opening old new = DeskRose old new
 IsStoreCause OutOfMemory settings opening old new = ⊤
 
 -- the stores are as they were, or the one that was opened is closed with the rows that it had
@@ -149,24 +137,32 @@ StoresStay name old new =
     ⊎ (new ≡ option_map (λ s. closed_as (Some name) (opening_rows name s) (opened_as name s)) old)
 
 -- the settings are those that are named, and it ends with the store or its rows
-pub record EndsAtStore (why : Unopened) (opening : Opening) (old new : DeskSeen) : Type 0 where
+pub record EndsAtStore {P : Type 0} (why : Unopened) (opening : Opening) (old new : DeskTold P)
+    : Type 0 where
   pub settings : SettingsParts
   pub spelled : AreSettings old.files opening.settings settings
   pub cause : IsStoreCause why settings opening old new
   pub asks : AreMade why (opening_asks opening) old.asks new.asks
   pub stores : StoresStay opening.store old.stores new.stores
+  pub stays : new
+      ≡ record old {
+        asks = new.asks;
+        stores = new.stores;
+        faults = new.faults;
+        store_faults = new.store_faults;
+      }
 
--- nothing is opened. What comes first is looked at first, so a store is asked for only where the
+-- nothing is opened. What comes first is looked at first, so a store is asked for only if the
 -- settings are good
-pub record IsUnopened (why : Unopened) (opening : Opening) (old new : DeskSeen) : Type 0 where
-  pub ends : EndsAtSettings why opening old new ⊎ EndsAtStore why opening old new
+abbrev pub IsUnopened : {P : Type 0} → Unopened → Opening → DeskTold P → DeskTold P → Type 0
+IsUnopened why opening old new =
+    EndsAtSettings why opening old new ⊎ EndsAtStore why opening old new
 
 -- what each end tells, wherever it comes
-abbrev pub IsCause : Unopened → Opening → DeskSeen → DeskSeen → Type 0
+abbrev pub IsCause : {P : Type 0} → Unopened → Opening → DeskTold P → DeskTold P → Type 0
 IsCause BadSettings opening old new = AreBadSettings old.files opening.settings
-IsCause BrokenRows opening old new = AreBroken old opening
-IsCause Failed opening old new =
-    RoseBy 1 old.faults new.faults ⊎ RoseBy 1 old.store_faults new.store_faults
+IsCause BrokenRows opening old new = AreBroken opening old
+IsCause Failed opening old new = DeskRose old new
 IsCause OutOfMemory opening old new = ⊤
 
 -- ---- refusals on the way

@@ -9,9 +9,9 @@
 -- tables has exactly the outcome, path and tracked entries that the rows give. Two laws of frames
 -- hold then: a frame crosses between networks only at routers, and ends on the last network of
 -- its path; a secured port lets in and out only what its groups and its guard allow, and answers
--- to that.
+-- to that. In automatic delivery every host has that version until one is restarted.
 use Rattle.std.specs.Prelude.{◌≡◌, ℕ, ◌+◌, ◌≤◌, Bool, true, false, List, Ok, None, Some, map}
-use Rattle.net_addr.specs.Words.{Bytes, Version}
+use Rattle.net_addr.specs.Words.{Bytes, Text, Version}
 use Rattle.api_types.specs.Consistent.{IsConsistent}
 use Rattle.api_types.specs.Lists.{Each}
 use Rattle.api_types.specs.Outcome.{Moved, Refused, Told}
@@ -25,7 +25,7 @@ use Rattle.plane_types.specs.Verdicts.{fabric_verdict, fabric_verdicts, hosts_af
 use Rattle.plane_types.specs.declared.ask.Ask.{Ask}
 use Rattle.plane_types.specs.declared.ask.Ask.TheVariants.{Lab}
 use Rattle.plane_types.specs.declared.ask.LabAnswer.TheVariants.{Seen}
-use Rattle.plane_types.specs.declared.ask.LabCall.TheVariants.{Frames}
+use Rattle.plane_types.specs.declared.ask.LabCall.TheVariants.{Frames, Restart}
 use Rattle.plane_types.specs.declared.event.Event.{Event}
 use Rattle.bus_core.specs.History.{first_kept, rows_at}
 use Rattle.plane_types.specs.Node.{Agent}
@@ -36,7 +36,7 @@ use Rattle.lab_world.specs.Lab.{Answered, Barred, event_refusal}
 use Rattle.lab_world.specs.World.{AskOutcome, ByLab, ByMachine, ask_outcome, state_of}
 use Rattle.http_heads.specs.Fields.{closes}
 use Rattle.http_heads.specs.Heads.{Asked}
-use Rattle.http_session.specs.Serves.{Moment, Serves}
+use Rattle.http_session.specs.Serves.{Scene, Serves}
 use Rattle.http_session.specs.declared.session_end.SessionEnd.{SessionEnd}
 use Rattle.neutron_serve.specs.Replies.{lab_bytes, outcome_bytes}
 use Rattle.neutron_serve.specs.Requests.{request_of}
@@ -109,6 +109,11 @@ pub record Promised (old : World) (asked : Asked) (reply : Bytes) (new : World) 
       → event_refusal old.history.rows caller event ≡ None
       → FrameTold old event (closes asked.head) reply
   pub frames : FramesTold old
+  -- in automatic delivery, where every host has the current version, every host has the current
+  -- version after it too, unless it restarts one
+  pub synced : old.manual ≡ false → IsSynced old
+      → ((caller : Caller) (name : Text) → request_of asked ≡ Ok (caller, Lab (Restart name)) → ⊥)
+      → IsSynced new
   -- a tenant is told what it would be told at any server of these settings with consistent rows in
   -- which it has the same footing
   pub apart : (caller : Caller) (ask : Ask) → request_of asked ≡ Ok (caller, ask)
@@ -120,6 +125,6 @@ pub record Promised (old : World) (asked : Asked) (reply : Bytes) (new : World) 
   pub refused : is_refusal (request_outcome old (request_of asked)) ≡ true → new ≡ old
 
 -- a session of at most this many bytes, from one moment to another, after which hosts follow still
-pub record Promises (limit : ℕ) (old new : Moment World) (end : SessionEnd) : Type 0 where
+pub record Promises (limit : ℕ) (old new : Scene World) (end : SessionEnd) : Type 0 where
   pub serves : Serves Promised fixed_replies limit old new end
   pub world : IsWorld new.world

@@ -1,38 +1,25 @@
--- What the program does by its words.
-use Rattle.std.specs.Prelude.{◌≡◌, ◌⊎◌, ℕ, ◌+◌, ◌-◌, ◌^◌, ◌≤◌, Bool, true, false, [], ◌++◌, Option, Some, None, min, option_map}
-use Rattle.net_addr.specs.Words.{Bytes, Text}
-use Rattle.http_session.specs.Serves.{moment}
+-- What the program does by its arguments.
+use Rattle.std.specs.Prelude.{◌≡◌, ◌⊎◌, ℕ, ◌+◌, ◌-◌, ◌^◌, ◌≤◌, Bool, true, false, Option, Some, None, min, option_map}
+use Rattle.net_addr.specs.Words.{Text}
+use Rattle.http_session.specs.Serves.{scene}
 use Rattle.http_session.specs.declared.session_end.SessionEnd.{SessionEnd}
-use Rattle.http_session.specs.declared.session_end.SessionEnd.TheVariants.{Done, ReadFault, WriteFault, Budget, OutOfMemory}
 use Rattle.api_types.specs.RowLists.{RowLists}
 use Rattle.command_lines.specs.declared.line.Opening.{Opening}
 use Rattle.command_lines.specs.declared.line.Line.{Line}
 use Rattle.command_lines.specs.declared.line.Line.TheVariants.{Session, Serve, Drill}
-use Rattle.keeper_core.specs.Desk.{closed_as, opened_as}
+use Rattle.keeper_core.specs.Desk.{DeskTold, closed_as, opened_as}
+use Rattle.keeper_core.specs.Ends.{SinkTold, SourceTold}
+use Rattle.keeper_core.specs.Kept.{KeeperTold}
 use Rattle.net_settings.specs.Settings.{SettingsParts}
 use Rattle.world_laws.specs.World.{World, first_world}
-use Rattle.neutron_serve.specs.Connections.{Listens, Line as Connections, line}
-use Rattle.neutron_serve.specs.Openings.{AreBadSettings, AreBroken, DeskSeen, IsUnopened, Opens, is_manual, opening_asks}
+use Rattle.neutron_serve.specs.Connections.{Carried, Listens, carried}
+use Rattle.neutron_serve.specs.Drills.{RunsDrill}
+use Rattle.neutron_serve.specs.Openings.{AreBadSettings, AreBroken, IsUnopened, Opens, is_manual, opening_asks, with_asks}
 use Rattle.neutron_serve.specs.Promises.{Promises}
+use Rattle.neutron_serve.specs.Status.{ended_status, unopened_status}
 use Rattle.neutron_serve.specs.declared.opening.Unopened.{Unopened}
-use Rattle.neutron_serve.specs.declared.opening.Unopened.TheVariants as unopened
-
--- ---- statuses
-
--- by how the session ended
-abbrev pub status_of : SessionEnd → ℕ
-status_of Done = 0
-status_of ReadFault = 2
-status_of WriteFault = 3
-status_of OutOfMemory = 4
-status_of Budget = 8
-
--- by why nothing was opened
-abbrev pub unopened_status : Unopened → ℕ
-unopened_status unopened.BadSettings = 5
-unopened_status unopened.Inconsistent = 6
-unopened_status unopened.Failed = 7
-unopened_status unopened.OutOfMemory = 4
+use Rattle.neutron_serve.specs.declared.status.Status.{Status}
+use Rattle.neutron_serve.specs.declared.status.Status.TheVariants.{OutOfMemory, WrongWords}
 
 -- ---- what is opened
 
@@ -46,93 +33,112 @@ abbrev pub opening_of : Option Line → Option Opening
 opening_of None = None
 opening_of (Some line) = opening_in line
 
--- ---- one session
+-- the desk once settings and store were asked for and the store is open, with this count of faults
+abbrev pub with_opening : {P : Type 0} → Opening → ℕ → DeskTold P → DeskTold P
+with_opening opening faults desk = record desk {
+  asks = with_asks (opening_asks opening) desk.asks;
+  stores = option_map (opened_as opening.store) desk.stores;
+  faults = faults;
+}
 
--- what an input and an output tell before and after
-pub record Ends : Type 0 where
-  pub left : Option Bytes
-  pub written : Option Bytes
-  pub flushed : Option ℕ
+-- the desk once that store is closed with these rows, and so many faults of it are counted
+abbrev pub with_closing : {P : Type 0} → Opening → RowLists → ℕ → DeskTold P → DeskTold P
+with_closing opening rows counted desk = record desk {
+  stores = option_map (closed_as (Some opening.store) rows) desk.stores;
+  store_faults = min (desk.store_faults + counted) (2 ^ 64 - 1);
+}
 
-abbrev pub ends : Option Bytes → Option Bytes → Option ℕ → Ends
-ends left written flushed = record { left = left; written = written; flushed = flushed }
-
--- the store that was opened is closed with these rows, and the desk counts its faults
-pub record Closed (opening : Opening) (rows : RowLists) (counted : ℕ) (a b : DeskSeen)
-    : Type 0 where
-  pub stores : b.stores
-      ≡ option_map (λ s. closed_as (Some opening.store) rows (opened_as opening.store s)) a.stores
-  pub store_faults : b.store_faults ≡ min (a.store_faults + counted) (2 ^ 64 - 1)
-
--- a session over what is opened, of at most 2^40 bytes
-pub record RunsOpened (opening : Opening) (a b : DeskSeen) (x y : Ends) (end : SessionEnd)
+-- what is opened listens, connections are served over it, and the store is closed with the rows of
+-- the last world
+pub record ServesOpened {I O : Type 0} (input : I → SourceTold) (output : O → SinkTold)
+    (opening : Opening) (address : Text) (most : ℕ) (status : Status) (old new : DeskTold (I × O))
     : Type 0 where
   pub settings : SettingsParts
   pub rows : RowLists
-  pub opens : Opens a opening settings rows
-  -- the store's count of faults before the session and after it
-  pub before : ℕ
-  pub behind : ℕ
-  pub world : World
-  pub buffer : Bytes
-  pub taken : ℕ
-  pub within : taken ≤ 2 ^ 40
-  pub promises : Promises (2 ^ 40)
-      (moment (first_world settings (is_manual opening.delivery) rows) [] x.left x.written
-      x.flushed
-      before 0)
-      (moment world buffer y.left y.written y.flushed behind taken) end
-  pub closed : Closed opening world.history.rows behind a b
-  pub asks : b.asks ≡ option_map (λ asks. asks ++ opening_asks opening) a.asks
-
--- nothing is opened and the input and the output are asked for nothing, or a session is run
-abbrev pub RunsSession : Opening → DeskSeen → DeskSeen → Ends → Ends → ℕ → Type 0
-RunsSession opening a b x y status =
-    ((why : Unopened) × (status ≡ unopened_status why) × IsUnopened why opening a b × (y ≡ x))
-    ⊎ ((end : SessionEnd) × (status ≡ status_of end) × RunsOpened opening a b x y end)
-
--- ---- connections
-
--- what is opened listens, and connections are served over it
-pub record ServesOpened (opening : Opening) (address : Text) (most : ℕ) (a b : DeskSeen)
-    (x y : Connections) (status : ℕ) : Type 0 where
-  pub settings : SettingsParts
-  pub rows : RowLists
-  pub opens : Opens a opening settings rows
-  pub before : ℕ
-  pub behind : ℕ
-  pub world : World
-  pub listens : Listens status address most
-      (first_world settings (is_manual opening.delivery) rows)
-      before
-      (line x.to_come x.returned (option_map (λ asks. asks ++ opening_asks opening) a.asks))
-      a.faults world behind y b.faults
-  pub closed : Closed opening world.history.rows behind a b
+  pub opens : Opens opening settings rows old
+  pub store : KeeperTold
+  pub faults : ℕ
+  pub later : old.faults ≤ faults
+  pub last : Carried (I × O)
+  pub listens : Listens input output address most status
+      (carried (first_world settings (is_manual opening.delivery) rows) store
+      (with_opening opening faults old)) last
+  pub closed : new ≡ with_closing opening last.world.history.rows last.store.faults last.desk
 
 -- nothing is opened and no connection is asked for, or connections are served
-abbrev pub RunsServe : Opening → Text → ℕ → DeskSeen → DeskSeen → Connections → Connections → ℕ
-    → Type 0
-RunsServe opening address most a b x y status =
-    ((why : Unopened) × (status ≡ unopened_status why) × IsUnopened why opening a b
-    × (y.to_come ≡ x.to_come) × (y.returned ≡ x.returned))
-    ⊎ ServesOpened opening address most a b x y status
+abbrev pub RunsServe : {I O : Type 0} → (I → SourceTold) → (O → SinkTold) → Opening → Text → ℕ
+    → Status → DeskTold (I × O) → DeskTold (I × O) → Type 0
+RunsServe input output opening address most status old new =
+    ((why : Unopened) × (status ≡ unopened_status why) × IsUnopened why opening old new)
+    ⊎ ServesOpened input output opening address most status old new
+
+-- ---- the program
+
+-- what a run works with: a desk, an input and an output
+pub record Outside (D I O : Type 0) : Type 0 where
+  pub desk : D
+  pub input : I
+  pub output : O
+
+abbrev pub outside : {D I O : Type 0} → D → I → O → Outside D I O
+outside desk input output = record { desk = desk; input = input; output = output }
+
+module _ {D I O : Type 0} (desk : D → DeskTold (I × O)) (input : I → SourceTold)
+    (output : O → SinkTold) where
+  -- a session of at most 2^40 bytes over what is opened, after which the store is closed with the
+  -- rows of its last world
+  pub record SessionOpened (opening : Opening) (end : SessionEnd) (old new : Outside D I O)
+      : Type 0 where
+    pub settings : SettingsParts
+    pub rows : RowLists
+    pub opens : Opens opening settings rows (desk old.desk)
+    pub store : KeeperTold
+    pub world : World
+    pub after : KeeperTold
+    pub promises : Promises (2 ^ 40)
+        (scene (first_world settings (is_manual opening.delivery) rows) store (input old.input)
+        (output old.output))
+        (scene world after (input new.input) (output new.output)) end
+    pub closed : desk new.desk
+        ≡ with_closing opening world.history.rows after.faults
+        (with_opening opening (desk new.desk).faults (desk old.desk))
+
+  -- nothing is opened, and the input and the output are as they were
+  abbrev pub IsRefused : Opening → Status → Outside D I O → Outside D I O → Type 0
+  IsRefused opening status old new =
+      (why : Unopened) × (status ≡ unopened_status why)
+      × IsUnopened why opening (desk old.desk) (desk new.desk) × (new.input ≡ old.input)
+      × (new.output ≡ old.output)
+
+  -- what the program does by a command line
+  abbrev pub RunsLine : Line → Status → Outside D I O → Outside D I O → Type 0
+  RunsLine (Session opening) status old new =
+      IsRefused opening status old new
+      ⊎ ((end : SessionEnd) × (status ≡ ended_status end) × SessionOpened opening end old new)
+  RunsLine (Serve opening address most) status old new =
+      RunsServe input output opening address most status (desk old.desk) (desk new.desk)
+      × (new.input ≡ old.input) × (new.output ≡ old.output)
+  RunsLine (Drill start size replies) status old new =
+      RunsDrill start size replies status (output old.output) (output new.output)
+      × (new.desk ≡ old.desk) × (new.input ≡ old.input)
+
+  -- without one it touches nothing; with one, memory may run out before anything is touched
+  abbrev pub Runs : Option Line → Status → Outside D I O → Outside D I O → Type 0
+  Runs None status old new = ((status ≡ WrongWords) ⊎ (status ≡ OutOfMemory)) × (new ≡ old)
+  Runs (Some line) status old new =
+      ((status ≡ OutOfMemory) × (new ≡ old)) ⊎ RunsLine line status old new
 
 -- ---- what a status tells
 
--- the settings that the words name are none
-abbrev pub HasBadSettings : Option Opening → DeskSeen → Type 0
+-- the settings that the arguments name are none
+abbrev pub HasBadSettings : {P : Type 0} → Option Opening → DeskTold P → Type 0
 HasBadSettings None old = ⊥
 HasBadSettings (Some opening) old = AreBadSettings old.files opening.settings
 
 -- the rows that the named store keeps break a clause of consistency
-abbrev pub HasBrokenRows : Option Opening → DeskSeen → Type 0
+abbrev pub HasBrokenRows : {P : Type 0} → Option Opening → DeskTold P → Type 0
 HasBrokenRows None old = ⊥
-HasBrokenRows (Some opening) old = AreBroken old opening
-
--- memory ran out before anything was asked for
-abbrev pub IsUnasked : {D I O : Type 0} → ℕ → D → D → I → I → O → O → Type 0
-IsUnasked status desk desk_new input input_new output output_new =
-    (status ≡ 4) × (desk_new ≡ desk) × (input_new ≡ input) × (output_new ≡ output)
+HasBrokenRows (Some opening) old = AreBroken opening old
 
 abbrev pub is_session_in : Line → Bool
 is_session_in (Session opening) = true

@@ -1,5 +1,5 @@
 -- What a request makes of the server, and its reply.
-use Rattle.std.specs.Prelude.{◌≡◌, ℕ, ◌==◌, true, if◌then◌else◌, Result, Ok, Err, None}
+use Rattle.std.specs.Prelude.{◌≡◌, true, Result, Ok, Err, None}
 use Rattle.net_addr.specs.Words.{Bytes}
 use Rattle.api_types.specs.Outcome.{Refused}
 use Rattle.api_types.specs.declared.call.Caller.{Caller}
@@ -8,6 +8,8 @@ use Rattle.api_types.specs.declared.refusal.Refusal.TheVariants.{Malformed, Head
 use Rattle.http_heads.specs.Fields.{closes}
 use Rattle.http_heads.specs.Heads.{Asked}
 use Rattle.http_session.specs.Told.{Fixed}
+use Rattle.http_session.specs.declared.bad_bytes.BadBytes.{BadBytes}
+use Rattle.http_session.specs.declared.bad_bytes.BadBytes.TheVariants as bad
 use Rattle.world_laws.specs.World.{World}
 use Rattle.lab_world.specs.World.{AskOutcome, ByMachine, MovesBy, ask_outcome, is_change}
 use Rattle.neutron_http.specs.Replies.{reply_bytes, no_memory_body}
@@ -26,17 +28,18 @@ pub record Steps (old : World) (asked : Asked) (reply : Bytes) (new : World) : T
   pub replies : reply ≡ outcome_bytes (closes asked.head) (request_outcome old (request_of asked))
 
 -- the refusals of bytes by their numbers
-abbrev pub byte_refusal : ℕ → Refusal
-byte_refusal n =
-    if n == 1 then Malformed
-    else (if n == 2 then HeadLarge else (if n == 3 then BodyLarge else NoLength))
+abbrev pub byte_refusal : BadBytes → Refusal
+byte_refusal bad.Malformed = Malformed
+byte_refusal bad.HeadLarge = HeadLarge
+byte_refusal bad.BodyLarge = BodyLarge
+byte_refusal bad.NoLength = NoLength
 
 -- the replies that are none of a step, and the requests that come to a change
 abbrev pub fixed_replies : Fixed World
 fixed_replies = record {
   store_failed = λ close. refusal_bytes close StoreFault;
   no_memory = λ close. reply_bytes 507 close None no_memory_body;
-  refusal = λ n. refusal_bytes true (byte_refusal n);
+  refusal = λ b. refusal_bytes true (byte_refusal b);
   changes = λ world asked. is_change (request_outcome world (request_of asked));
   may_want = true;
 }

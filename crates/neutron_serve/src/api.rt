@@ -1,8 +1,9 @@
 //! The Networking API as what a session is answered with.
-ghost use Rattle.std.specs.Prelude.{◌≡◌, ◌≤◌, ◌==◌, ◌&&◌, if◌then◌else◌, not, true, is_some};
+ghost use Rattle.std.specs.Prelude.{◌≡◌, ◌≤◌, ◌==◌, ◌&&◌, if◌then◌else◌, not, true};
 ghost use Rattle.http_heads.specs.Heads.{Asked};
 ghost use Rattle.http_session.specs.Requests.{IsRequest, BeginsWith};
 ghost use Rattle.keeper_core.specs.Counts.{RoseBy, Tells};
+ghost use Rattle.keeper_core.specs.Kept.{IsStored};
 ghost use Rattle.lab_world.specs.World.{Handles, IsAskInForm, ask_outcome, is_change};
 ghost use Rattle.neutron_serve.specs.Replies.{refusal_bytes};
 ghost use Rattle.neutron_serve.specs.Causes.{cause_in, may_move as may_move_by, moves_hosts as moves_hosts_by, tells_entries};
@@ -12,7 +13,7 @@ ghost use Rattle.neutron_serve.specs.Steps.{byte_refusal, request_outcome};
 use crate::reply::write;
 use crate::request::read_request;
 use api_types::{Caller, Refusal};
-use http_session::{Answer, Handler, Request};
+use http_session::{Answer, BadBytes, Handler, Request};
 use keeper_core::Keeper;
 use lab_world::World;
 use net_addr::{Bytes, OutOfMemory};
@@ -35,7 +36,7 @@ fn handle_ask<K: Keeper>(
     caller: &Caller,
     ask: &Ask,
 ) -> Handled
-    requires kept { Tells (K.kept keeper.old) world.old.history.rows }
+    requires kept { Tells (K.told keeper.old).rows world.old.history.rows }
     requires in_form { IsAskInForm caller.now ask.now }
     ensures handled { Handles (ask_outcome world.old caller.now ask.now) world.old world.new
         result.reply }
@@ -43,10 +44,9 @@ fn handle_ask<K: Keeper>(
     ensures store_change { result.reply ≡ Reply.Refused Refusal.StoreFault
         → is_change (ask_outcome world.old caller.now ask.now) ≡ true }
     ensures store_fault { result.reply ≡ Reply.Refused Refusal.StoreFault
-        → RoseBy 1 (K.faults keeper.old) (K.faults keeper.new) }
-    ensures later { K.faults keeper.old ≤ K.faults keeper.new }
-    ensures kept { Tells (K.kept keeper.new) world.new.history.rows }
-    ensures told { is_some (K.kept keeper.new) ≡ is_some (K.kept keeper.old) }
+        → RoseBy 1 (K.told keeper.old).faults (K.told keeper.new).faults }
+    ensures later { (K.told keeper.old).faults ≤ (K.told keeper.new).faults }
+    ensures kept { IsStored world.new.history.rows (K.told keeper.old) (K.told keeper.new) }
 {
     let before = world.version();
     let reply = world.handle(alloc, keeper, caller, ask);
@@ -63,7 +63,7 @@ pub(crate) fn reply_to<K: Keeper>(
     bytes: &[u8],
     request: &Request,
 ) -> Handled
-    requires kept { Tells (K.kept keeper.old) world.old.history.rows }
+    requires kept { Tells (K.told keeper.old).rows world.old.history.rows }
     requires begins { BeginsWith bytes.now request.now }
     ensures handled { (asked : Asked) → IsRequest bytes.now request.now asked
         → Handles (request_outcome world.old (request_of asked)) world.old world.new
@@ -73,10 +73,9 @@ pub(crate) fn reply_to<K: Keeper>(
         → result.reply ≡ Reply.Refused Refusal.StoreFault
         → is_change (request_outcome world.old (request_of asked)) ≡ true }
     ensures store_fault { result.reply ≡ Reply.Refused Refusal.StoreFault
-        → RoseBy 1 (K.faults keeper.old) (K.faults keeper.new) }
-    ensures later { K.faults keeper.old ≤ K.faults keeper.new }
-    ensures kept { Tells (K.kept keeper.new) world.new.history.rows }
-    ensures told { is_some (K.kept keeper.new) ≡ is_some (K.kept keeper.old) }
+        → RoseBy 1 (K.told keeper.old).faults (K.told keeper.new).faults }
+    ensures later { (K.told keeper.old).faults ≤ (K.told keeper.new).faults }
+    ensures kept { IsStored world.new.history.rows (K.told keeper.old) (K.told keeper.new) }
 {
     match read_request(alloc, routes, bytes, request) {
         Ok((caller, ask)) => handle_ask(world, alloc, keeper, &caller, &ask),
@@ -164,15 +163,15 @@ fn unwritten(same: bool) -> Answer
     }
 }
 
-// The reply of bytes that are refused with this number.
-fn refusal_numbered(number: u8) -> Refusal
-    ensures { result ≡ byte_refusal number }
+// The refusal of bytes.
+fn refusal_of(bad: BadBytes) -> Refusal
+    ensures { result ≡ byte_refusal bad }
 {
-    match number {
-        1 => Refusal::Malformed,
-        2 => Refusal::HeadLarge,
-        3 => Refusal::BodyLarge,
-        _ => Refusal::NoLength,
+    match bad {
+        BadBytes::Malformed => Refusal::Malformed,
+        BadBytes::HeadLarge => Refusal::HeadLarge,
+        BadBytes::BodyLarge => Refusal::BodyLarge,
+        BadBytes::NoLength => Refusal::NoLength,
     }
 }
 
@@ -225,7 +224,7 @@ impl Handler for Api {
         no_memory_reply(close)
     }
 
-    fn refusal(alloc: Global, number: u8) -> Result<Bytes, OutOfMemory> {
-        write(alloc, true, &Reply::Refused(refusal_numbered(number)))
+    fn refusal(alloc: Global, bad: BadBytes) -> Result<Bytes, OutOfMemory> {
+        write(alloc, true, &Reply::Refused(refusal_of(bad)))
     }
 }

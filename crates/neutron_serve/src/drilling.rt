@@ -4,13 +4,15 @@ ghost use Rattle.keeper_core.specs.Counts.{RoseBy};
 ghost use Rattle.world_laws.specs.World.{IsSynced};
 ghost use Rattle.neutron_serve.specs.Drills.{IsDrillText, IsDrilled, RunsDrill, count_line, counted, fresh_drill, fresh_tally, is_delivered, is_outside, summary_text};
 ghost use Rattle.neutron_serve.specs.Replies.{code_in, reply_written};
+ghost use Rattle.neutron_serve.specs.Status.{is_drilling};
 
 use crate::api::{Api, Handled, reply_to};
 use crate::reply::{reply_status, write};
 use crate::serving::BUDGET;
+use crate::status::Status;
 use api_types::{Refusal, Rows};
 use drill_gen::drill;
-use http_session::{Answer, Handler, Request, SessionEnd, send};
+use http_session::{Answer, BadBytes, Handler, Request, SessionEnd, send};
 use keeper_core::{Keeper, Sink, SinkRefusal, SureKeeper, SureSink, SureSource};
 use lab_world::World;
 use net_addr::{Bytes, OutOfMemory};
@@ -175,8 +177,8 @@ impl Handler for Counting {
         no_memory_reply(close)
     }
 
-    fn refusal(alloc: Global, number: u8) -> Result<Bytes, OutOfMemory> {
-        Api::refusal(alloc, number)
+    fn refusal(alloc: Global, bad: BadBytes) -> Result<Bytes, OutOfMemory> {
+        Api::refusal(alloc, bad)
     }
 }
 
@@ -267,26 +269,26 @@ fn drill_bytes(alloc: Global, start: u64, size: u32, replies: bool) -> Result<Ve
     Ok(bytes)
 }
 
-/// Runs a drill and writes its replies, where they are wanted, and its summary. The status is 0
-/// where all was written and flushed, 3 where a write or a flush failed, and 4 where memory
-/// ran out. At 3 and 4 a front of it is written.
+/// Runs a drill and writes its replies, if they are wanted, and its summary. It is done if all was
+/// written and flushed. If a write or a flush failed, or memory ran out, a front of it is written.
 pub(crate) fn run_drill<O: Sink>(
     alloc: Global,
     start: u64,
     size: u32,
     replies: bool,
     output: &mut O,
-) -> u8
-    ensures runs { RunsDrill start size replies
-        (O.written output.old) (O.written output.new) (O.flushed output.new) result }
-    ensures write_fault { result ≡ 3 → RoseBy 1 (O.faults output.old) (O.faults output.new) }
+) -> Status
+    ensures runs { RunsDrill start size replies result (O.told output.old) (O.told output.new) }
+    ensures write_fault { result ≡ Status.WriteFault
+        → RoseBy 1 (O.told output.old).faults (O.told output.new).faults }
+    ensures drilling { is_drilling result ≡ true }
 {
     let Ok(bytes) = drill_bytes(alloc, start, size, replies) else {
-        return 4;
+        return Status::OutOfMemory;
     };
     match send(output, bytes.as_slice()) {
-        Ok(()) => 0,
-        Err(SinkRefusal::Failed) => 3,
-        Err(SinkRefusal::OutOfMemory) => 4,
+        Ok(()) => Status::Done,
+        Err(SinkRefusal::Failed) => Status::WriteFault,
+        Err(SinkRefusal::OutOfMemory) => Status::OutOfMemory,
     }
 }

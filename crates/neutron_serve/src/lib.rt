@@ -18,6 +18,7 @@ mod reply;
 mod request;
 mod serving;
 mod sessions;
+mod status;
 mod top;
 
 pub use http_session::SessionEnd;

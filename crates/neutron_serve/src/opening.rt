@@ -1,14 +1,15 @@
 //! What a run starts from.
-ghost use Rattle.std.specs.Prelude.{◌≡◌, ◌++◌, ◌≤◌, Some, None, Err, true, IfOk, IfErr, IfSome, OnErr, OnOk, is_some, option_map};
+ghost use Rattle.std.specs.Prelude.{◌≡◌, ◌≤◌, None, Some, Err, true, IfOk, IfErr, IfSome, OnOk, is_some};
 ghost use Rattle.api_check.specs.FirstBroken.{first_broken_of};
 ghost use Rattle.api_check.specs.declared.broken.Inconsistent.{Inconsistent as Broken};
 ghost use Rattle.api_types.specs.RowLists.{RowLists};
-ghost use Rattle.keeper_core.specs.Counts.{HasRefusalCause, RoseBy, Tells};
-ghost use Rattle.keeper_core.specs.Desk.{AddsAsk, opened_as, opening_rows};
+ghost use Rattle.keeper_core.specs.Counts.{RoseBy, Tells};
+ghost use Rattle.keeper_core.specs.Desk.{Asks, OpensWith, with_opened};
 ghost use Rattle.keeper_core.specs.declared.ask.DeskAsk.{DeskAsk};
 ghost use Rattle.net_settings.specs.Settings.{SettingsParts};
 ghost use Rattle.world_laws.specs.World.{first_world};
-ghost use Rattle.neutron_serve.specs.Openings.{AreMade, AreSettings, IsCause, IsSettingsCause, IsUnopened, Opens, by_desk, by_settings, by_world, desk_seen, is_manual as is_manual_by, opening_asks, settings_asks};
+ghost use Rattle.neutron_serve.specs.Openings as openings;
+ghost use Rattle.neutron_serve.specs.Runs.{with_opening};
 
 use command_lines::{Delivery, Opening};
 use keeper_core::{Desk, DeskRefusal, Keeper};
@@ -41,7 +42,7 @@ impl From<OutOfMemory> for Unopened {
 }
 
 impl From<DeskRefusal> for Unopened {
-    ghost from_gives = { λ refusal e. e ≡ by_desk refusal };
+    ghost from_gives = { λ refusal e. e ≡ openings.by_desk refusal };
 
     fn from(refusal: DeskRefusal) -> Unopened {
         match refusal {
@@ -52,7 +53,7 @@ impl From<DeskRefusal> for Unopened {
 }
 
 impl From<SettingsRefusal> for Unopened {
-    ghost from_gives = { λ refusal e. e ≡ by_settings refusal };
+    ghost from_gives = { λ refusal e. e ≡ openings.by_settings refusal };
 
     fn from(refusal: SettingsRefusal) -> Unopened {
         match refusal {
@@ -63,7 +64,7 @@ impl From<SettingsRefusal> for Unopened {
 }
 
 impl From<OpenRefusal> for Unopened {
-    ghost from_gives = { λ refusal e. e ≡ by_world refusal };
+    ghost from_gives = { λ refusal e. e ≡ openings.by_world refusal };
 
     fn from(refusal: OpenRefusal) -> Unopened {
         match refusal {
@@ -74,7 +75,7 @@ impl From<OpenRefusal> for Unopened {
 }
 
 fn is_manual(delivery: Delivery) -> bool
-    ensures { result ≡ is_manual_by delivery }
+    ensures { result ≡ openings.is_manual delivery }
 {
     match delivery {
         Delivery::Automatic => false,
@@ -82,29 +83,23 @@ fn is_manual(delivery: Delivery) -> bool
     }
 }
 
-// The settings of the opening, and the default ones where it names none.
+// The settings of the opening, and the default ones if it names none.
 fn settings_for<D: Desk>(
     alloc: Global,
     desk: &mut D,
     opening: &Opening,
 ) -> Result<Settings, Unopened>
-    ensures ok { IfOk result (AreSettings (D.files desk.old) opening.now.settings) }
+    ensures ok { IfOk result (openings.AreSettings (D.told desk.old).files opening.now.settings) }
+    ensures asked { OnOk result
+        (D.told desk.new
+        ≡ record (D.told desk.old) {
+          asks = openings.with_asks (openings.settings_asks opening.now.settings)
+              (D.told desk.old).asks;
+          faults = (D.told desk.new).faults;
+        }) }
     ensures err { IfErr result (λ why.
-        IsSettingsCause why opening.now
-        (desk_seen (D.asks desk.old) (D.files desk.old) (D.stores desk.old) (D.faults desk.old)
-        (D.store_faults desk.old))
-        (desk_seen (D.asks desk.new) (D.files desk.new) (D.stores desk.new) (D.faults desk.new)
-        (D.store_faults desk.new))) }
-    ensures asked { OnOk result (D.asks desk.new
-        ≡ option_map (λ asks. asks ++ settings_asks opening.now.settings) (D.asks desk.old)) }
-    ensures made { IfErr result (λ why.
-        AreMade why (settings_asks opening.now.settings) (D.asks desk.old) (D.asks desk.new)) }
-    ensures files { D.files desk.new ≡ D.files desk.old }
-    ensures stores { D.stores desk.new ≡ D.stores desk.old }
-    ensures to_come { D.to_come desk.new ≡ D.to_come desk.old }
-    ensures returned { D.returned desk.new ≡ D.returned desk.old }
-    ensures store_faults { D.store_faults desk.new ≡ D.store_faults desk.old }
-    ensures later { D.faults desk.old ≤ D.faults desk.new }
+        openings.EndsAtSettings why opening.now (D.told desk.old) (D.told desk.new)) }
+    ensures later { (D.told desk.old).faults ≤ (D.told desk.new).faults }
 {
     let Some(name) = &opening.settings else {
         return Ok(default_settings(alloc)?);
@@ -113,24 +108,16 @@ fn settings_for<D: Desk>(
     Ok(read_settings(alloc, bytes.as_slice())?)
 }
 
-// The store of the opening, or one in memory where it names none.
+// The store of the opening, or one in memory if it names none.
 fn store_for<D: Desk>(
     alloc: Global,
     desk: &mut D,
     opening: &Opening,
 ) -> Result<D::Store, DeskRefusal>
-    ensures fresh { IfOk result (λ store. D.Store.faults store ≡ 0) }
-    ensures rows { IfOk result (λ store. IfSome (D.stores desk.old)
-        (λ told. D.Store.kept store ≡ Some (opening_rows opening.now.store told))) }
-    ensures opened { OnOk result
-        (D.stores desk.new ≡ option_map (opened_as opening.now.store) (D.stores desk.old)) }
-    ensures refused { OnErr result (D.stores desk.new ≡ D.stores desk.old) }
-    ensures asks { AddsAsk result (DeskAsk.Store opening.now.store) (D.asks desk.old)
-        (D.asks desk.new) }
-    ensures to_come { D.to_come desk.new ≡ D.to_come desk.old }
-    ensures returned { D.returned desk.new ≡ D.returned desk.old }
-    ensures store_faults { D.store_faults desk.new ≡ D.store_faults desk.old }
-    ensures cause { HasRefusalCause (D.faults desk.old) (D.faults desk.new) result }
+    ensures store { IfOk result (λ store.
+        OpensWith opening.now.store (D.told desk.old).stores (D.Store.told store)) }
+    ensures asks { Asks (DeskAsk.Store opening.now.store) result
+        (with_opened opening.now.store result (D.told desk.old)) (D.told desk.new) }
 {
     match &opening.store {
         Some(name) => desk.store(alloc, Some(name)),
@@ -139,66 +126,51 @@ fn store_for<D: Desk>(
 }
 
 // The world of the rows that a store keeps.
-fn loaded<K: Keeper>(
+fn load_world<K: Keeper>(
     alloc: Global,
     keeper: &mut K,
     settings: Settings,
     manual: bool,
 ) -> Result<World, Unopened>
-    ensures ok { IfOk result (λ world. (rows : RowLists) × Tells (K.kept keeper.old) rows
+    ensures ok { IfOk result (λ world. (rows : RowLists) × Tells (K.told keeper.old).rows rows
         × (world ≡ first_world settings manual rows)
         × (first_broken_of settings.hosts rows ≡ None)) }
     ensures broken { result ≡ Err Unopened.Inconsistent → (rows : RowLists) × (broken : Broken)
-        × Tells (K.kept keeper.old) rows × (first_broken_of settings.hosts rows ≡ Some broken) }
+        × Tells (K.told keeper.old).rows rows
+        × (first_broken_of settings.hosts rows ≡ Some broken) }
     ensures failed { result ≡ Err Unopened.Failed
-        → RoseBy 1 (K.faults keeper.old) (K.faults keeper.new) }
+        → RoseBy 1 (K.told keeper.old).faults (K.told keeper.new).faults }
     ensures settings { result ≡ Err Unopened.BadSettings → ⊥ }
-    ensures kept { K.kept keeper.new ≡ K.kept keeper.old }
+    ensures kept { (K.told keeper.new).rows ≡ (K.told keeper.old).rows }
 {
     let rows = keeper.load(alloc)?;
     Ok(World::open(alloc, rows, settings, manual)?)
 }
 
-/// Asks the desk for the settings, and where they are good for the store, and opens a world of the
+/// Asks the desk for the settings, and if they are good for the store, and opens a world of the
 /// store's rows. A store that gives no such world is handed back.
-pub(crate) fn opened<D: Desk>(
+pub(crate) fn open<D: Desk>(
     alloc: Global,
     desk: &mut D,
     opening: &Opening,
 ) -> Result<(World, D::Store), Unopened>
     ensures ok { IfOk result (λ o. (settings : SettingsParts) × (rows : RowLists)
-        × Opens (desk_seen (D.asks desk.old) (D.files desk.old) (D.stores desk.old)
-        (D.faults desk.old) (D.store_faults desk.old))
-        opening.now settings rows
-        × (o.0 ≡ first_world settings (is_manual_by opening.now.delivery) rows)
-        × Tells (D.Store.kept o.1) rows) }
+        × openings.Opens opening.now settings rows (D.told desk.old)
+        × (o.0 ≡ first_world settings (openings.is_manual opening.now.delivery) rows)
+        × Tells (D.Store.told o.1).rows rows) }
     ensures told { IfOk result (λ o.
-        IfSome (D.stores desk.old) (λ _. is_some (D.Store.kept o.1) ≡ true)) }
-    ensures asked { OnOk result
-        (D.asks desk.new
-        ≡ option_map (λ asks. asks ++ opening_asks opening.now) (D.asks desk.old)) }
-    ensures stores { OnOk result
-        (D.stores desk.new ≡ option_map (opened_as opening.now.store) (D.stores desk.old)) }
-    ensures store_faults { OnOk result (D.store_faults desk.new ≡ D.store_faults desk.old) }
+        IfSome (D.told desk.old).stores (λ _. is_some (D.Store.told o.1).rows ≡ true)) }
+    ensures opened { OnOk result
+        (D.told desk.new ≡ with_opening opening.now (D.told desk.new).faults (D.told desk.old)) }
     ensures err { IfErr result (λ why.
-        IsUnopened why opening.now
-        (desk_seen (D.asks desk.old) (D.files desk.old) (D.stores desk.old) (D.faults desk.old)
-        (D.store_faults desk.old))
-        (desk_seen (D.asks desk.new) (D.files desk.new) (D.stores desk.new) (D.faults desk.new)
-        (D.store_faults desk.new))) }
+        openings.IsUnopened why opening.now (D.told desk.old) (D.told desk.new)) }
     ensures cause { IfErr result (λ why.
-        IsCause why opening.now
-        (desk_seen (D.asks desk.old) (D.files desk.old) (D.stores desk.old) (D.faults desk.old)
-        (D.store_faults desk.old))
-        (desk_seen (D.asks desk.new) (D.files desk.new) (D.stores desk.new) (D.faults desk.new)
-        (D.store_faults desk.new))) }
-    ensures to_come { D.to_come desk.new ≡ D.to_come desk.old }
-    ensures returned { D.returned desk.new ≡ D.returned desk.old }
-    ensures later { D.faults desk.old ≤ D.faults desk.new }
+        openings.IsCause why opening.now (D.told desk.old) (D.told desk.new)) }
+    ensures later { (D.told desk.old).faults ≤ (D.told desk.new).faults }
 {
     let settings = settings_for(alloc, desk, opening)?;
     let mut store = store_for(alloc, desk, opening)?;
-    match loaded(alloc, &mut store, settings, is_manual(opening.delivery)) {
+    match load_world(alloc, &mut store, settings, is_manual(opening.delivery)) {
         Ok(world) => Ok((world, store)),
         Err(why) => {
             desk.close(store);

@@ -1,10 +1,12 @@
 //! Connections served one after the other.
-ghost use Rattle.std.specs.Prelude.{◌≡◌, ◌≤◌, map, option_map, is_some};
+ghost use Rattle.std.specs.Prelude.{◌≡◌, ◌≤◌};
 ghost use Rattle.keeper_core.specs.Counts.{Tells};
-ghost use Rattle.keeper_core.specs.Desk.{end_of};
-ghost use Rattle.neutron_serve.specs.Connections.{ServesAll, TurnsBy, is_wanting as is_wanting_by, line};
+ghost use Rattle.keeper_core.specs.Desk.{IsNoneOut};
+ghost use Rattle.keeper_core.specs.Kept.{IsStored};
+ghost use Rattle.neutron_serve.specs.Connections as connections;
 
 use crate::sessions::session;
+use crate::status::Status;
 use http_session::SessionEnd;
 use keeper_core::{Desk, DeskRefusal};
 use lab_world::World;
@@ -15,50 +17,49 @@ pub(crate) const BUDGET: u64 = 1_099_511_627_776;
 
 // What came of the ask for one connection more.
 #[derive(Clone, Copy)]
-pub(crate) enum Turn {
+pub(crate) enum NextConnection {
     // It was served, and its session ended so.
     Served(SessionEnd),
     // None is to come.
     NoneLeft,
     // The desk failed.
     Failed,
-    // Memory could not be had.
+    // Memory ran out.
     OutOfMemory,
 }
 
 // Serves the next connection, and hands it back.
-fn serve_next<D: Desk>(alloc: Global, desk: &mut D, world: &mut World, store: &mut D::Store) -> Turn
-    requires { Tells (D.Store.kept store.old) world.old.history.rows }
-    ensures turn { TurnsBy result world.old (D.Store.faults store.old)
-        (line
-        (option_map (map (end_of D.In.left D.In.faults D.Out.written D.Out.flushed D.Out.faults))
-        (D.to_come desk.old)) (D.returned desk.old) (D.asks desk.old))
-        (D.faults desk.old) world.new (D.Store.faults store.new)
-        (line
-        (option_map (map (end_of D.In.left D.In.faults D.Out.written D.Out.flushed D.Out.faults))
-        (D.to_come desk.new)) (D.returned desk.new) (D.asks desk.new))
-        (D.faults desk.new) }
-    ensures kept { Tells (D.Store.kept store.new) world.new.history.rows }
-    ensures told { is_some (D.Store.kept store.new) ≡ is_some (D.Store.kept store.old) }
-    ensures stores { D.stores desk.new ≡ D.stores desk.old }
-    ensures store_faults { D.store_faults desk.new ≡ D.store_faults desk.old }
-    ensures later { D.faults desk.old ≤ D.faults desk.new }
+fn serve_next<D: Desk>(
+    alloc: Global,
+    desk: &mut D,
+    world: &mut World,
+    store: &mut D::Store,
+) -> NextConnection
+    requires kept { Tells (D.Store.told store.old).rows world.old.history.rows }
+    requires none_out { IsNoneOut (D.told desk.old) }
+    ensures comes { connections.ComesNext D.In.told D.Out.told result
+        (connections.carried world.old (D.Store.told store.old) (D.told desk.old))
+        (connections.carried world.new (D.Store.told store.new) (D.told desk.new)) }
+    ensures kept { IsStored world.new.history.rows (D.Store.told store.old)
+        (D.Store.told store.new) }
+    ensures none_out { IsNoneOut (D.told desk.new) }
+    ensures later { (D.told desk.old).faults ≤ (D.told desk.new).faults }
 {
     match desk.next(alloc) {
         Ok(Some((mut input, mut output))) => {
             let end = session(alloc, world, store, &mut input, &mut output, BUDGET);
             desk.done(input, output);
-            Turn::Served(end)
+            NextConnection::Served(end)
         }
-        Ok(None) => Turn::NoneLeft,
-        Err(DeskRefusal::Failed) => Turn::Failed,
-        Err(DeskRefusal::OutOfMemory) => Turn::OutOfMemory,
+        Ok(None) => NextConnection::NoneLeft,
+        Err(DeskRefusal::Failed) => NextConnection::Failed,
+        Err(DeskRefusal::OutOfMemory) => NextConnection::OutOfMemory,
     }
 }
 
 // Whether a session ended because memory ran out.
 fn is_wanting(end: SessionEnd) -> bool
-    ensures { result ≡ is_wanting_by end }
+    ensures { result ≡ connections.is_wanting end }
 {
     match end {
         SessionEnd::OutOfMemory => true,
@@ -67,43 +68,36 @@ fn is_wanting(end: SessionEnd) -> bool
     }
 }
 
-/// Serves the connections to come, one after the other and at most this many, over one world. The
-/// status is 0 where they were served or none was left, 4 where memory ran out outside a reply,
-/// and 7 where the desk failed.
+/// Serves the connections to come, one after the other and at most this many, over one world. It
+/// is done once they were served or none is left. A session that runs out of memory ends it, and so
+/// does a desk that fails.
 pub(crate) fn serve_all<D: Desk>(
     alloc: Global,
     desk: &mut D,
     world: &mut World,
     store: &mut D::Store,
-    connections: u64,
-) -> u8
-    requires { Tells (D.Store.kept store.old) world.old.history.rows }
-    ensures serves { ServesAll result connections world.old (D.Store.faults store.old)
-        (line
-        (option_map (map (end_of D.In.left D.In.faults D.Out.written D.Out.flushed D.Out.faults))
-        (D.to_come desk.old)) (D.returned desk.old) (D.asks desk.old))
-        (D.faults desk.old) world.new (D.Store.faults store.new)
-        (line
-        (option_map (map (end_of D.In.left D.In.faults D.Out.written D.Out.flushed D.Out.faults))
-        (D.to_come desk.new)) (D.returned desk.new) (D.asks desk.new))
-        (D.faults desk.new) }
-    ensures kept { Tells (D.Store.kept store.new) world.new.history.rows }
-    ensures told { is_some (D.Store.kept store.new) ≡ is_some (D.Store.kept store.old) }
-    ensures stores { D.stores desk.new ≡ D.stores desk.old }
-    ensures store_faults { D.store_faults desk.new ≡ D.store_faults desk.old }
-    ensures later { D.faults desk.old ≤ D.faults desk.new }
+    most: u64,
+) -> Status
+    requires kept { Tells (D.Store.told store.old).rows world.old.history.rows }
+    requires none_out { IsNoneOut (D.told desk.old) }
+    ensures serves { connections.ServesAll D.In.told D.Out.told most result
+        (connections.carried world.old (D.Store.told store.old) (D.told desk.old))
+        (connections.carried world.new (D.Store.told store.new) (D.told desk.new)) }
+    ensures kept { IsStored world.new.history.rows (D.Store.told store.old)
+        (D.Store.told store.new) }
+    ensures later { (D.told desk.old).faults ≤ (D.told desk.new).faults }
 {
-    'connections: for _connection in 0..connections {
+    'connections: for _connection in 0..most {
         match serve_next(alloc, desk, world, store) {
-            Turn::Served(end) => {
+            NextConnection::Served(end) => {
                 if is_wanting(end) {
-                    return 4;
+                    return Status::OutOfMemory;
                 }
             }
-            Turn::NoneLeft => return 0,
-            Turn::Failed => return 7,
-            Turn::OutOfMemory => return 4,
+            NextConnection::NoneLeft => return Status::Done,
+            NextConnection::Failed => return Status::Failed,
+            NextConnection::OutOfMemory => return Status::OutOfMemory,
         }
     }
-    0
+    Status::Done
 }

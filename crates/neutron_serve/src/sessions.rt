@@ -1,7 +1,8 @@
 //! Sessions over a world.
-ghost use Rattle.std.specs.Prelude.{◌≡◌, ℕ, ◌≤◌, List, [], is_some};
-ghost use Rattle.http_session.specs.Serves.{moment};
+ghost use Rattle.std.specs.Prelude.{◌≡◌};
+ghost use Rattle.http_session.specs.Serves.{scene};
 ghost use Rattle.keeper_core.specs.Counts.{RoseBy, Tells};
+ghost use Rattle.keeper_core.specs.Kept.{IsStored};
 ghost use Rattle.neutron_serve.specs.Promises.{Promises};
 
 use crate::api::Api;
@@ -30,18 +31,15 @@ pub fn session<K: Keeper, I: Source, O: Sink>(
     output: &mut O,
     limit: u64,
 ) -> SessionEnd
-    requires { Tells (K.kept keeper.old) world.old.history.rows }
-    ensures promises { (buffer : List ℕ) × (taken : ℕ) × (taken ≤ limit) × Promises limit
-        (moment world.old [] (I.left input.old) (O.written output.old) (O.flushed output.old)
-        (K.faults keeper.old) 0)
-        (moment world.new buffer (I.left input.new) (O.written output.new) (O.flushed output.new)
-        (K.faults keeper.new) taken) result }
-    ensures kept { Tells (K.kept keeper.new) world.new.history.rows }
-    ensures told { is_some (K.kept keeper.new) ≡ is_some (K.kept keeper.old) }
+    requires { Tells (K.told keeper.old).rows world.old.history.rows }
+    ensures promises { Promises limit
+        (scene world.old (K.told keeper.old) (I.told input.old) (O.told output.old))
+        (scene world.new (K.told keeper.new) (I.told input.new) (O.told output.new)) result }
+    ensures kept { IsStored world.new.history.rows (K.told keeper.old) (K.told keeper.new) }
     ensures read_fault { result ≡ SessionEnd.ReadFault
-        → RoseBy 1 (I.faults input.old) (I.faults input.new) }
+        → RoseBy 1 (I.told input.old).faults (I.told input.new).faults }
     ensures write_fault { result ≡ SessionEnd.WriteFault
-        → RoseBy 1 (O.faults output.old) (O.faults output.new) }
+        → RoseBy 1 (O.told output.old).faults (O.told output.new).faults }
 {
     let _rows = world.rows(); // for the proof: hosts follow the rows
     http_session::session::<Api, K, I, O>(alloc, world, keeper, input, output, limit)

@@ -39,21 +39,9 @@ impl Desk for SessionDesk {
 
     type Store = SureKeeper;
 
-    ghost use Rattle.std.specs.Prelude.{None};
+    ghost use Rattle.keeper_core.specs.Desk.{untold_desk};
 
-    ghost asks = { λ _. None };
-
-    ghost files = { λ _. None };
-
-    ghost stores = { λ _. None };
-
-    ghost to_come = { λ _. None };
-
-    ghost returned = { λ _. None };
-
-    ghost faults = { λ desk. desk.faults };
-
-    ghost store_faults = { λ _. 0 };
+    ghost told = { λ desk. untold_desk desk.faults 0 };
 
     fn settings(&mut self, _alloc: Global, _name: &Text) -> Result<Bytes, DeskRefusal> {
         Err(self.fail())

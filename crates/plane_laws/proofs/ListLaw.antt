@@ -221,7 +221,7 @@ module _ (carry : List ℕ → Segment → Bool) (rows : RowLists) (hosts : List
       (AllOf-more (λ e. stands_at rows y.name e ≡ true) (λ e. uses_at r x (e ∷ []) ≡ []) y.entries (λ e there. away y.name e there off) s)) stand.stand)
       makers-known
 
-  entries-kept : SameEntries (all_entries (hosts_after hosts event)) (all_entries hosts ++ (fabric_fate hosts event).run.fresh)
+  pub entries-kept : SameEntries (all_entries (hosts_after hosts event)) (all_entries hosts ++ (fabric_fate hosts event).run.fresh)
   entries-kept = record { flows = flows-kept; uses = uses-kept }
 
   pub held-after : HoldRows carry rows (hosts_after hosts event)

@@ -79,7 +79,7 @@ and_false true = refl
 and_false false = refl
 
 -- an address that a live port holds is no floating address of the network
-held-apart : (rows : RowLists) → FrameFacts rows → (n : Ident) (x : Addr) (q : PortRow) → find (holds_live rows n x) rows.ports ≡ Some q → held_by_floating rows n x ≡ None
+pub held-apart : (rows : RowLists) → FrameFacts rows → (n : Ident) (x : Addr) (q : PortRow) → find (holds_live rows n x) rows.ports ≡ Some q → held_by_floating rows n x ≡ None
 unfolding is_live
 held-apart rows good n x q found = go (find (floats_at n x) rows.floatings) refl
   where

@@ -71,7 +71,7 @@ module _ (rows : RowLists) (hosts : List Host) (good : FrameFacts rows) (synced 
       (own, ap segment_of own)
 
   -- no network on the wire: no host takes
-  nothing : network_on rows w ≡ None → (x : Host) → HostFacts rows x.name x.tables → inward_at x.tables (ByWire w) ≡ None
+  pub nothing : network_on rows w ≡ None → (x : Host) → HostFacts rows x.name x.tables → inward_at x.tables (ByWire w) ≡ None
   unfolding inward_rows
   nothing none x real =
       ap (find (λ (r : InwardRow). carrier_eq (ByWire w) r.carrier)) real.inward
@@ -92,21 +92,21 @@ module _ (rows : RowLists) (hosts : List Host) (good : FrameFacts rows) (synced 
           let bad : true ≡ false = sym some ∙ sym (find-some (λ (m : NetworkRow). is_wire w (wire_of m.segment)) rows.networks) ∙ ap is_some none in
           cc
 
-  takes-nothing : (frame : Frame) (x : Host) → inward_at x.tables (ByWire w) ≡ None → takes w frame x ≡ false
+  pub takes-nothing : (frame : Frame) (x : Host) → inward_at x.tables (ByWire w) ≡ None → takes w frame x ≡ false
   takes-nothing frame x e = ap (takes_at x.tables frame) e
 
   module _ (net : NetworkRow) (on : network_on rows w ≡ Some net) where
-    own : (network_with rows net.id ≡ Some net) × (segment rows net.id ≡ net.segment)
+    pub own : (network_with rows net.id ≡ Some net) × (segment rows net.id ≡ net.segment)
     own = segment-own (λ (m : NetworkRow). is_wire w (wire_of m.segment)) net on
 
-    wire-is : wire_of (segment rows net.id) ≡ Some w
+    pub wire-is : wire_of (segment rows net.id) ≡ Some w
     wire-is = ap wire_of own.1 ∙ is_wire_some w (wire_of net.segment) (find-passes (λ (m : NetworkRow). is_wire w (wire_of m.segment)) rows.networks net on)
 
-    carrier : carrier_of (segment rows net.id) ≡ Some (ByWire w)
+    pub carrier : carrier_of (segment rows net.id) ≡ Some (ByWire w)
     carrier = wire_carrier (segment rows net.id) w wire-is
 
     -- the path begins with the network
-    path-begins : (x : Host) (real : HostFacts rows x.name x.tables) (tag : ℕ) → tag_of x.tables.tags net.id ≡ Some tag → at_inward x (inward_at x.tables (ByWire w)) ≡ net.id ∷ []
+    pub path-begins : (x : Host) (real : HostFacts rows x.name x.tables) (tag : ℕ) → tag_of x.tables.tags net.id ≡ Some tag → at_inward x (inward_at x.tables (ByWire w)) ≡ net.id ∷ []
     path-begins x real tag is = ap (at_inward x) (inward-located rows x.name x.tables real good net.id tag (ByWire w) is carrier (wire_self w)) ∙ ap network_at (tag-row rows x.name x.tables.tags real.tags net.id tag is)
 
     untaken : (frame : Frame) → AllOf (λ (x : Host). takes w frame x ≡ false) hosts → meant (from_outside hosts w frame (find (takes w frame) hosts)) ≡ drop_fate none_so_far Unknown

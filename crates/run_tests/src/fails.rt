@@ -41,7 +41,7 @@ type Case = (
 
 const BAD_SESSION: &[&str] = &["session", "--settings=bad"];
 
-const CASES: [Case; 14] = [
+const CASES: [Case; 15] = [
     // The desk: settings, store, listen, next.
     (SESSION, [&[1], &[], &[], &[]], ONCE, 7, &[]),
     (SESSION, [&[2], &[], &[], &[]], ONCE, 7, &[]),
@@ -62,6 +62,8 @@ const CASES: [Case; 14] = [
     // The first read, and one after a whole request.
     (SESSION, [&[], &[], &[1], &[]], ONCE, 2, &[]),
     (SESSION, [&[], &[], &[2], &[]], ONCE, 2, &[MADE]),
+    // A read after a whole request, and then each write and flush: the reply was flushed before.
+    (SESSION, [&[], &[], &[2], &[3, 4, 5]], ONCE, 2, &[MADE]),
     // The first write, the flush after it, and the third write.
     (SESSION, [&[], &[], &[], &[1]], ONCE, 3, &[]),
     (SESSION, [&[], &[], &[], &[2]], ONCE, 3, &[MADE]),

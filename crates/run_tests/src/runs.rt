@@ -1,9 +1,10 @@
 //! Runs of one session, and words that are none.
-ghost use Rattle.std.specs.Prelude.{◌<◌};
+ghost use Rattle.std.specs.Prelude.{◌<◌, IfOk};
+ghost use Rattle.keeper_core.specs.Desk.{IsNoneOut, failing_told};
 
 use api_types::{Row, Rows};
 use keeper_core::{
-    DeskAsk, EndsList, MemoryDesk, MemorySink, MemorySource, Named, NamedBytes, NamedRows,
+    DeskAsk, EndsList, MemoryDesk, MemorySink, MemorySource, Named, NamedBytes, NamedRows, Source,
 };
 use net_addr::{Bytes, Numbers, OutOfMemory, Seq, Text};
 use neutron_serve::run;
@@ -24,7 +25,7 @@ pub(crate) const MADE: &[u8] =
         \"tenant_id\":\"a\"}}";
 
 // Words, the status of a run over the making of a network, what it writes, and how often it asks
-// the desk.
+// the desk. Unless a session is run, the input is as it was.
 type Case = (&'static [&'static str], u8, &'static [u8], usize);
 
 const CASES: [Case; 9] = [
@@ -91,7 +92,9 @@ fn stores(alloc: Global) -> Result<NamedRows, OutOfMemory> {
 
 // A desk with two files of settings and one store, which fails in these calls, and whose stores
 // fail in those.
-fn desk(alloc: Global, failing: &[u64], store_failing: &[u64]) -> Result<MemoryDesk, OutOfMemory> {
+fn desk(alloc: Global, failing: &[u64], store_failing: &[u64]) -> Result<MemoryDesk, OutOfMemory>
+    ensures { IfOk result (λ desk. IsNoneOut (failing_told desk)) }
+{
     let files = files(alloc)?;
     let stores = stores(alloc)?;
     let ends: EndsList = Seq::new(alloc);
@@ -100,12 +103,23 @@ fn desk(alloc: Global, failing: &[u64], store_failing: &[u64]) -> Result<MemoryD
     MemoryDesk::make(alloc, files, stores, ends, failing, store_failing)
 }
 
-/// What a run comes to: its status, what it writes, and how often it asks the desk.
+/// What a run comes to: its status, what it writes, how often it asks the desk, and how many bytes
+/// of the input one more read gives, 1,024 at most.
 #[derive(Drop)]
 pub(crate) struct Outcome {
     pub(crate) status: u8,
     pub(crate) written: Vec<u8>,
     pub(crate) asks: usize,
+    pub(crate) left: usize,
+}
+
+// How many bytes one more read gives.
+fn left(input: &mut MemorySource) -> usize {
+    let mut rest = [0; 1_024];
+    match input.read(&mut rest) {
+        Ok(count) => count,
+        Err(_) => 0,
+    }
 }
 
 /// A run of these words over requests of which one read gives this many bytes. These calls fail:
@@ -129,13 +143,16 @@ pub(crate) fn ran(
         status,
         written: Vec::from_slice(alloc, output.as_slice())?,
         asks: desk.asks().len(),
+        left: left(&mut input),
     })
 }
 
 fn is_as_wanted(alloc: Global, case: &Case) -> Result<bool, OutOfMemory> {
     let (words, status, written, asks) = *case;
     let outcome = ran(alloc, words, [&[], &[], &[], &[]], MAKE, 100_000)?;
-    Ok(outcome.status == status && outcome.written.as_slice() == written && outcome.asks == asks)
+    let left = if status == 0 { 0 } else { MAKE.len() };
+    let is_written = outcome.written.as_slice() == written;
+    Ok(outcome.status == status && is_written && outcome.asks == asks && outcome.left == left)
 }
 
 #[test]

@@ -1,5 +1,8 @@
 //! A store that breaks a clause isn't opened: no machine is made of it, and no run answers a
 //! request.
+ghost use Rattle.std.specs.Prelude.{IfOk};
+ghost use Rattle.keeper_core.specs.Desk.{IsNoneOut, sure_told};
+
 use crate::broken::{CLAUSES, spoiled};
 use crate::store::store;
 use api_check::Inconsistent;
@@ -46,7 +49,9 @@ fn words(alloc: Global) -> Result<Vec<Text>, OutOfMemory> {
 }
 
 // A desk whose store with the name has these rows.
-fn desk(alloc: Global, rows: Rows) -> Result<SureDesk, OutOfMemory> {
+fn desk(alloc: Global, rows: Rows) -> Result<SureDesk, OutOfMemory>
+    ensures { IfOk result (λ desk. IsNoneOut (sure_told desk)) }
+{
     let mut stores = Seq::new(alloc);
     stores.push(Named {
         name: Text::of(alloc, "kept")?,

@@ -22,11 +22,11 @@ use Rattle.plane_types.specs.Node.{Agent, after_change, after_forget, after_rest
 use Rattle.world_laws.specs.Lead.{IsLed}
 use Rattle.world_laws.specs.World.{AreSound}
 
-realised_tables : (rows : RowLists) (name : List ℕ) (old : List TagRow) → AreTags old → IsConsistent rows → Realises rows name (tables_of_rows rows name old)
+pub realised_tables : (rows : RowLists) (name : List ℕ) (old : List TagRow) → AreTags old → IsConsistent rows → Realises rows name (tables_of_rows rows name old)
 unfolding tables_of_rows
 realised_tables rows name old tags c = record { tags = tags_stand rows name old tags c; taps = refl; filters = refl; sets = refl; bridge = refl; inward = refl; neighbours = refl; routers = refl; routes = refl; floats = refl; leases = refl }
 
-no_tags : AreTags []
+pub no_tags : AreTags []
 no_tags = record { first = λ k t at. none_some t _ at; last = λ k t at. none_some t _ at; differ = λ tag. lit≤ tt }
 
 pub record IsAgent (settings : SettingsParts) (h : History) (a : Agent) : Type 0 where

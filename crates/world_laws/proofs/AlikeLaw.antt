@@ -11,7 +11,7 @@ use Rattle.bus_core.specs.Kept.{with_newest}
 use Rattle.bus_core.proofs.HistoryLaw.{both_kept, kept_within, newest_kept, newest_length, rows_now, rows_still}
 use Rattle.world_laws.specs.Alike.{AreAlike, accepts}
 use Rattle.world_laws.specs.Lead.{IsWorld}
-use Rattle.world_laws.specs.Steps.{Accept, Deliver, Forget, May, Resync, Restart, Send, Settle, Step, add_from, at_host, deliver_by, deliver_kept, holds, is_among, step}
+use Rattle.world_laws.specs.Steps.{Accept, Deliver, Forget, May, Resync, Restart, Send, Settle, Step, add_from, at_host, deliver_by, deliver_kept, holds, step}
 use Rattle.world_laws.specs.World.{World}
 use Rattle.world_laws.proofs.AgentLaw.{IsAgent, follows_held, next_fits}
 use Rattle.world_laws.proofs.StepLaw.{Holds, accepted_holds, holds_of}
@@ -23,10 +23,6 @@ map_alike f g (a ∷ agents) each = λ j. each 0 a refl j ∷ map_alike f g agen
 cond_alike : (b : Bool) (x y z : Agent) → x ≡ y → cond b x z ≡ cond b y z
 cond_alike true x y z e = e
 cond_alike false x y z e = refl
-
-cond_other : (b : Bool) (x y z : Agent) → x ≡ y → cond b z x ≡ cond b z y
-cond_other true x y z e = refl
-cond_other false x y z e = e
 
 module _ (w v : World) (p : Holds w) (q : Holds v) (same : AreAlike w v) where
   -- a host is told the same by both changes
@@ -57,7 +53,7 @@ module _ (w v : World) (p : Holds w) (q : Holds v) (same : AreAlike w v) where
       ∙ ap (at_host name (after_change n d)) same.agents)
 
   pub others_alike : (s : Step) → accepts s ≡ false → AreAlike (step w s) (step v s)
-  others_alike (Accept left_out c) e = absurd cc
+  others_alike (Accept c) e = absurd cc
   others_alike (Deliver name n) e = delivered_alike name n (change_at w.history n) (change_at v.history n) refl refl
   others_alike (Resync name) e = with_agents _ _ (λ j. at_host name (after_resync (same.version j) (same.rows j)) (same.agents j))
   others_alike (Restart name) e = with_agents _ _ (λ j. at_host name after_restart (same.agents j))
@@ -99,9 +95,9 @@ module _ (w v : World) (p : Holds w) (q : Holds v) (same : AreAlike w v) where
           let b = rows_still v.history d q.history.few q.history.numbered fits' k first (subst (λ n. k ≤ n) same.version less) in
           a.1 ∙ same.told k a.0 less ∙ sym b.1
 
-pub accepts_alike : (w v : World) → IsWorld w → IsWorld v → AreAlike w v → (left_out : List (List ℕ)) (c d : List Item) → May w (Accept left_out c) → May v (Accept left_out d) → after w.history.rows c ≡ after v.history.rows d
-    → AreAlike (step w (Accept left_out c)) (step v (Accept left_out d))
-accepts_alike w v iw iv same left_out c d may may' leads = record {
+pub accepts_alike : (w v : World) → IsWorld w → IsWorld v → AreAlike w v → (c d : List Item) → May w (Accept c) → May v (Accept d) → after w.history.rows c ≡ after v.history.rows d
+    → AreAlike (step w (Accept c)) (step v (Accept d))
+accepts_alike w v iw iv same c d may may' leads = record {
   settings = start.settings;
   manual = start.manual;
   rows = start.rows;
@@ -130,12 +126,11 @@ accepts_alike w v iw iv same left_out c d may may' leads = record {
     tells = told_alike w' v' (accepted_holds w c may.0 may.1 p) (accepted_holds v d may'.0 may'.1 q) start (w.history.version + 1) c d
         (newest_kept w.history c p.history.few p.history.numbered) (ap (λ n. change_at (accepted v.history d) (n + 1)) same.version ∙ newest_kept v.history d q.history.few q.history.numbered)
 
-    by : (a b : Bool) → a ≡ b → deliver_by a left_out (w.history.version + 1) c w.agents ≡ deliver_by b left_out (v.history.version + 1) d v.agents
+    by : (a b : Bool) → a ≡ b → deliver_by a (w.history.version + 1) c w.agents ≡ deliver_by b (v.history.version + 1) d v.agents
     by true true e = same.agents
     by false false e =
-        map_alike (λ (a : Agent). cond (is_among left_out a.name) a (after_change (w.history.version + 1) c a)) (λ (a : Agent). cond (is_among left_out a.name) a (after_change (w.history.version + 1) d a)) w.agents
-        (λ k a there. cond_other (is_among left_out a.name) (after_change (w.history.version + 1) c a) (after_change (w.history.version + 1) d a) a (tells k a there))
-        ∙ (λ j. deliver_by false left_out (same.version j + 1) d (same.agents j))
+        map_alike (after_change (w.history.version + 1) c) (after_change (w.history.version + 1) d) w.agents tells
+        ∙ (λ j. deliver_by false (same.version j + 1) d (same.agents j))
     by true false e = cc
     by false true e = cc
 

@@ -3,5 +3,5 @@ pub mod HostNames
 pub mod AgentLaw
 pub mod StepLaw
 pub mod MeaningLaw
-pub mod LeftOut
+pub mod SyncLaw
 pub mod AlikeLaw

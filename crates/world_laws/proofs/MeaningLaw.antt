@@ -1,8 +1,7 @@
 -- What hosts that hold a version have, and what frames come to where all hold the version of now.
-use Rattle.std.proofs.Common.{◌≡◌, ℕ, suc, ◌+◌, ◌≤◌, List, [], ◌∷◌, Bool, true, false, cond, Option, None, Some, refl, ap, sym, subst, ◌∙◌, arith, map}
+use Rattle.std.proofs.Common.{◌≡◌, ℕ, ◌+◌, ◌≤◌, List, Some, ap, sym, subst, ◌∙◌, arith, map}
 use Rattle.std.specs.List.{list_any}
 use Rattle.std.specs.Str.{bytes_eq}
-use Rattle.std.proofs.lemmas.Bool.Decides.{nat_tests}
 use Rattle.api_types.specs.Lists.{Each}
 use Rattle.api_types.specs.Rows.{Fits, after}
 use Rattle.api_types.specs.declared.change.Item.{Item}
@@ -19,11 +18,10 @@ use Rattle.plane_laws.proofs.ListLaw.{lists-cross, lists-mean-rows}
 use Rattle.plane_laws.proofs.SecurityLaw.{in-by-lists, out-by-lists}
 use Rattle.bus_core.specs.History.{change_at, first_kept, rows_at}
 use Rattle.bus_core.proofs.HistoryLaw.{rows_now}
-use Rattle.plane_types.specs.Node.{Agent, after_change, after_resync, follows, host_of}
+use Rattle.plane_types.specs.Node.{Agent, host_of}
 use Rattle.world_laws.specs.Lead.{IsWorld}
-use Rattle.world_laws.specs.Steps.{Accept, Settle, deliver_by, holds, after_settle, step}
 use Rattle.world_laws.specs.World.{AreSound, IsSynced, World, hosts_of}
-use Rattle.world_laws.proofs.AgentLaw.{next_fits, next_follows, sound_now}
+use Rattle.world_laws.proofs.AgentLaw.{next_fits, sound_now}
 use Rattle.world_laws.proofs.HostNames.{carrier_named, named_by}
 use Rattle.world_laws.proofs.Lists.{each_map}
 use Rattle.world_laws.proofs.StepLaw.{host_names}
@@ -79,49 +77,3 @@ synced_let_in w is synced events = in-by-lists (carries w.settings.hosts) w.hist
 
 pub synced_let_out : (w : World) → IsWorld w → IsSynced w → (events : List Event) → AreLetOut w.history.rows events (fabric_verdicts (hosts_of w) events)
 synced_let_out w is synced events = out-by-lists (carries w.settings.hosts) w.history.rows (hosts_of w) (synced_hold w is synced) events
-
--- ---- when all hold it
-
--- what is held is the version
-holds_it : (version : ℕ) (held : Option ℕ) → holds version held ≡ true → held ≡ Some version
-holds_it version None h = absurd cc
-holds_it version (Some v) h = let same : v ≡ version = grind (arith, nat_tests, h) in ap Some same
-
-pub settle_syncs : (w : World) → IsSynced (step w Settle)
-settle_syncs w = each_map (after_settle w.history.version w.history.rows) (λ (a : Agent). a.held ≡ Some w.history.version) w.agents (λ k a at. by a (holds w.history.version a.held) refl)
-  where
-    by : (a : Agent) (b : Bool) → holds w.history.version a.held ≡ b → (cond b a (after_resync w.history.version w.history.rows a)).held ≡ Some w.history.version
-    by a true e = holds_it w.history.version a.held e
-    by a false e = refl
-
--- in automatic delivery, where each host finds memory and holds the version of now, each is given the new rows
-pub accept_rewires : (w : World) (c : List Item) → IsWorld w → w.manual ≡ false → IsSynced w → (step w (Accept [] c)).agents ≡ map (after_resync (w.history.version + 1) (after w.history.rows c)) w.agents
-accept_rewires w c is automatic synced = by w.manual automatic
-  where
-    tells : (a : Agent) → a.held ≡ Some w.history.version → a.rows ≡ w.history.rows → after_change (w.history.version + 1) c a ≡ after_resync (w.history.version + 1) (after w.history.rows c) a
-    tells a held same =
-        ap (λ (b : Bool). cond b (after_resync (w.history.version + 1) (after a.rows c) a) a)
-        (ap (follows (w.history.version + 1)) held ∙ next_follows (w.history.version + 1) w.history.version refl)
-        ∙ ap (λ rows. after_resync (w.history.version + 1) (after rows c) a) same
-
-    all : (agents : List Agent) → Each (λ (a : Agent). after_change (w.history.version + 1) c a ≡ after_resync (w.history.version + 1) (after w.history.rows c) a) agents
-        → map (λ (a : Agent). after_change (w.history.version + 1) c a) agents ≡ map (after_resync (w.history.version + 1) (after w.history.rows c)) agents
-    all [] each = refl
-    all (a ∷ agents) each = λ j. each 0 a refl j ∷ all agents (λ k b at. each (suc k) b at) j
-
-    by : (b : Bool) → b ≡ false → deliver_by b [] (w.history.version + 1) c w.agents ≡ map (after_resync (w.history.version + 1) (after w.history.rows c)) w.agents
-    by true e = absurd cc
-    by false e = all w.agents (λ k a at. tells a (synced k a at) (rows_of_now w is k a at (synced k a at)))
-
--- in automatic delivery, where each host finds memory, all stay at the version of now
-pub accept_syncs : (w : World) (c : List Item) → w.manual ≡ false → IsSynced w → IsSynced (step w (Accept [] c))
-accept_syncs w c automatic synced = by w.manual automatic
-  where
-    tells : (a : Agent) → a.held ≡ Some w.history.version → after_change (w.history.version + 1) c a ≡ after_resync (w.history.version + 1) (after a.rows c) a
-    tells a held =
-        ap (λ (b : Bool). cond b (after_resync (w.history.version + 1) (after a.rows c) a) a)
-        (ap (follows (w.history.version + 1)) held ∙ next_follows (w.history.version + 1) w.history.version refl)
-
-    by : (b : Bool) → b ≡ false → Each (λ (a : Agent). a.held ≡ Some (w.history.version + 1)) (deliver_by b [] (w.history.version + 1) c w.agents)
-    by true e = absurd cc
-    by false e = each_map (λ (a : Agent). after_change (w.history.version + 1) c a) (λ (a : Agent). a.held ≡ Some (w.history.version + 1)) w.agents (λ k a at. ap (λ (x : Agent). x.held) (tells a (synced k a at)))

@@ -21,7 +21,7 @@ use Rattle.bus_core.specs.History.{History, IsHistory, accepted, change_at, hist
 use Rattle.bus_core.proofs.HistoryLaw.{accepted_history, history_starts, newest_kept}
 use Rattle.plane_types.specs.Node.{Agent, after_change, after_forget, after_restart, after_resync, first_agent, follows, host_of}
 use Rattle.world_laws.specs.Lead.{AreNamed, IsWorld}
-use Rattle.world_laws.specs.Steps.{Accept, Deliver, Forget, May, MayRun, Resync, Restart, Send, Settle, Step, accept, add_from, at_host, deliver_by, deliver_kept, holds, is_among, run, after_settle, step}
+use Rattle.world_laws.specs.Steps.{Accept, Deliver, Forget, May, MayRun, Resync, Restart, Send, Settle, Step, accept, add_from, at_host, deliver_by, deliver_kept, holds, run, after_settle, step}
 use Rattle.world_laws.specs.World.{AreSound, World, first_world, hosts_of}
 use Rattle.world_laws.proofs.AgentLaw.{IsAgent, entered_agent, forgotten_agent, left_agent, restarted_agent, resynced_agent, started_agent, told_agent}
 use Rattle.world_laws.proofs.HostNames.{one_of}
@@ -86,8 +86,8 @@ accepted_holds w c fits sound s = record {
   agents = λ k a at. left_agent w.settings w.history s.history c fits a (s.agents k a at);
 }
 
-accept_holds : (w : World) (left_out : List (List ℕ)) (c : List Item) → Fits w.history.rows c → AreSound w.settings (after w.history.rows c) → Holds w → Holds (accept w left_out c)
-accept_holds w left_out c fits sound s = by w.manual
+accept_holds : (w : World) (c : List Item) → Fits w.history.rows c → AreSound w.settings (after w.history.rows c) → Holds w → Holds (accept w c)
+accept_holds w c fits sound s = by w.manual
   where
     v : World
     v = record w { history = accepted w.history c }
@@ -98,12 +98,12 @@ accept_holds w left_out c fits sound s = by w.manual
     kept : change_at v.history (w.history.version + 1) ≡ Some c
     kept = newest_kept w.history c s.history.few s.history.numbered
 
-    by : (b : Bool) → Holds (record v { agents = deliver_by b left_out (w.history.version + 1) c w.agents })
+    by : (b : Bool) → Holds (record v { agents = deliver_by b (w.history.version + 1) c w.agents })
     by true = start
     by false =
-        each_by v (λ (a : Agent). cond (is_among left_out a.name) a (after_change (w.history.version + 1) c a))
-        (λ a. cond_name (is_among left_out a.name) a a (after_change (w.history.version + 1) c a) refl (told_name (w.history.version + 1) c a))
-        (λ a h. cond_agent v.settings v.history (is_among left_out a.name) a (after_change (w.history.version + 1) c a) h (told_agent v.settings v.history start.history a (w.history.version + 1) c kept h)) start
+        each_by v (after_change (w.history.version + 1) c)
+        (told_name (w.history.version + 1) c)
+        (λ a h. told_agent v.settings v.history start.history a (w.history.version + 1) c kept h) start
 
 deliver_holds : (w : World) (name : List ℕ) (n : ℕ) (o : Option (List Item)) → change_at w.history n ≡ o → Holds w → Holds (deliver_kept w name n o)
 deliver_holds w name n None at s = s
@@ -141,7 +141,7 @@ send_holds w event s =
     }
 
 step_holds : (w : World) (s : Step) → May w s → Holds w → Holds (step w s)
-step_holds w (Accept left_out c) may h = accept_holds w left_out c may.0 may.1 h
+step_holds w (Accept c) may h = accept_holds w c may.0 may.1 h
 step_holds w (Deliver name n) may h = deliver_holds w name n (change_at w.history n) refl h
 step_holds w (Resync name) may h = one_by w name (after_resync w.history.version w.history.rows) (λ a. refl) (λ a g. resynced_agent w.settings w.history h.history a g) h
 step_holds w (Restart name) may h = one_by w name after_restart (λ a. refl) (λ a g. restarted_agent w.settings w.history h.history a g) h

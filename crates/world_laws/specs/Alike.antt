@@ -16,7 +16,7 @@ pub record AreAlike (w v : World) : Type 0 where
   pub agents : w.agents ≡ v.agents
 
 abbrev pub accepts : Step → Bool
-accepts (Accept left_out c) = true
+accepts (Accept c) = true
 accepts (Deliver name n) = false
 accepts (Resync name) = false
 accepts (Restart name) = false

@@ -1,6 +1,6 @@
 -- The steps of the world. What a step isn't said to change stays.
-use Rattle.std.specs.Prelude.{◌≡◌, ◌⊎◌, ℕ, suc, ◌+◌, ◌==◌, Bool, true, false, List, [], ◌∷◌, ◌++◌, Option, Some, None, map, ⊤, if◌then◌else◌}
-use Rattle.std.specs.List.{filter_map, list_any}
+use Rattle.std.specs.Prelude.{ℕ, suc, ◌+◌, ◌==◌, Bool, true, false, List, [], ◌∷◌, ◌++◌, Option, Some, None, map, ⊤, if◌then◌else◌}
+use Rattle.std.specs.List.{filter_map}
 use Rattle.std.specs.Option.{option_eq}
 use Rattle.std.specs.Str.{bytes_eq}
 use Rattle.api_types.specs.RowLists.{RowLists}
@@ -14,9 +14,8 @@ use Rattle.bus_core.specs.History.{accepted, change_at}
 use Rattle.world_laws.specs.World.{AreSound, World, hosts_of}
 
 pub data Step : Type 0 where
-  -- a change is accepted; in automatic delivery each host is told it but those of these names,
-  -- which found no memory
-  Accept : List (List ℕ) → List Item → Step
+  -- a change is accepted; in automatic delivery each host is told it
+  Accept : List Item → Step
   -- a host is told the change with a number
   Deliver : List ℕ → ℕ → Step
   Resync : List ℕ → Step
@@ -25,39 +24,19 @@ pub data Step : Type 0 where
   Settle : Step
   Send : Event → Step
 
-abbrev pub is_among : List (List ℕ) → List ℕ → Bool
-is_among names name = list_any (bytes_eq name) names
-
 -- the host of this name alone
 abbrev pub at_host : List ℕ → (Agent → Agent) → List Agent → List Agent
 at_host name f agents = map (λ (a : Agent). if bytes_eq name a.name then f a else a) agents
 
--- each host but those that are left out, in order
-abbrev pub tell_all : List (List ℕ) → ℕ → List Item → List Agent → List Agent
-tell_all left_out n c agents =
-    map (λ (a : Agent). if is_among left_out a.name then a else after_change n c a) agents
+-- by hand alone no host hears of it
+abbrev pub deliver_by : Bool → ℕ → List Item → List Agent → List Agent
+deliver_by true n c agents = agents
+deliver_by false n c agents = map (after_change n c) agents
 
-abbrev pub deliver_by : Bool → List (List ℕ) → ℕ → List Item → List Agent → List Agent
-deliver_by true left_out n c agents = agents
-deliver_by false left_out n c agents = tell_all left_out n c agents
-
--- each host heard the change, or found no memory and is as it was
-abbrev pub MayHaveHeard : ℕ → List Item → List Agent → List Agent → Type 0
-MayHaveHeard n c [] [] = ⊤
-MayHaveHeard n c [] (y ∷ new) = ⊥
-MayHaveHeard n c (x ∷ old) [] = ⊥
-MayHaveHeard n c (x ∷ old) (y ∷ new) =
-    ((y ≡ after_change n c x) ⊎ (y ≡ x)) × MayHaveHeard n c old new
-
--- by hand alone no host hears it
-abbrev pub DeliversBy : Bool → ℕ → List Item → List Agent → List Agent → Type 0
-DeliversBy true n c old new = new ≡ old
-DeliversBy false n c old new = MayHaveHeard n c old new
-
-abbrev pub accept : World → List (List ℕ) → List Item → World
-accept w left_out c = record w {
+abbrev pub accept : World → List Item → World
+accept w c = record w {
   history = accepted w.history c;
-  agents = deliver_by w.manual left_out (w.history.version + 1) c w.agents;
+  agents = deliver_by w.manual (w.history.version + 1) c w.agents;
 }
 
 -- a change that is no longer kept, or not yet, reaches nobody
@@ -80,7 +59,7 @@ add_from place (a ∷ rest) fresh =
     ∷ add_from (suc place) rest fresh
 
 abbrev pub step : World → Step → World
-step w (Accept left_out c) = accept w left_out c
+step w (Accept c) = accept w c
 step w (Deliver name n) = deliver_kept w name n (change_at w.history n)
 step w (Resync name) =
     record w { agents = at_host name (after_resync w.history.version w.history.rows) w.agents }
@@ -92,13 +71,23 @@ step w (Send event) =
 
 -- an accepted change fits the rows and leads to sound ones; the other steps are free
 abbrev pub May : World → Step → Type 0
-May w (Accept left_out c) = Fits w.history.rows c × AreSound w.settings (after w.history.rows c)
+May w (Accept c) = Fits w.history.rows c × AreSound w.settings (after w.history.rows c)
 May w (Deliver name n) = ⊤
 May w (Resync name) = ⊤
 May w (Restart name) = ⊤
 May w (Forget name) = ⊤
 May w Settle = ⊤
 May w (Send event) = ⊤
+
+-- the one step by which a host comes to hold no version
+abbrev pub restarts : Step → Bool
+restarts (Accept c) = false
+restarts (Deliver name n) = false
+restarts (Resync name) = false
+restarts (Restart name) = true
+restarts (Forget name) = false
+restarts Settle = false
+restarts (Send event) = false
 
 -- one after the other
 unfoldable pub run : World → List Step → World

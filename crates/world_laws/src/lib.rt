@@ -5,7 +5,7 @@
 //! nothing, and their contracts are the laws.
 #![tactic(auto)]
 
-ghost use Rattle.std.specs.Prelude.{◌≡◌, ◌+◌, ◌≤◌, ℕ, Bool, false, List, [], Some, map};
+ghost use Rattle.std.specs.Prelude.{◌≡◌, ◌+◌, ◌≤◌, ℕ, Bool, false, List, Some, map};
 ghost use Rattle.api_types.specs.Lists.{Each};
 ghost use Rattle.api_types.specs.RowLists.{RowLists};
 ghost use Rattle.api_types.specs.Rows.{Fits, after};
@@ -22,7 +22,7 @@ ghost use Rattle.bus_core.specs.History.{change_at, first_kept, rows_at};
 ghost use Rattle.plane_types.specs.Node.{Agent, after_resync};
 ghost use Rattle.world_laws.specs.Alike.{AreAlike, accepts};
 ghost use Rattle.world_laws.specs.Lead.{IsWorld, Lead, Placed, Realised};
-ghost use Rattle.world_laws.specs.Steps.{Accept, May, MayRun, Settle, Step, run, step};
+ghost use Rattle.world_laws.specs.Steps.{Accept, May, MayRun, Settle, Step, restarts, run, step};
 ghost use Rattle.world_laws.specs.World.{AreSound, IsSynced, World, first_world, hosts_of};
 
 /// After every list of steps the wired rows of each host are those of its version, where these can
@@ -77,21 +77,21 @@ pub fn synced_hosts_mean_rows()
 /// kept is told by nobody.
 pub fn worlds_stay_alike()
     ensures accepted { (w v : World) → IsWorld w → IsWorld v → AreAlike w v →
-        (left_out : List (List ℕ)) (c d : List Item) → May w (Accept left_out c) →
-        May v (Accept left_out d) → after w.history.rows c ≡ after v.history.rows d →
-        AreAlike (step w (Accept left_out c)) (step v (Accept left_out d)) }
+        (c d : List Item) → May w (Accept c) →
+        May v (Accept d) → after w.history.rows c ≡ after v.history.rows d →
+        AreAlike (step w (Accept c)) (step v (Accept d)) }
     ensures others { (w v : World) → IsWorld w → IsWorld v → AreAlike w v → (s : Step) → accepts s ≡ false →
         AreAlike (step w s) (step v s) }
 {}
 
-/// Every host holds the current version once the world is settled; and it stays so in automatic
-/// delivery, while each host finds memory: each is then given the current rows, as if all were
-/// wired with each change.
+/// Every host holds the current version once the world is settled; and in automatic delivery each
+/// step but a restart leaves it so. With each accepted change each host is then given the current
+/// rows, as if all were wired anew.
 pub fn hosts_come_to_now()
     ensures settled { (w : World) → IsSynced (step w Settle) }
     ensures rewired { (w : World) (c : List Item) → IsWorld w → w.manual ≡ false → IsSynced w →
-        (step w (Accept [] c)).agents ≡
+        (step w (Accept c)).agents ≡
         map (after_resync (w.history.version + 1) (after w.history.rows c)) w.agents }
-    ensures automatic { (w : World) (c : List Item) → w.manual ≡ false → IsSynced w →
-        IsSynced (step w (Accept [] c)) }
+    ensures automatic { (w : World) (s : Step) → IsWorld w → w.manual ≡ false → IsSynced w →
+        restarts s ≡ false → IsSynced (step w s) }
 {}

@@ -8,9 +8,10 @@ use Rattle.http_session.proofs.reading.await_head.Goals as goal
 
 pub heads-init : goal.heads-init
 heads-init g c = record {
-  reads = reads_none c.args.buffer.now (g.I.Source.left c.args.input.now) c.args.taken.now;
+  reads = reads_none c.args.buffer.now (g.I.Source.told c.args.input.now).left c.args.taken.now;
   within = c.requires;
   later = omega arith;
+  unfailed = λ h. h;
   undecided = none_undecided;
   lines = none_empty c.args.buffer.now;
 }
@@ -33,6 +34,16 @@ heads-preserved g c =
       reads = reads_on _ _ _ _ _ _ _ _ _ c.heads.invariant.reads read;
       within = c.in_default.ensures.within;
       later = omega (arith, c.heads.invariant.later, c.in_default.ensures.later);
+      unfailed = λ _. c.in_default.ensures.went;
       undecided = seen_front c.as_slice-bytes.result.now c.read_more.new.buffer read.more grew c.in-Open.ensures;
       lines = empty_stays c.as_slice-bytes.result.now c.read_more.new.buffer read.more c.skip_empty_lines-empty.result grew c.skip_empty_lines-empty.ensures.are;
     }
+
+pub returns-in-Whole-clause-last : goal.returns-in-Whole-clause-last
+returns-in-Whole-clause-last g c = λ h. c.heads.invariant.unfailed h
+
+pub returns-in-Wrong-clause-last : goal.returns-in-Wrong-clause-last
+returns-in-Wrong-clause-last g c = λ h. c.heads.invariant.unfailed h
+
+pub returns-in-Err-clause-last : goal.returns-in-Err-clause-last
+returns-in-Err-clause-last g c = λ h. c.in-Err.ensures.last (c.heads.invariant.unfailed h)

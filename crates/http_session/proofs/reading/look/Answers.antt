@@ -1,4 +1,5 @@
-use Rattle.std.proofs.Common.{arith}
+use Rattle.std.proofs.Common.{arith, subst, sym}
+use Rattle.http_heads.specs.Heads.{Decides, Refuses}
 use Rattle.http_session.proofs.Heading.{passing, passing_short, refused_so, open_so}
 use Rattle.http_session.proofs.reading.look.Goals as goal
 
@@ -11,7 +12,7 @@ returns-in-Head c =
     (p.head, record { decides = p.decides; parts = p.told.parts_are; start = p.told.start; end = omega (arith, p.told.size); close = p.told.closes_is })
 
 pub returns-in-Refused : goal.returns-in-Refused
-returns-in-Refused c = refused_so c.args.bytes.now c.in-Refused.number c.in-Refused.ensures.is c.in-Refused.ensures.number
+returns-in-Refused c = subst (λ n. Decides c.args.bytes.now (Refuses n)) (sym c.numbered.ensures) (refused_so c.args.bytes.now c.in-Refused.number c.in-Refused.ensures.is)
 
 pub overflow_add-result : goal.overflow_add-result
 overflow_add-result c =

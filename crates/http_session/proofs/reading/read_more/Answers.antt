@@ -10,14 +10,11 @@ read_from-requires-clause-room g c = waiting_short c.args.buffer.now c.requires.
 pub returns-then-count-eq0-clause-stop : goal.returns-then-count-eq0-clause-stop
 returns-then-count-eq0-clause-stop g c =
     let ok = c.in-Ok.ensures.ok in
-    let same : c.read_from.new.self ≡ c.args.buffer.now = grew_none c.args.buffer.now c.read_from.new.self ok.0 c.in-Ok.count ok.1 ok.2 c.if-count-eq0.true in (
-      inr (
-        refl,
-        omega (arith, c.if-as_slice-eq0.false, ap length c.as_slice.ensures.value),
-        subst IsWaiting (sym same) c.requires.waits,
-        ok.5 c.if-count-eq0.true,
-        omega (arith, c.if-taken-limit.false, c.requires.within, c.if-count-eq0.true),
-      ),
-      omega arith,
-      omega arith,
+    let same : c.read_from.new.self ≡ c.args.buffer.now = grew_none c.args.buffer.now c.read_from.new.self ok.0 c.in-Ok.count ok.1 ok.2 c.if-count-eq0.true in
+    inr (
+      refl,
+      omega (arith, c.if-as_slice-eq0.false, ap length c.as_slice.ensures.value),
+      subst IsWaiting (sym same) c.requires.waits,
+      ok.5 c.if-count-eq0.true,
+      omega (arith, c.if-taken-limit.false, c.requires.within, c.if-count-eq0.true),
     )

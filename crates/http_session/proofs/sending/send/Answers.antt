@@ -11,8 +11,8 @@ pieces-preserved g c =
     let count : c.in_ok-sent.field-0 ≤ length (take (length reply - c.pieces.sent) (drop c.pieces.sent reply)) = c.in_ok-sent.ensures.count.1 in
     record {
       at = omega (arith, count, ap length rest, length-drop c.pieces.sent reply, c.pieces.invariant.at);
-      wrote = one_more (g.O.Sink.written c.args.output.now) (g.O.Sink.written c.pieces.output) (g.O.Sink.written c.write.new.self) reply c.pieces.sent c.in_ok-sent.field-0 c.pieces.invariant.wrote
-          (subst (λ l. Appends (g.O.Sink.written c.pieces.output) (g.O.Sink.written c.write.new.self) (take c.in_ok-sent.field-0 l)) rest c.in_ok-sent.ensures.bytes);
+      wrote = one_more (g.O.Sink.told c.args.output.now).written (g.O.Sink.told c.pieces.output).written (g.O.Sink.told c.write.new.self).written reply c.pieces.sent c.in_ok-sent.field-0 c.pieces.invariant.wrote
+          (subst (λ l. Appends (g.O.Sink.told c.pieces.output).written (g.O.Sink.told c.write.new.self).written (take c.in_ok-sent.field-0 l)) rest c.in_ok-sent.ensures.bytes);
       flushed_stays = c.write.ensures.flushed ∙ c.pieces.invariant.flushed_stays;
       later = omega (arith, c.pieces.invariant.later, c.write.ensures.cause.later);
     }

@@ -1,24 +1,52 @@
-use Rattle.std.proofs.Common.{◌∙◌, ℕ, List, Some, ap, inl, map, option_map, refl, subst, sym}
-use Rattle.command_lines.specs.declared.line.Opening.{Opening}
-use Rattle.keeper_core.specs.Desk.{end_of}
-use Rattle.neutron_serve.specs.Connections.{line}
-use Rattle.neutron_serve.specs.Openings.{desk_seen}
-use Rattle.neutron_serve.specs.Runs.{RunsServe}
-use Rattle.neutron_serve.proofs.LineLemmas.{same_serve}
+use Rattle.std.proofs.Common.{◌∙◌, ap, inl, inr, refl, subst, sym}
+use Rattle.neutron_serve.specs.Runs.{HasBadSettings, HasBrokenRows, Runs, is_session_line, opening_of, outside}
+use Rattle.neutron_serve.specs.declared.status.Status.TheVariants.{OutOfMemory, WrongWords}
+use Rattle.neutron_serve.proofs.RunLemmas.{untouched}
+use Rattle.neutron_serve.proofs.StatusLemmas.{status_is}
 use Rattle.neutron_serve.proofs.top.run.Goals as goal
 
-pub returns-in-Serve-clause-serve : goal.returns-in-Serve-clause-serve
-returns-in-Serve-clause-serve g c = λ opening address connections is.
-    let end = end_of g.D.In.Source.left g.D.In.Source.faults g.D.Out.Sink.written g.D.Out.Sink.flushed g.D.Out.Sink.faults in
-    let same = same_serve _ opening _ address _ connections (ap Some (sym c.in-Serve.is) ∙ sym c.in-Ok.ensures ∙ is) in
-    let old = desk_seen (g.D.Desk.asks c.args.desk.now) (g.D.Desk.files c.args.desk.now) (g.D.Desk.stores c.args.desk.now) (g.D.Desk.faults c.args.desk.now) (g.D.Desk.store_faults c.args.desk.now) in
-    let new = desk_seen (g.D.Desk.asks c.run_serve.new.desk) (g.D.Desk.files c.run_serve.new.desk) (g.D.Desk.stores c.run_serve.new.desk) (g.D.Desk.faults c.run_serve.new.desk) (g.D.Desk.store_faults c.run_serve.new.desk) in
-    let before = line (option_map (map end) (g.D.Desk.to_come c.args.desk.now)) (g.D.Desk.returned c.args.desk.now) (g.D.Desk.asks c.args.desk.now) in
-    let behind = line (option_map (map end) (g.D.Desk.to_come c.run_serve.new.desk)) (g.D.Desk.returned c.run_serve.new.desk) (g.D.Desk.asks c.run_serve.new.desk) in
-    inl (
-      subst (λ (o : Opening). RunsServe o address connections old new before behind c.run_serve.result) same.0
-          (subst (λ (a : List ℕ). RunsServe c.in-Serve.opening a connections old new before behind c.run_serve.result) same.1
-          (subst (λ (n : ℕ). RunsServe c.in-Serve.opening c.in-Serve.listen n old new before behind c.run_serve.result) same.2 c.run_serve.ensures.runs)),
-      refl,
-      refl,
-    )
+pub returns-in-Ok-clause-runs : goal.returns-in-Ok-clause-runs
+returns-in-Ok-clause-runs g c = (
+  c.run_line.result,
+  c.code.ensures,
+  subst (λ o. Runs g.D.Desk.told g.D.In.Source.told g.D.Out.Sink.told o c.run_line.result (outside c.args.desk.now c.args.input.now c.args.output.now) (outside c.run_line.new.desk c.run_line.new.input c.run_line.new.output))
+      (sym c.in-Ok.ensures) (inr c.run_line.ensures.runs),
+)
+
+pub returns-in-Ok-clause-wrong_words : goal.returns-in-Ok-clause-wrong_words
+returns-in-Ok-clause-wrong_words g c = λ e. absurd (c.run_line.ensures.words (status_is c.run_line.result 1 (sym c.code.ensures ∙ e)))
+
+pub returns-in-Ok-clause-read_fault : goal.returns-in-Ok-clause-read_fault
+returns-in-Ok-clause-read_fault g c = λ e. c.run_line.ensures.read_fault (status_is c.run_line.result 2 (sym c.code.ensures ∙ e))
+
+pub returns-in-Ok-clause-write_fault : goal.returns-in-Ok-clause-write_fault
+returns-in-Ok-clause-write_fault g c = λ e. c.run_line.ensures.write_fault (status_is c.run_line.result 3 (sym c.code.ensures ∙ e))
+
+pub returns-in-Ok-clause-bad_settings : goal.returns-in-Ok-clause-bad_settings
+returns-in-Ok-clause-bad_settings g c = λ e.
+    subst (λ o. HasBadSettings (opening_of o) (g.D.Desk.told c.args.desk.now)) (sym c.in-Ok.ensures) (c.run_line.ensures.bad_settings (status_is c.run_line.result 5 (sym c.code.ensures ∙ e)))
+
+pub returns-in-Ok-clause-broken_rows : goal.returns-in-Ok-clause-broken_rows
+returns-in-Ok-clause-broken_rows g c = λ e.
+    subst (λ o. HasBrokenRows (opening_of o) (g.D.Desk.told c.args.desk.now)) (sym c.in-Ok.ensures) (c.run_line.ensures.broken_rows (status_is c.run_line.result 6 (sym c.code.ensures ∙ e)))
+
+pub returns-in-Ok-clause-outside : goal.returns-in-Ok-clause-outside
+returns-in-Ok-clause-outside g c = λ e. c.run_line.ensures.outside (status_is c.run_line.result 7 (sym c.code.ensures ∙ e))
+
+pub returns-in-Ok-clause-budget : goal.returns-in-Ok-clause-budget
+returns-in-Ok-clause-budget g c = λ e. ap is_session_line c.in-Ok.ensures ∙ c.run_line.ensures.budget (status_is c.run_line.result 8 (sym c.code.ensures ∙ e))
+
+pub returns-in-Err-Wrong-clause-runs : goal.returns-in-Err-Wrong-clause-runs
+returns-in-Err-Wrong-clause-runs g c = (
+  WrongWords,
+  c.code-in-Err-Wrong.ensures,
+  subst (λ o. Runs g.D.Desk.told g.D.In.Source.told g.D.Out.Sink.told o WrongWords (outside c.args.desk.now c.args.input.now c.args.output.now) (outside c.args.desk.now c.args.input.now c.args.output.now))
+      (sym (c.in-Err-Wrong.ensures c.in-Err-Wrong.field-0-is)) (inl refl, refl),
+)
+
+pub returns-in-Err-OutOfMemory-clause-runs : goal.returns-in-Err-OutOfMemory-clause-runs
+returns-in-Err-OutOfMemory-clause-runs g c = (
+  OutOfMemory,
+  c.code-in-Err-OutOfMemory.ensures,
+  untouched g.D.Desk.told g.D.In.Source.told g.D.Out.Sink.told _ (outside c.args.desk.now c.args.input.now c.args.output.now),
+)

@@ -1,4 +1,4 @@
-use Rattle.std.proofs.Common.{◌∙◌, ◌≡◌, ap, subst, sym}
+use Rattle.std.proofs.Common.{◌∙◌, ◌≡◌, ap, refl, subst, sym}
 use Rattle.keeper_core.specs.Counts.{Tells}
 use Rattle.plane_types.specs.declared.ask.LabAnswer.TheVariants.{Seen}
 use Rattle.plane_types.specs.declared.ask.LabCall.TheVariants.{Frames}
@@ -45,4 +45,4 @@ returns-in-Ok-answer_lab-clause-lets_out g c = λ event verdict is done synced.
 
 pub returns-in-Ok-answer_lab-clause-kept : goal.returns-in-Ok-answer_lab-clause-kept
 returns-in-Ok-answer_lab-clause-kept g c =
-    subst (Tells _) (sym (answer_keeps_rows _ _ c.args.caller.now c.in-Lab.call _ c.in-Ok-answer_lab.ensures.ok)) c.requires.kept
+    record { tells = subst (Tells _) (sym (answer_keeps_rows _ _ c.args.caller.now c.in-Lab.call _ c.in-Ok-answer_lab.ensures.ok)) c.requires.kept; as_before = refl }

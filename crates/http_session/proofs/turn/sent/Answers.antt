@@ -1,8 +1,0 @@
-use Rattle.http_session.proofs.Turning.{short_of}
-use Rattle.http_session.proofs.turn.sent.Goals as goal
-
-pub returns-in-Err-Failed-clause-is : goal.returns-in-Err-Failed-clause-is
-returns-in-Err-Failed-clause-is g c = short_of _ _ _ _ c.args.reply.now c.in-Err-Failed.ensures.flushed_stays c.in-Err-Failed.ensures.err
-
-pub returns-in-Err-OutOfMemory-clause-is : goal.returns-in-Err-OutOfMemory-clause-is
-returns-in-Err-OutOfMemory-clause-is g c = short_of _ _ _ _ c.args.reply.now c.in-Err-OutOfMemory.ensures.flushed_stays c.in-Err-OutOfMemory.ensures.err
