@@ -1,0 +1,15 @@
+pub mod Lists
+pub mod Walk
+pub mod RouterSays
+pub mod Alone
+pub mod RowsFound
+pub mod Follow
+pub mod Lockstep
+pub mod Misses
+pub mod Parts
+pub mod Comes
+pub mod Reached
+pub mod Gateways
+pub mod Others
+pub mod OtherEvents
+pub mod Exact

@@ -1,0 +1,5 @@
+pub mod Decides
+pub mod FirstEvent
+pub mod Numbers
+pub mod Pieces
+pub mod Reach

@@ -1,0 +1,4 @@
+pub mod WireStates
+pub mod Hearing
+pub mod Promises
+pub mod Moments

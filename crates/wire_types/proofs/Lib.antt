@@ -1,0 +1,3 @@
+pub mod PageLaw
+pub mod ChangeLaw
+pub mod ReplyLaw
