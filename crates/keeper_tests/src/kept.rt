@@ -1,5 +1,7 @@
-use crate::rows::{bare_rows, full_numbers, full_rows, gives, item, other_numbers, push_items};
-use api_types::{Direction, Ethertype, NetworkRow, Row, RuleRow, Segment};
+//! What is applied is loaded: rows of each kind that are stored, changed and removed, in their
+//! order, and nothing of a change that fails.
+use crate::rows::{bare_rows, full_numbers, full_rows, gives, other_numbers, push_items};
+use api_types::{Change, Direction, Ethertype, Row, RuleRow, Segment};
 use keeper_core::Keeper;
 use keeper_sql::SqlKeeper;
 use net_addr::{OutOfMemory, Seq, Text};
@@ -8,56 +10,23 @@ use std::alloc::Global;
 use std::test::Fail;
 use test_rows::{group, id, network, project, rule};
 
-// A store with its tables, and without rows.
-fn new_store(alloc: Global) -> Result<SqlKeeper<MemStore>, Fail> {
-    let mut keeper = SqlKeeper::make(Connection::open_in_memory(alloc)?);
-    match keeper.load(alloc) {
-        Ok(_) => Ok(keeper),
-        Err(_) => Err(Fail::new("no rows were loaded")),
-    }
-}
-
-#[test]
-fn keeps_each_kind(rt: HostRuntime) -> Result<(), Fail> {
-    let alloc = rt.alloc();
-    let mut keeper = new_store(alloc)?;
-    let mut change = Seq::new(alloc);
-    push_items(&mut change, full_rows(alloc)?, true)?;
-    push_items(&mut change, bare_rows(alloc, &other_numbers())?, true)?;
-    assert!(rt; keeper.apply(alloc, &change).is_ok());
-    let mut rows = full_rows(alloc)?;
-    for row in bare_rows(alloc, &other_numbers())?.into_vec() {
-        rows.push(row)?;
-    }
-    assert!(rt; gives(alloc, &mut keeper, rows)?);
-    assert_eq!(rt; keeper.faults(), 0);
-    Ok(())
-}
-
-#[test]
-fn changes_each_kind(rt: HostRuntime) -> Result<(), Fail> {
-    let alloc = rt.alloc();
-    let mut keeper = new_store(alloc)?;
-    let mut change = Seq::new(alloc);
-    push_items(&mut change, bare_rows(alloc, &full_numbers())?, true)?;
-    push_items(&mut change, full_rows(alloc)?, true)?;
-    assert!(rt; keeper.apply(alloc, &change).is_ok());
-    assert!(rt; gives(alloc, &mut keeper, full_rows(alloc)?)?);
-    Ok(())
-}
-
-#[test]
-fn takes_each_kind_out(rt: HostRuntime) -> Result<(), Fail> {
-    let alloc = rt.alloc();
-    let mut keeper = new_store(alloc)?;
-    let mut change = Seq::new(alloc);
-    push_items(&mut change, full_rows(alloc)?, true)?;
-    push_items(&mut change, bare_rows(alloc, &other_numbers())?, true)?;
-    push_items(&mut change, full_rows(alloc)?, false)?;
-    assert!(rt; keeper.apply(alloc, &change).is_ok());
-    let rows = bare_rows(alloc, &other_numbers())?;
-    assert!(rt; gives(alloc, &mut keeper, rows)?);
-    Ok(())
+/// Rows that a change makes or takes out, or that a store has after it.
+#[derive(Clone, Copy)]
+enum Part {
+    /// A row of each kind, with the extremes of its columns.
+    Full,
+    /// Rows with the ids of these, with nothing in the columns that may be empty.
+    Bare,
+    /// Such rows with other ids.
+    Other,
+    /// A flat network.
+    Flat(u8),
+    /// A network of VXLAN with the last number.
+    Tunnelled(u8),
+    /// What a project's first network makes.
+    First,
+    /// A project whose count fits no column.
+    Uncounted,
 }
 
 fn flat(alloc: Global, n: u8) -> Result<Row, OutOfMemory> {
@@ -65,30 +34,15 @@ fn flat(alloc: Global, n: u8) -> Result<Row, OutOfMemory> {
     Ok(Row::Network(network(alloc, n, Segment::Flat { physical })?))
 }
 
-fn tunnelled(alloc: Global, n: u8, number: u32) -> Result<NetworkRow, OutOfMemory> {
-    network(alloc, n, Segment::Vxlan { number })
+fn tunnelled(alloc: Global, n: u8) -> Result<Row, OutOfMemory> {
+    let number = 16_777_215;
+    Ok(Row::Network(network(alloc, n, Segment::Vxlan { number })?))
 }
 
-// A row that is changed keeps its place, and one that is made again comes last.
-#[test]
-fn keeps_the_order(rt: HostRuntime) -> Result<(), Fail> {
-    let alloc = rt.alloc();
-    let mut keeper = new_store(alloc)?;
-    let mut change = Seq::new(alloc);
-    for n in 1..4 {
-        change.push(item(flat(alloc, n)?, true))?;
-    }
-    change.push(item(flat(alloc, 2)?, false))?;
-    let changed = Row::Network(tunnelled(alloc, 1, 16_777_215)?);
-    change.push(item(changed, true))?;
-    change.push(item(flat(alloc, 2)?, true))?;
-    assert!(rt; keeper.apply(alloc, &change).is_ok());
-    let mut rows = Seq::new(alloc);
-    rows.push(Row::Network(tunnelled(alloc, 1, 16_777_215)?))?;
-    rows.push(flat(alloc, 3)?)?;
-    rows.push(flat(alloc, 2)?)?;
-    assert!(rt; gives(alloc, &mut keeper, rows)?);
-    Ok(())
+fn uncounted(alloc: Global) -> Result<Row, OutOfMemory> {
+    let mut row = project(alloc, 2, "b")?;
+    row.count = 0x8000_0000_0000_0000;
+    Ok(Row::Project(row))
 }
 
 fn default_rule(
@@ -105,8 +59,7 @@ fn default_rule(
     Ok(row)
 }
 
-// What a project's first network makes: the project, its default group with four rules, and the
-// network.
+// The project, its default group with four rules, and the network.
 fn first_rows(alloc: Global) -> Result<Seq<Row>, OutOfMemory> {
     let mut rows = Seq::new(alloc);
     let mut owner = project(alloc, 1, "a")?;
@@ -123,35 +76,124 @@ fn first_rows(alloc: Global) -> Result<Seq<Row>, OutOfMemory> {
     ] {
         rows.push(Row::Rule(default_rule(alloc, n, direction, ethertype)?))?;
     }
-    let mut first = tunnelled(alloc, 6, 1)?;
+    let mut first = network(alloc, 6, Segment::Vxlan { number: 1 })?;
     first.name = Text::of(alloc, "n1")?;
     rows.push(Row::Network(first))?;
     Ok(rows)
 }
 
-#[test]
-fn keeps_a_first_network(rt: HostRuntime) -> Result<(), Fail> {
-    let alloc = rt.alloc();
-    let mut keeper = new_store(alloc)?;
-    let mut change = Seq::new(alloc);
-    push_items(&mut change, first_rows(alloc)?, true)?;
-    assert!(rt; keeper.apply(alloc, &change).is_ok());
-    assert!(rt; gives(alloc, &mut keeper, first_rows(alloc)?)?);
-    Ok(())
+fn one_row(alloc: Global, row: Row) -> Result<Seq<Row>, OutOfMemory> {
+    let mut rows = Seq::new(alloc);
+    rows.push(row)?;
+    Ok(rows)
 }
 
-// The last row of the change fits no column.
-#[test]
-fn keeps_nothing_of_a_failed_change(rt: HostRuntime) -> Result<(), Fail> {
-    let alloc = rt.alloc();
-    let mut keeper = new_store(alloc)?;
+fn rows_of(alloc: Global, part: Part) -> Result<Seq<Row>, OutOfMemory> {
+    match part {
+        Part::Full => full_rows(alloc),
+        Part::Bare => bare_rows(alloc, &full_numbers()),
+        Part::Other => bare_rows(alloc, &other_numbers()),
+        Part::Flat(n) => one_row(alloc, flat(alloc, n)?),
+        Part::Tunnelled(n) => one_row(alloc, tunnelled(alloc, n)?),
+        Part::First => first_rows(alloc),
+        Part::Uncounted => one_row(alloc, uncounted(alloc)?),
+    }
+}
+
+fn all_rows(alloc: Global, parts: &[Part]) -> Result<Seq<Row>, OutOfMemory> {
+    let mut all = Seq::new(alloc);
+    for part in parts {
+        for row in rows_of(alloc, *part)?.into_vec() {
+            all.push(row)?;
+        }
+    }
+    Ok(all)
+}
+
+/// A change of a new store, by parts that are made or taken out; how many of its calls fail; and
+/// the rows that it has then.
+struct Case {
+    change: &'static [(Part, bool)],
+    faults: u64,
+    rows: &'static [Part],
+}
+
+const CASES: [Case; 6] = [
+    // rows of each kind
+    Case {
+        change: &[(Part::Full, true), (Part::Other, true)],
+        faults: 0,
+        rows: &[Part::Full, Part::Other],
+    },
+    // each is changed
+    Case {
+        change: &[(Part::Bare, true), (Part::Full, true)],
+        faults: 0,
+        rows: &[Part::Full],
+    },
+    // each is taken out
+    Case {
+        change: &[(Part::Full, true), (Part::Other, true), (Part::Full, false)],
+        faults: 0,
+        rows: &[Part::Other],
+    },
+    // a row that is changed keeps its place, and one that is made again comes last
+    Case {
+        change: &[
+            (Part::Flat(1), true),
+            (Part::Flat(2), true),
+            (Part::Flat(3), true),
+            (Part::Flat(2), false),
+            (Part::Tunnelled(1), true),
+            (Part::Flat(2), true),
+        ],
+        faults: 0,
+        rows: &[Part::Tunnelled(1), Part::Flat(3), Part::Flat(2)],
+    },
+    // what a project's first network makes
+    Case {
+        change: &[(Part::First, true)],
+        faults: 0,
+        rows: &[Part::First],
+    },
+    // the last row of the change fits no column
+    Case {
+        change: &[(Part::First, true), (Part::Uncounted, true)],
+        faults: 1,
+        rows: &[],
+    },
+];
+
+fn change_of(alloc: Global, parts: &[(Part, bool)]) -> Result<Change, OutOfMemory> {
     let mut change = Seq::new(alloc);
-    push_items(&mut change, first_rows(alloc)?, true)?;
-    let mut unkept = project(alloc, 2, "b")?;
-    unkept.count = 0x8000_0000_0000_0000;
-    change.push(item(Row::Project(unkept), true))?;
-    assert!(rt; keeper.apply(alloc, &change).is_err());
-    assert_eq!(rt; keeper.faults(), 1);
-    assert!(rt; gives(alloc, &mut keeper, Seq::new(alloc))?);
+    for (part, is_made) in parts {
+        push_items(&mut change, rows_of(alloc, *part)?, *is_made)?;
+    }
+    Ok(change)
+}
+
+// A store with its tables, and without rows.
+fn new_store(alloc: Global) -> Result<SqlKeeper<MemStore>, Fail> {
+    let mut keeper = SqlKeeper::make(Connection::open_in_memory(alloc)?);
+    match keeper.load(alloc) {
+        Ok(_) => Ok(keeper),
+        Err(_) => Err(Fail::new("no rows were loaded")),
+    }
+}
+
+fn is_met(alloc: Global, case: &Case) -> Result<bool, Fail> {
+    let mut keeper = new_store(alloc)?;
+    let change = change_of(alloc, case.change)?;
+    let is_kept = keeper.apply(alloc, &change).is_ok();
+    let gives = gives(alloc, &mut keeper, all_rows(alloc, case.rows)?)?;
+    Ok(is_kept == (case.faults == 0) && keeper.faults() == case.faults && gives)
+}
+
+#[test]
+fn keeps_changes(rt: HostRuntime) -> Result<(), Fail> {
+    let alloc = rt.alloc();
+    for case in &CASES {
+        assert!(rt; is_met(alloc, case)?);
+    }
     Ok(())
 }

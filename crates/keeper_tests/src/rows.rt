@@ -247,8 +247,8 @@ fn kind_of(row: &Row) -> Kind {
     }
 }
 
-/// The item by which a row is made, or taken out.
-pub(crate) fn item(row: Row, is_made: bool) -> Item {
+// The item by which a row is made, or taken out.
+fn item(row: Row, is_made: bool) -> Item {
     let kind = kind_of(&row);
     let (before, after) = if is_made {
         (None, Some(row))

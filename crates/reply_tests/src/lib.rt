@@ -1,11 +1,9 @@
-//! Tests of `neutron_http` and `json_replies`: where paths and queries lead, what refusals say, and
-//! the bytes of replies.
+//! Tests of `json_replies`, `api_shown` and `json_values`, on what no request comes to. What requests
+//! come to is in the streams of tests/corpus.
 //!
-//! They were worked out by hand. A crate with tests is proved twice, so they stand here, above the
-//! two crates, and not in them. It promises nothing by itself.
+//! A crate with tests is proved twice, so they stand here, above the crates that they test, and not
+//! in them. It promises nothing by itself.
 #![tactic(auto)]
 
 #[cfg(test)]
-mod bodies;
-#[cfg(test)]
-mod messages;
+mod unasked;

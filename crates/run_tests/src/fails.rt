@@ -1,7 +1,8 @@
 //! Runs in which one call of the outside fails.
 ghost use Rattle.std.specs.Prelude.{◌<◌};
 
-use crate::runs::{MADE, MAKE, ran};
+use crate::outcome::run_alone;
+use crate::runs::{MADE, MAKE};
 use net_addr::OutOfMemory;
 use std::alloc::Global;
 use std::test::Fail;
@@ -97,7 +98,7 @@ fn fails_as_wanted(alloc: Global, case: &Case, piece: usize) -> Result<bool, Out
     let (words, failing, requests, status, replies) = *case;
     let requests = joined(alloc, requests)?;
     let replies = joined(alloc, replies)?;
-    let outcome = ran(alloc, words, failing, requests.as_slice(), piece)?;
+    let outcome = run_alone(alloc, words, failing, requests.as_slice(), piece)?;
     Ok(outcome.status == status && outcome.written.as_slice() == replies.as_slice())
 }
 

@@ -1,14 +1,9 @@
 //! Runs that serve connections.
-ghost use Rattle.std.specs.Prelude.{IfOk, IsTrue};
-ghost use Rattle.keeper_core.specs.Desk.{fresh_ends};
+ghost use Rattle.std.specs.Prelude.{◌<◌};
 
-use crate::runs::{MADE, MAKE, bytes, numbers, texts};
-use keeper_core::{
-    DeskAsk, EndsList, MemoryDesk, MemorySink, MemorySource, SureDesk, SureEnds, SureSink,
-    SureSource,
-};
-use net_addr::{OutOfMemory, Seq};
-use neutron_serve::run;
+use crate::outcome::{Outcome, connections, run_alone, run_over};
+use crate::runs::{MADE, MAKE};
+use net_addr::OutOfMemory;
 use std::alloc::Global;
 use std::test::Fail;
 
@@ -23,106 +18,72 @@ const SHOWN: &[u8] =
         \"router:external\":false,\"shared\":false,\"status\":\"ACTIVE\",\"subnets\":[],\
         \"tenant_id\":\"a\"}}";
 
-fn connections(alloc: Global, inputs: &[&[u8]]) -> Result<SureEnds, OutOfMemory> {
-    let mut ends = Seq::new(alloc);
-    for input in inputs {
-        let source = SureSource::make(bytes(alloc, input)?, 7);
-        ends.push((source, SureSink::make(alloc)))?;
-    }
-    Ok(ends)
+// Arguments, the reads of the first connection that fail, what the desk is asked for, and what is
+// written to the connections. The first makes a network, and two more show it.
+type Case = (
+    &'static [&'static str],
+    &'static [u64],
+    &'static str,
+    &'static [&'static [u8]],
+);
+
+const CASES: [Case; 3] = [
+    // Two connections, one after the other, over one world. The third isn't asked for.
+    (
+        &["serve", "--listen", "x", "--connections", "2"],
+        &[],
+        "rows listen next next",
+        &[MADE, SHOWN],
+    ),
+    // None is left: that is asked, and told.
+    (
+        &["serve", "--listen", "x", "--connections", "9"],
+        &[],
+        "rows listen next next next next",
+        &[MADE, SHOWN, SHOWN],
+    ),
+    // A failing read ends its connection alone: the request before it, which 14 reads of 7 bytes
+    // give, is answered, and the next connection is served over what it made.
+    (
+        &["serve", "--listen=x", "--connections=2"],
+        &[15],
+        "rows listen next next",
+        &[MADE, SHOWN],
+    ),
+];
+
+// Whether this was written to the connections, and neither the input was read nor the output
+// written.
+fn are_served(outcome: &Outcome, asks: &str, wanted: &[&[u8]]) -> bool {
+    let replies = outcome.replies.iter().map(|reply| reply.as_slice());
+    outcome.status == 0
+        && outcome.asks.as_str() == asks
+        && replies.eq(wanted.iter().copied())
+        && outcome.written.is_empty()
+        && outcome.left == MAKE.len()
 }
 
-// Whether these connections are served so, with this many asks.
-fn are_served(
-    alloc: Global,
-    words: &[&str],
-    inputs: &[&[u8]],
-    wanted: &[&[u8]],
-    asks: usize,
-) -> Result<bool, OutOfMemory> {
-    let words = texts(alloc, words)?;
-    let ends = connections(alloc, inputs)?;
-    let mut desk = SureDesk::make(alloc, Seq::new(alloc), Seq::new(alloc), ends)?;
-    let mut input = SureSource::make(bytes(alloc, MAKE)?, 7);
-    let mut output = SureSink::make(alloc);
-    let status = run(alloc, words.as_slice(), &mut desk, &mut input, &mut output);
-    let Some(ended) = desk.ended() else {
-        return Ok(false);
-    };
-    let replies = ended.iter().map(|(_, output)| output.as_slice());
-    let is_asked = desk.asks().len() == asks;
-    Ok(
-        status == 0
-            && replies.eq(wanted.iter().copied())
-            && is_asked
-            && output.as_slice().is_empty(),
-    )
+fn is_as_wanted(alloc: Global, case: &Case) -> Result<bool, OutOfMemory> {
+    let (words, cut, asks, wanted) = *case;
+    let ends = connections(alloc, [MAKE, SHOW, SHOW], cut)?;
+    let outcome = run_over(alloc, words, [&[], &[], &[], &[]], ends, MAKE, 100_000)?;
+    Ok(are_served(&outcome, asks, wanted))
 }
 
 #[test]
 fn serves(rt: HostRuntime) -> Result<(), Fail> {
     let alloc = rt.alloc();
-    // two connections, one after the other, over one world
-    let two = ["serve", "--listen", "x", "--connections", "2"];
-    let both = are_served(alloc, &two, &[MAKE, SHOW], &[MADE, SHOWN], 4)?;
-    // a third isn't asked for
-    let first = are_served(alloc, &two, &[MAKE, SHOW, MAKE], &[MADE, SHOWN], 4)?;
-    // none is left: that is asked, and told
-    let more = ["serve", "--listen", "x", "--connections", "9"];
-    let spent = are_served(alloc, &more, &[MAKE, SHOW], &[MADE, SHOWN], 5)?;
-    assert!(rt; both && first && spent);
-    Ok(())
-}
-
-// A connection that is cut after its request, and one that comes next.
-fn cut_and_next(alloc: Global) -> Result<EndsList, OutOfMemory>
-    ensures { IfOk result (λ ends. IsTrue (fresh_ends ends)) }
-{
-    let mut ends = Seq::new(alloc);
-    let cut = MemorySource::make(bytes(alloc, MAKE)?, 100_000, numbers(alloc, &[2])?);
-    ends.push((cut, MemorySink::make(alloc, Seq::new(alloc))))?;
-    let next = MemorySource::make(bytes(alloc, SHOW)?, 100_000, Seq::new(alloc));
-    ends.push((next, MemorySink::make(alloc, Seq::new(alloc))))?;
-    Ok(ends)
-}
-
-// A failing read ends its connection alone: the request before it is answered, and the next
-// connection is served over what it made.
-#[test]
-fn serves_behind_a_cut(rt: HostRuntime) -> Result<(), Fail> {
-    let alloc = rt.alloc();
-    let words = texts(alloc, &["serve", "--listen=x", "--connections=2"])?;
-    let ends = cut_and_next(alloc)?;
-    let (files, stores) = (Seq::new(alloc), Seq::new(alloc));
-    let mut desk = MemoryDesk::make(alloc, files, stores, ends, Seq::new(alloc), Seq::new(alloc))?;
-    let mut input = MemorySource::make(bytes(alloc, b"")?, 7, Seq::new(alloc));
-    let mut output = MemorySink::make(alloc, Seq::new(alloc));
-    let status = run(alloc, words.as_slice(), &mut desk, &mut input, &mut output);
-    assert_eq!(rt; status, 0);
-    let Some([(_, cut), (_, next)]) = desk.ended() else {
-        return Err(Fail::new("other connections"));
-    };
-    assert!(rt; cut.as_slice() == MADE && next.as_slice() == SHOWN);
+    for case in &CASES {
+        let wanted = is_as_wanted(alloc, case)?;
+        assert!(rt; wanted);
+    }
     Ok(())
 }
 
 #[test]
-fn listens_behind_the_store(rt: HostRuntime) -> Result<(), Fail> {
-    let alloc = rt.alloc();
-    let words = texts(alloc, &["serve", "--listen=x", "--connections=1"])?;
-    let ends = connections(alloc, &[])?;
-    let mut desk = SureDesk::make(alloc, Seq::new(alloc), Seq::new(alloc), ends)?;
-    let mut input = SureSource::make(bytes(alloc, b"")?, 7);
-    let mut output = SureSink::make(alloc);
-    assert_eq!(rt;
-        run(alloc, words.as_slice(), &mut desk, &mut input, &mut output),
-        0
-    );
-    assert!(rt;
-        matches!(
-            desk.asks(),
-            [DeskAsk::Store(None), DeskAsk::Listen(_), DeskAsk::Next]
-        )
-    );
+fn listens_after_the_store(rt: HostRuntime) -> Result<(), Fail> {
+    let words = ["serve", "--listen=x", "--connections=1"];
+    let outcome = run_alone(rt.alloc(), &words, [&[], &[], &[], &[]], MAKE, 100_000)?;
+    assert!(rt; are_served(&outcome, "rows listen next", &[]));
     Ok(())
 }

@@ -1,6 +1,6 @@
 //! A change that the store fails to keep leaves rows, version, tables and entries as they were.
 use crate::fails::{NOT_KEPT, joined};
-use crate::runs::{Outcome, ran};
+use crate::outcome::{Outcome, run_alone};
 use net_addr::OutOfMemory;
 use std::alloc::Global;
 use std::test::Fail;
@@ -65,7 +65,8 @@ const SEEN_AGAIN: &[&[u8]] = &[MAKES, SEND, LOOK, SEND, DELETE, LOOK, SEND];
 fn replies(alloc: Global, requests: &[&[u8]]) -> Result<Vec<u8>, OutOfMemory> {
     let requests = joined(alloc, requests)?;
     let failing: [&[u64]; 4] = [&[], &[5], &[], &[]];
-    let Outcome { written, .. } = ran(alloc, &["session"], failing, requests.as_slice(), 100_000)?;
+    let outcome = run_alone(alloc, &["session"], failing, requests.as_slice(), 100_000)?;
+    let Outcome { written, .. } = outcome;
     Ok(written)
 }
 

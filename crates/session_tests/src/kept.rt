@@ -1,7 +1,11 @@
 //! Which messages are kept after more changes than a server keeps, on a session over memory in
 //! manual delivery.
-use crate::sessions::ends_so;
+ghost use Rattle.std.specs.Prelude.{◌<◌};
+
+use crate::outcome::{NOTHING_FAILS, run_session};
+use api_types::Rows;
 use net_addr::OutOfMemory;
+use neutron_serve::SessionEnd;
 use std::alloc::Global;
 use std::test::Fail;
 
@@ -65,7 +69,9 @@ fn kept_messages(rt: HostRuntime) -> Result<(), Fail> {
     let mut input = Vec::from_slice(alloc, WORLD)?;
     add_renames(&mut input, 1025)?;
     input.extend_from_slice(DELIVERIES)?;
-    let met = ends_so(alloc, input.as_slice(), REPLIES)?;
-    assert!(rt; met);
+    let rows = Rows::empty(alloc)?;
+    let outcome = run_session(alloc, rows, true, NOTHING_FAILS, input.as_slice(), 100_000)?;
+    assert!(rt; outcome.end == SessionEnd::Done);
+    assert!(rt; outcome.written.as_slice().ends_with(REPLIES));
     Ok(())
 }

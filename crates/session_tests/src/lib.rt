@@ -1,13 +1,11 @@
-//! Tests that cross crates: worked examples, with values that were computed by hand.
+//! Tests that cross crates, of what the streams of tests/corpus can't say: requests in pieces, calls
+//! of the outside that fail, limits, rows that no calls make, and the items of changes. Values were
+//! worked out by hand.
 //!
 //! A crate with tests is proved twice, so they stand here, above all crates, and not in the crates
 //! that they test. It promises nothing by itself.
 #![tactic(auto)]
 
-#[cfg(test)]
-mod frames;
-#[cfg(test)]
-mod ids;
 #[cfg(test)]
 mod kept;
 #[cfg(test)]
@@ -15,10 +13,8 @@ mod limits;
 #[cfg(test)]
 mod machine;
 #[cfg(test)]
-mod messages;
-#[cfg(test)]
 mod opened;
 #[cfg(test)]
-mod sessions;
+mod outcome;
 #[cfg(test)]
-mod shown;
+mod sessions;

@@ -1,3 +1,4 @@
+//! The items of changes.
 ghost use Rattle.std.specs.Prelude.{◌≡◌, IfOk, not, true};
 ghost use Rattle.api_types.specs.Lists.{is_empty};
 ghost use Rattle.api_types.specs.Rows.{Fits, no_rows};
@@ -8,16 +9,15 @@ ghost use Rattle.call_parts.specs.InForm.{IsInForm};
 
 use api_machine::Machine;
 use api_types::{
-    Answer, Call, Caller, Change, Form, Given, Id, IdText, Item, Kind, NetworkForm, Refusal, Rows,
-    Segment,
+    Call, Caller, Change, Form, Given, Id, IdText, Item, Kind, NetworkForm, Refusal, Rows,
 };
-use net_addr::{OutOfMemory, Seq, Text};
+use net_addr::{OutOfMemory, Text};
 use net_settings::default_settings;
 use std::alloc::Global;
 use std::test::Fail;
 
-/// A machine without rows, under the default settings.
-pub(crate) fn fresh(alloc: Global) -> Result<Machine, OutOfMemory>
+// A machine without rows, under the default settings.
+fn fresh(alloc: Global) -> Result<Machine, OutOfMemory>
     ensures { IfOk result (λ m. m.rows ≡ no_rows) }
 {
     let settings = default_settings(alloc)?;
@@ -83,23 +83,8 @@ fn renaming(alloc: Global, id: &str, name: &str) -> Result<Call, OutOfMemory>
     Ok(Call::Update { name, form })
 }
 
-fn showing(alloc: Global, id: &str) -> Result<Call, OutOfMemory>
-    ensures { IfOk result
-        (λ call. (caller : TheCaller) → not (is_empty caller.project) ≡ true
-        → IsInForm caller call) }
-{
-    Ok(Call::Show {
-        kind: Kind::Network,
-        name: IdText {
-            text: Text::of(alloc, id)?,
-            id: Id::read(id.as_bytes()),
-        },
-        fields: Seq::new(alloc),
-    })
-}
-
-/// Plans a network for a project and accepts it.
-pub(crate) fn create(alloc: Global, machine: &mut Machine, project: &str) -> Result<(), Refusal>
+// Plans a network for a project and accepts it.
+fn create(alloc: Global, machine: &mut Machine, project: &str) -> Result<(), Refusal>
     requires { not (is_empty project.now) ≡ true }
 {
     let caller = caller(alloc, project)?;
@@ -122,40 +107,6 @@ fn put_in_and_taken_back(alloc: Global, change: &Change) -> Result<(usize, usize
     rows.undo_change(alloc, change)?;
     let before = rows.networks().rows().len() + rows.rules().rows().len();
     Ok((after, before))
-}
-
-#[test]
-fn networks_are_numbered(rt: HostRuntime) -> Result<(), Fail> {
-    let alloc = rt.alloc();
-    let mut machine = fresh(alloc)?;
-    assert!(rt; create(alloc, &mut machine, "a").is_ok());
-    assert!(rt; create(alloc, &mut machine, "a").is_ok());
-    assert!(rt; create(alloc, &mut machine, "b").is_ok());
-    assert!(rt; machine.version() == 3);
-    let networks = machine.rows().networks().rows();
-    assert!(rt; networks.len() == 3);
-    for (i, ordinal, count, number) in [(0, 1, 6, 1), (1, 1, 7, 2), (2, 2, 6, 3)] {
-        let network = &networks[i];
-        assert!(rt; network.id == Id::make(ordinal, count), "network {i}");
-        let is_number = matches!(&network.segment, Segment::Vxlan { number: n } if *n == number);
-        assert!(rt; is_number, "network {i}");
-    }
-    let rules = machine.rows().rules().rows();
-    assert!(rt; rules.len() == 8 && rules[0].id == Id::make(1, 2) && rules[7].id == Id::make(2, 5));
-    Ok(())
-}
-
-#[test]
-fn a_foreign_network_is_not_found(rt: HostRuntime) -> Result<(), Fail> {
-    let alloc = rt.alloc();
-    let mut machine = fresh(alloc)?;
-    assert!(rt; create(alloc, &mut machine, "a").is_ok());
-    let call = showing(alloc, "00000001-0000-8000-8000-000000000006")?;
-    let own = machine.plan(alloc, &caller(alloc, "a")?, &call);
-    assert!(rt; matches!(&own, Ok(planned) if matches!(&planned.answer, Answer::One(_))));
-    let foreign = machine.plan(alloc, &caller(alloc, "b")?, &call);
-    assert!(rt; matches!(&foreign, Err(Refusal::NotFound { .. })));
-    Ok(())
 }
 
 #[test]

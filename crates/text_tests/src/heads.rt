@@ -15,71 +15,72 @@ fn answer(bytes: &[u8], ended: bool) -> u8 {
     }
 }
 
-// Short heads.
+// Short heads: the bytes, whether they are all, and the answer.
+const SHORT: [(&[u8], bool, u8); 27] = [
+    (b"GET /v2.0/net", true, 1),
+    (b"GET /v2.0/net", false, 9),
+    (b"GET /v2.0/networks HTTP/1.1\r\n\r\n", false, 0),
+    (b"\r\n\n\r\nGET / HTTP/1.1\n\n", false, 0),
+    (b"\r\n\r\n", false, 9),
+    (b"\r\n\r\n", true, 1),
+    (b"GET / HTTP/2.0\r\n", false, 1),
+    (b"GET  / HTTP/1.1", false, 9),
+    (b"GET  / HTTP/1.1\r\n", false, 1),
+    (b"GET / HTTP/1.1\r\nA\x01b: c", false, 9),
+    (b"GET / HTTP/1.1\r\nA\x01b: c\r\n", false, 1),
+    (b"PUT / HTTP/1.1\r\n\r\n", false, 4),
+    (b"POST / HTTP/1.1\r\n\r\n", false, 4),
+    (b"PATCH / HTTP/1.1\r\n\r\n", false, 0),
+    (
+        b"GET / HTTP/1.1\r\nTransfer-Encoding: chunked\r\n\r\n",
+        false,
+        4,
+    ),
+    (
+        b"PUT / HTTP/1.1\r\ncontent-LENGTH: 0065536\r\n\r\n",
+        false,
+        0,
+    ),
+    (b"PUT / HTTP/1.1\r\nContent-Length: 65537\r\n\r\n", false, 3),
+    (
+        b"PUT / HTTP/1.1\r\nTransfer-Encoding: x\r\nContent-Length: 65537\r\n\r\n",
+        false,
+        3,
+    ),
+    (
+        b"PUT / HTTP/1.1\r\nContent-Length: 0000000001\r\n\r\n",
+        false,
+        0,
+    ),
+    (
+        b"PUT / HTTP/1.1\r\nContent-Length: 00000000001\r\n\r\n",
+        false,
+        1,
+    ),
+    (b"PUT / HTTP/1.1\r\nContent-Length: -1\r\n\r\n", false, 1),
+    (b"PUT / HTTP/1.1\r\nContent-Length: +1\r\n\r\n", false, 1),
+    (b"PUT / HTTP/1.1\r\nContent-Length:\r\n\r\n", false, 1),
+    (
+        b"PUT / HTTP/1.1\r\nContent-Length: 1\r\nContent-Length: 1\r\n\r\n",
+        false,
+        1,
+    ),
+    (b"PUT / HTTP/1.1\r\nContent-Length: 1, 1\r\n\r\n", false, 1),
+    (
+        b"GET / HTTP/1.1\r\nContent-Length: 9999999999\r\n\r\n",
+        false,
+        3,
+    ),
+    (
+        b"GET / HTTP/1.1\r\nContent-Length: x\r\nTransfer-Encoding: x\r\n\r\n",
+        false,
+        1,
+    ),
+];
+
 #[test]
 fn short_heads(rt: HostRuntime) -> Result<(), Fail> {
-    let cases: [(&[u8], bool, u8); 27] = [
-        (b"GET /v2.0/net", true, 1),
-        (b"GET /v2.0/net", false, 9),
-        (b"GET /v2.0/networks HTTP/1.1\r\n\r\n", false, 0),
-        (b"\r\n\n\r\nGET / HTTP/1.1\n\n", false, 0),
-        (b"\r\n\r\n", false, 9),
-        (b"\r\n\r\n", true, 1),
-        (b"GET / HTTP/2.0\r\n", false, 1),
-        (b"GET  / HTTP/1.1", false, 9),
-        (b"GET  / HTTP/1.1\r\n", false, 1),
-        (b"GET / HTTP/1.1\r\nA\x01b: c", false, 9),
-        (b"GET / HTTP/1.1\r\nA\x01b: c\r\n", false, 1),
-        (b"PUT / HTTP/1.1\r\n\r\n", false, 4),
-        (b"POST / HTTP/1.1\r\n\r\n", false, 4),
-        (b"PATCH / HTTP/1.1\r\n\r\n", false, 0),
-        (
-            b"GET / HTTP/1.1\r\nTransfer-Encoding: chunked\r\n\r\n",
-            false,
-            4,
-        ),
-        (
-            b"PUT / HTTP/1.1\r\ncontent-LENGTH: 0065536\r\n\r\n",
-            false,
-            0,
-        ),
-        (b"PUT / HTTP/1.1\r\nContent-Length: 65537\r\n\r\n", false, 3),
-        (
-            b"PUT / HTTP/1.1\r\nTransfer-Encoding: x\r\nContent-Length: 65537\r\n\r\n",
-            false,
-            3,
-        ),
-        (
-            b"PUT / HTTP/1.1\r\nContent-Length: 0000000001\r\n\r\n",
-            false,
-            0,
-        ),
-        (
-            b"PUT / HTTP/1.1\r\nContent-Length: 00000000001\r\n\r\n",
-            false,
-            1,
-        ),
-        (b"PUT / HTTP/1.1\r\nContent-Length: -1\r\n\r\n", false, 1),
-        (b"PUT / HTTP/1.1\r\nContent-Length: +1\r\n\r\n", false, 1),
-        (b"PUT / HTTP/1.1\r\nContent-Length:\r\n\r\n", false, 1),
-        (
-            b"PUT / HTTP/1.1\r\nContent-Length: 1\r\nContent-Length: 1\r\n\r\n",
-            false,
-            1,
-        ),
-        (b"PUT / HTTP/1.1\r\nContent-Length: 1, 1\r\n\r\n", false, 1),
-        (
-            b"GET / HTTP/1.1\r\nContent-Length: 9999999999\r\n\r\n",
-            false,
-            3,
-        ),
-        (
-            b"GET / HTTP/1.1\r\nContent-Length: x\r\nTransfer-Encoding: x\r\n\r\n",
-            false,
-            1,
-        ),
-    ];
-    for (bytes, ended, wanted) in cases {
+    for (bytes, ended, wanted) in SHORT {
         assert_eq!(rt; answer(bytes, ended), wanted);
     }
     Ok(())
@@ -107,41 +108,34 @@ fn with_bytes(alloc: Global, count: usize, last: &[u8]) -> Result<Vec<u8>, Fail>
     Ok(bytes)
 }
 
-// The limits, at both sides.
+// The limits, at both sides: how many fields and what comes after them; how many bytes, what comes
+// after them, and whether that is all; and the answers.
+const FIELDS: [(usize, &[u8], u8); 5] = [
+    (64, b"\r\n", 0),
+    (64, b"a\x01\r\n", 1),
+    (64, b"a: b", 9),
+    (65, b"", 2),
+    (65, b"Content-Length: x\r\n\r\n", 2),
+];
+
+const BYTES: [(usize, &[u8], bool, u8); 5] = [
+    (16380, b"\r\n\r\n", false, 0),
+    (16381, b"\r\n\r\n", false, 2),
+    (16383, b"", false, 9),
+    (16383, b"", true, 1),
+    (16384, b"", true, 2),
+];
+
 #[test]
 fn long_heads(rt: HostRuntime) -> Result<(), Fail> {
-    let alloc = rt.alloc();
-    assert_eq!(rt;
-        answer(with_fields(alloc, 64, b"\r\n")?.as_slice(), false),
-        0
-    );
-    assert_eq!(rt;
-        answer(with_fields(alloc, 64, b"a\x01\r\n")?.as_slice(), false),
-        1
-    );
-    assert_eq!(rt;
-        answer(with_fields(alloc, 64, b"a: b")?.as_slice(), false),
-        9
-    );
-    assert_eq!(rt; answer(with_fields(alloc, 65, b"")?.as_slice(), false), 2);
-    assert_eq!(rt;
-        answer(
-            with_fields(alloc, 65, b"Content-Length: x\r\n\r\n")?.as_slice(),
-            false
-        ),
-        2
-    );
-    assert_eq!(rt;
-        answer(with_bytes(alloc, 16380, b"\r\n\r\n")?.as_slice(), false),
-        0
-    );
-    assert_eq!(rt;
-        answer(with_bytes(alloc, 16381, b"\r\n\r\n")?.as_slice(), false),
-        2
-    );
-    assert_eq!(rt; answer(with_bytes(alloc, 16383, b"")?.as_slice(), false), 9);
-    assert_eq!(rt; answer(with_bytes(alloc, 16383, b"")?.as_slice(), true), 1);
-    assert_eq!(rt; answer(with_bytes(alloc, 16384, b"")?.as_slice(), true), 2);
+    for (count, last, wanted) in FIELDS {
+        let bytes = with_fields(rt.alloc(), count, last)?;
+        assert_eq!(rt; answer(bytes.as_slice(), false), wanted);
+    }
+    for (count, last, ended, wanted) in BYTES {
+        let bytes = with_bytes(rt.alloc(), count, last)?;
+        assert_eq!(rt; answer(bytes.as_slice(), ended), wanted);
+    }
     Ok(())
 }
 
@@ -155,27 +149,30 @@ fn with_empty(alloc: Global, count: usize, end: &[u8], last: &[u8]) -> Result<Ve
     Ok(bytes)
 }
 
-// Empty lines before a head: how many of their bytes are passed, and what is answered.
+const REQUEST: &[u8] = b"GET / HTTP/1.1\r\n\r\n";
+
+// Empty lines before a head: how many, their end, what comes after them, how many of their bytes are
+// passed, and the answer.
+const EMPTY: [(usize, &[u8], &[u8], usize, u8); 13] = [
+    (0, b"\n", b"", 0, 9),
+    (16_000, b"\n", REQUEST, 16_000, 0),
+    (8_000, b"\r\n", REQUEST, 16_000, 0),
+    (16_366, b"\n", REQUEST, 16_366, 0),
+    (16_367, b"\n", REQUEST, 16_367, 2),
+    (16_383, b"\n", b"", 16_383, 9),
+    (16_384, b"\n", b"", 16_383, 2),
+    (8_191, b"\r\n", b"\r", 16_382, 9),
+    (8_191, b"\r\n", b"\r\n", 16_382, 2),
+    (8_191, b"\r\n", b"\n", 16_383, 9),
+    (1, b"\n", b"\r", 1, 9),
+    (1, b"\r\n", b"\r\r\nGET / HTTP/1.1\r\n\r\n", 2, 1),
+    (2, b"\r\n", b"\rGET / HTTP/1.1\r\n\r\n", 4, 1),
+];
+
 #[test]
 fn empty_lines_first(rt: HostRuntime) -> Result<(), Fail> {
     let alloc = rt.alloc();
-    let request = b"GET / HTTP/1.1\r\n\r\n".as_slice();
-    let cases: [(usize, &[u8], &[u8], usize, u8); 13] = [
-        (0, b"\n", b"", 0, 9),
-        (16_000, b"\n", request, 16_000, 0),
-        (8_000, b"\r\n", request, 16_000, 0),
-        (16_366, b"\n", request, 16_366, 0),
-        (16_367, b"\n", request, 16_367, 2),
-        (16_383, b"\n", b"", 16_383, 9),
-        (16_384, b"\n", b"", 16_383, 2),
-        (8_191, b"\r\n", b"\r", 16_382, 9),
-        (8_191, b"\r\n", b"\r\n", 16_382, 2),
-        (8_191, b"\r\n", b"\n", 16_383, 9),
-        (1, b"\n", b"\r", 1, 9),
-        (1, b"\r\n", b"\r\r\nGET / HTTP/1.1\r\n\r\n", 2, 1),
-        (2, b"\r\n", b"\rGET / HTTP/1.1\r\n\r\n", 4, 1),
-    ];
-    for (count, end, last, passed, wanted) in cases {
+    for (count, end, last, passed, wanted) in EMPTY {
         let bytes = with_empty(alloc, count, end, last)?;
         assert_eq!(rt; skip_empty_lines(bytes.as_slice(), 0), passed);
         assert_eq!(rt; answer(bytes.as_slice(), false), wanted);

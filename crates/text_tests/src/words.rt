@@ -100,21 +100,22 @@ fn drills(rt: HostRuntime) -> Result<(), Fail> {
 }
 
 // Words that are no line, refused by `clap` and by what is asked beside it.
+const NO_LINES: [&[&str]; 9] = [
+    &[],
+    &["sessions"],
+    &["session", "--"],
+    &["session", "--store", "-"],
+    &["session", "--store=x", "--store=x"],
+    &["session", "--help"],
+    &["serve", "--listen", "x", "--connections", "0"],
+    &["drill", "7", "10001"],
+    &["drill", "+7", "1"],
+];
+
 #[test]
 fn no_lines(rt: HostRuntime) -> Result<(), Fail> {
     let alloc = rt.alloc();
-    let cases: [&[&str]; 9] = [
-        &[],
-        &["sessions"],
-        &["session", "--"],
-        &["session", "--store", "-"],
-        &["session", "--store=x", "--store=x"],
-        &["session", "--help"],
-        &["serve", "--listen", "x", "--connections", "0"],
-        &["drill", "7", "10001"],
-        &["drill", "+7", "1"],
-    ];
-    for case in cases {
+    for case in NO_LINES {
         let words = texts(alloc, case)?;
         assert!(rt; matches!(&read_line(alloc, words.as_slice()), Err(Refusal::Wrong)));
     }
