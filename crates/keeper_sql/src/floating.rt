@@ -1,7 +1,11 @@
 //! Floating addresses in the store.
 
+ghost use Rattle.std.specs.Prelude.{◌≡◌, OnOk};
+ghost use Rattle.keeper_sql.specs.Whole.{CommitsNothing, Runs};
+
 use crate::column::{four_at, four_if, id_at, id_if, text_at};
-use crate::stored::{Stored, delete_by_id};
+use crate::statement::execute;
+use crate::stored::Stored;
 use crate::trouble::Trouble;
 use api_types::{FloatingRow, Id, Target};
 use net_addr::{Addr4, OutOfMemory, Text};
@@ -16,6 +20,9 @@ const UPSERT: &str = "INSERT INTO floating_ips (id, project_id, description, flo
     own_port_id = excluded.own_port_id, floating_ip_address = excluded.floating_ip_address,
     port_id = excluded.port_id, fixed_ip_address = excluded.fixed_ip_address,
     router_id = excluded.router_id";
+
+/// Deletes the row with an id.
+pub(crate) const DELETE: &str = "DELETE FROM floating_ips WHERE id = ?1";
 
 // The association's columns: port, its address and router.
 #[derive(Drop)]
@@ -40,40 +47,52 @@ fn target_texts(alloc: Global, target: Option<Target>) -> Result<TargetTexts, Ou
     }
 }
 
+// The columns that are printed.
+#[derive(Drop)]
+struct FloatingTexts {
+    id: Text,
+    network: Text,
+    own_port: Text,
+    address: Text,
+    target: TargetTexts,
+}
+
+fn floating_texts(alloc: Global, row: &FloatingRow) -> Result<FloatingTexts, OutOfMemory> {
+    Ok(FloatingTexts {
+        id: row.id.print(alloc)?,
+        network: row.network.print(alloc)?,
+        own_port: row.own_port.print(alloc)?,
+        address: row.address.print(alloc)?,
+        target: target_texts(alloc, row.target)?,
+    })
+}
+
 /// Replaces the row with its id, or adds it last.
 pub(crate) fn write<S: Alter>(
     alloc: Global,
     to: &mut Transaction<'_, S>,
     row: &FloatingRow,
-) -> Result<(), Trouble> {
-    let id = row.id.print(alloc)?;
-    let network = row.network.print(alloc)?;
-    let own_port = row.own_port.print(alloc)?;
-    let address = row.address.print(alloc)?;
-    let target = target_texts(alloc, row.target)?;
-    to.execute(
+) -> Result<(), Trouble>
+    ensures same_reference { to.new.conn.ghost_name ≡ to.old.conn.ghost_name }
+    ensures inside { CommitsNothing S.Store to.old.conn.now to.new.conn.now }
+    ensures ran { OnOk result (Runs S.Store to.old.conn.now to.new.conn.now) }
+{
+    let texts = floating_texts(alloc, row)?;
+    execute(
+        to,
         UPSERT,
         params![
-            id.as_str(),
+            texts.id.as_str(),
             row.project.as_str(),
             row.description.as_str(),
-            network.as_str(),
-            own_port.as_str(),
-            address.as_str(),
-            target.port.as_ref().map(Text::as_str),
-            target.fixed.as_ref().map(Text::as_str),
-            target.router.as_ref().map(Text::as_str),
+            texts.network.as_str(),
+            texts.own_port.as_str(),
+            texts.address.as_str(),
+            texts.target.port.as_ref().map(Text::as_str),
+            texts.target.fixed.as_ref().map(Text::as_str),
+            texts.target.router.as_ref().map(Text::as_str),
         ],
-    )?;
-    Ok(())
-}
-
-pub(crate) fn delete<S: Alter>(
-    alloc: Global,
-    to: &mut Transaction<'_, S>,
-    row: &FloatingRow,
-) -> Result<(), Trouble> {
-    delete_by_id(alloc, to, "DELETE FROM floating_ips WHERE id = ?1", row.id)
+    )
 }
 
 // An association has all three columns, and none has none.
@@ -102,12 +121,12 @@ impl Stored for FloatingRow {
 
     fn read(_alloc: Global, row: &Row) -> Result<FloatingRow, Trouble> {
         let id = id_at(row, 0)?;
-        let project = text_at(row, 1)?;
-        let description = text_at(row, 2)?;
         let network = id_at(row, 3)?;
         let own_port = id_at(row, 4)?;
         let address = four_at(row, 5)?;
         let target = target_of(id_if(row, 6)?, four_if(row, 7)?, id_if(row, 8)?)?;
+        let project = text_at(row, 1)?;
+        let description = text_at(row, 2)?;
         Ok(FloatingRow {
             id,
             project,

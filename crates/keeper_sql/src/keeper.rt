@@ -1,24 +1,25 @@
 //! The keeper over a database of SQLite.
 
-ghost use Rattle.std.specs.Prelude.{◌≡◌, ◌≤◌, None};
-ghost use Rattle.keeper_core.specs.Counts.{RoseBy};
+ghost use Rattle.std.specs.Prelude.{◌≡◌, ◌≤◌, None, length};
+ghost use Rattle.keeper_core.specs.Counts.{HasRefusalCause, RoseBy};
 ghost use Rattle.keeper_core.specs.declared.refusal.OutsideRefusal.TheVariants.{Failed as HasFailed};
+ghost use Rattle.keeper_sql.specs.Whole.{IsWhole};
 
+use crate::change::write_change;
 use crate::lifting::lift_store;
 use crate::stored::read_all;
 use crate::tables::{Format, make_tables};
 use crate::trouble::Trouble;
-use crate::{floating, group, network, policy, port, project, router, rule, subnet};
 use api_types::{
-    Change, FloatingRow, GroupRow, Item, NetworkRow, PolicyRow, PortRow, ProjectRow, RouterRow,
-    Row, Rows, RuleRow, SubnetRow,
+    Change, FloatingRow, GroupRow, NetworkRow, PolicyRow, PortRow, ProjectRow, RouterRow, Rows,
+    RuleRow, SubnetRow,
 };
 use keeper_core::{Keeper, KeeperRefusal};
-use sqlite::{Alter, Connection, Error, ErrorCode, Transaction};
+use sqlite::{Alter, Connection, Transaction};
 use std::alloc::Global;
 use std::marker::Model;
 
-/// Rows in a database of SQLite. Contracts see it as its count of faults.
+/// Rows in a database of SQLite. Contracts see it as its connection and its count of faults.
 #[derive(Drop)]
 pub struct SqlKeeper<S: Alter> {
     conn: Connection<S>,
@@ -26,88 +27,13 @@ pub struct SqlKeeper<S: Alter> {
 }
 
 impl<S: Alter> Model for SqlKeeper<S> {
-    ghost use Rattle.std.specs.Prelude.{ℕ};
+    ghost use Rattle.keeper_sql.specs.Counting.{CountingConnection, counting_code};
 
-    ghost Value = { ℕ };
+    ghost Value = { CountingConnection S };
 
-    ghost view = { λ k. k.faults };
-}
+    ghost coded = { counting_code S.code };
 
-fn write_row<S: Alter>(
-    alloc: Global,
-    to: &mut Transaction<'_, S>,
-    row: &Row,
-) -> Result<(), Trouble> {
-    match row {
-        Row::Project(row) => project::write(to, row),
-        Row::Network(row) => network::write(alloc, to, row),
-        Row::Subnet(row) => subnet::write(alloc, to, row),
-        Row::Port(row) => port::write(alloc, to, row),
-        Row::Group(row) => group::write(alloc, to, row),
-        Row::Rule(row) => rule::write(alloc, to, row),
-        Row::Router(row) => router::write(alloc, to, row),
-        Row::Floating(row) => floating::write(alloc, to, row),
-        Row::Policy(row) => policy::write(alloc, to, row),
-    }
-}
-
-fn delete_row<S: Alter>(
-    alloc: Global,
-    to: &mut Transaction<'_, S>,
-    row: &Row,
-) -> Result<(), Trouble> {
-    match row {
-        Row::Project(row) => project::delete(to, row),
-        Row::Network(row) => network::delete(alloc, to, row),
-        Row::Subnet(row) => subnet::delete(alloc, to, row),
-        Row::Port(row) => port::delete(alloc, to, row),
-        Row::Group(row) => group::delete(alloc, to, row),
-        Row::Rule(row) => rule::delete(alloc, to, row),
-        Row::Router(row) => router::delete(alloc, to, row),
-        Row::Floating(row) => floating::delete(alloc, to, row),
-        Row::Policy(row) => policy::delete(alloc, to, row),
-    }
-}
-
-fn write_item<S: Alter>(
-    alloc: Global,
-    to: &mut Transaction<'_, S>,
-    item: &Item,
-) -> Result<(), Trouble> {
-    match (&item.before, &item.after) {
-        (_, Some(row)) => write_row(alloc, to, row),
-        (Some(row), None) => delete_row(alloc, to, row),
-        (None, None) => Ok(()),
-    }
-}
-
-fn write_items<S: Alter>(
-    alloc: Global,
-    to: &mut Transaction<'_, S>,
-    items: &[Item],
-) -> Result<(), Trouble> {
-    for item in items {
-        write_item(alloc, to, item)?;
-    }
-    Ok(())
-}
-
-// What SQLite answers to a second BEGIN.
-const IN_TRANSACTION: Error = Error::SqliteFailure(ErrorCode::TransactionState);
-
-// Writes the items in one transaction, which is rolled back where one of them fails.
-fn write_change<S: Alter>(
-    alloc: Global,
-    conn: &mut Connection<S>,
-    items: &[Item],
-) -> Result<(), Trouble> {
-    if !conn.is_autocommit() {
-        return Err(Trouble::from(IN_TRANSACTION));
-    }
-    let mut to = conn.transaction();
-    write_items(alloc, &mut to, items)?;
-    to.commit()?;
-    Ok(())
+    ghost view = { λ k. record { conn = k.conn; faults = k.faults } };
 }
 
 // All rows, in the order of their kinds.
@@ -137,7 +63,8 @@ fn read_format<S: Alter>(alloc: Global, from: &mut Transaction<'_, S>) -> Result
 // store of format 1 as of format 2.
 fn read_rows<S: Alter>(alloc: Global, conn: &mut Connection<S>) -> Result<Rows, Trouble> {
     if !conn.is_autocommit() {
-        return Err(Trouble::from(IN_TRANSACTION));
+        // (SQLite refuses a second BEGIN)
+        return Err(Trouble::Fault);
     }
     let mut from = conn.transaction();
     let rows = read_format(alloc, &mut from)?;
@@ -145,57 +72,61 @@ fn read_rows<S: Alter>(alloc: Global, conn: &mut Connection<S>) -> Result<Rows, 
     Ok(rows)
 }
 
+// Counts a fault, but not running out of memory.
+fn refuse(faults: &mut u64, trouble: Trouble) -> KeeperRefusal
+    ensures later { faults.old ≤ faults.new }
+    ensures cause { result ≡ HasFailed → RoseBy 1 faults.old faults.new }
+{
+    match trouble {
+        Trouble::OutOfMemory => KeeperRefusal::OutOfMemory,
+        Trouble::Fault => {
+            *faults = faults.saturating_add(1);
+            KeeperRefusal::Failed
+        }
+    }
+}
+
 impl<S: Alter> SqlKeeper<S> {
-    /// A keeper of the rows in this database. Its first `load` makes the tables, where there are
-    /// none.
+    /// A keeper of the rows in this database. Its first `load` makes the tables if there are none.
     pub fn make(conn: Connection<S>) -> SqlKeeper<S>
-        ensures { result ≡ 0 }
+        ensures { result ≡ record { conn = conn; faults = 0 } }
     {
         SqlKeeper { conn, faults: 0 }
     }
 
     /// How many calls failed.
     pub fn faults(&self) -> u64
-        ensures { result ≡ self.now }
+        ensures { result ≡ self.now.faults }
     {
         self.faults
     }
 
     /// The connection, for closing it.
-    pub fn into_conn(self) -> Connection<S> {
+    pub fn into_conn(self) -> Connection<S>
+        ensures { result ≡ self.conn }
+    {
         let SqlKeeper { conn, faults: _ } = self;
         conn
-    }
-
-    // Counts a fault, but not running out of memory.
-    fn refusal(&mut self, trouble: Trouble) -> KeeperRefusal
-        ensures later { self.old ≤ self.new }
-        ensures cause { result ≡ HasFailed → RoseBy 1 self.old self.new }
-    {
-        match trouble {
-            Trouble::OutOfMemory => KeeperRefusal::OutOfMemory,
-            Trouble::Fault => {
-                self.faults = self.faults.saturating_add(1);
-                KeeperRefusal::Failed
-            }
-        }
     }
 }
 
 impl<S: Alter> Keeper for SqlKeeper<S> {
-    ghost told = { λ k. record { rows = None; faults = k } };
+    ghost told = { λ k. record { rows = None; faults = k.faults } };
 
     fn load(&mut self, alloc: Global) -> Result<Rows, KeeperRefusal> {
         match read_rows(alloc, &mut self.conn) {
             Ok(rows) => Ok(rows),
-            Err(trouble) => Err(self.refusal(trouble)),
+            Err(trouble) => Err(refuse(&mut self.faults, trouble)),
         }
     }
 
-    fn apply(&mut self, alloc: Global, change: &Change) -> Result<(), KeeperRefusal> {
+    fn apply(&mut self, alloc: Global, change: &Change) -> Result<(), KeeperRefusal>
+        ensures whole { IsWhole S.Store (length change.now) self.old.conn self.new.conn result }
+        ensures cause { HasRefusalCause self.old.faults self.new.faults result }
+    {
         match write_change(alloc, &mut self.conn, change.as_slice()) {
             Ok(()) => Ok(()),
-            Err(trouble) => Err(self.refusal(trouble)),
+            Err(trouble) => Err(refuse(&mut self.faults, trouble)),
         }
     }
 }

@@ -1,12 +1,26 @@
 //! Networks in the store.
 
+ghost use Rattle.std.specs.Prelude.{◌≡◌, OnOk};
+ghost use Rattle.keeper_sql.specs.Whole.{CommitsNothing, Runs};
+
 use crate::column::{flag_at, id_at, text_at, text_if};
-use crate::stored::{Stored, delete_by_id};
+use crate::statement::execute;
+use crate::stored::Stored;
 use crate::trouble::Trouble;
 use api_types::{NetworkRow, Segment};
 use net_addr::Text;
 use sqlite::{Alter, Row, Transaction, params};
 use std::alloc::Global;
+
+const UPSERT: &str = "INSERT INTO networks (id, project_id, name, description, admin_state_up,
+    network_type, physical_network, segmentation_id) VALUES (?1, ?2, ?3, ?4, ?5, ?6, ?7, ?8)
+    ON CONFLICT (id) DO UPDATE SET project_id = excluded.project_id, name = excluded.name,
+    description = excluded.description, admin_state_up = excluded.admin_state_up,
+    network_type = excluded.network_type, physical_network = excluded.physical_network,
+    segmentation_id = excluded.segmentation_id";
+
+/// Deletes the row with an id.
+pub(crate) const DELETE: &str = "DELETE FROM networks WHERE id = ?1";
 
 // The segment's columns: type, physical network and number.
 fn parts(segment: &Segment) -> (&'static str, Option<&str>, Option<u32>) {
@@ -25,16 +39,16 @@ pub(crate) fn write<S: Alter>(
     alloc: Global,
     to: &mut Transaction<'_, S>,
     row: &NetworkRow,
-) -> Result<(), Trouble> {
+) -> Result<(), Trouble>
+    ensures same_reference { to.new.conn.ghost_name ≡ to.old.conn.ghost_name }
+    ensures inside { CommitsNothing S.Store to.old.conn.now to.new.conn.now }
+    ensures ran { OnOk result (Runs S.Store to.old.conn.now to.new.conn.now) }
+{
     let id = row.id.print(alloc)?;
     let (kind, physical, number) = parts(&row.segment);
-    to.execute(
-        "INSERT INTO networks (id, project_id, name, description, admin_state_up, network_type,
-            physical_network, segmentation_id) VALUES (?1, ?2, ?3, ?4, ?5, ?6, ?7, ?8)
-        ON CONFLICT (id) DO UPDATE SET project_id = excluded.project_id, name = excluded.name,
-            description = excluded.description, admin_state_up = excluded.admin_state_up,
-            network_type = excluded.network_type, physical_network = excluded.physical_network,
-            segmentation_id = excluded.segmentation_id",
+    execute(
+        to,
+        UPSERT,
         params![
             id.as_str(),
             row.project.as_str(),
@@ -45,16 +59,7 @@ pub(crate) fn write<S: Alter>(
             physical,
             number,
         ],
-    )?;
-    Ok(())
-}
-
-pub(crate) fn delete<S: Alter>(
-    alloc: Global,
-    to: &mut Transaction<'_, S>,
-    row: &NetworkRow,
-) -> Result<(), Trouble> {
-    delete_by_id(alloc, to, "DELETE FROM networks WHERE id = ?1", row.id)
+    )
 }
 
 fn tag_of(number: u32) -> Result<u16, Trouble> {
@@ -85,13 +90,13 @@ impl Stored for NetworkRow {
 
     fn read(_alloc: Global, row: &Row) -> Result<NetworkRow, Trouble> {
         let id = id_at(row, 0)?;
+        let up = flag_at(row, 4)?;
+        let number: Option<u32> = row.get(7)?;
         let project = text_at(row, 1)?;
         let name = text_at(row, 2)?;
         let description = text_at(row, 3)?;
-        let up = flag_at(row, 4)?;
         let kind = text_at(row, 5)?;
         let physical = text_if(row, 6)?;
-        let number: Option<u32> = row.get(7)?;
         let segment = segment_of(kind.as_str(), physical, number)?;
         Ok(NetworkRow {
             id,

@@ -35,14 +35,14 @@ impl Stored for OldSubnet {
 
     fn read(alloc: Global, row: &Row) -> Result<OldSubnet, Trouble> {
         let id = id_at(row, 0)?;
-        let project = text_at(row, 1)?;
         let network = id_at(row, 2)?;
-        let name = text_at(row, 3)?;
-        let description = text_at(row, 4)?;
         let prefix = four_prefix_at(row, 5)?;
         let gateway = four_if(row, 6)?;
-        let pools = list_at(alloc, row, 7)?;
         let dhcp = flag_at(row, 8)?;
+        let project = text_at(row, 1)?;
+        let name = text_at(row, 3)?;
+        let description = text_at(row, 4)?;
+        let pools = list_at(alloc, row, 7)?;
         let dns = list_at(alloc, row, 9)?;
         let host_routes = list_at(alloc, row, 10)?;
         Ok(OldSubnet {
@@ -68,21 +68,21 @@ impl Stored for OldPort {
 
     fn read(alloc: Global, row: &Row) -> Result<OldPort, Trouble> {
         let id = id_at(row, 0)?;
-        let project = text_at(row, 1)?;
         let network = id_at(row, 2)?;
-        let name = text_at(row, 3)?;
-        let description = text_at(row, 4)?;
         let up = flag_at(row, 5)?;
         let mac = mac_at(row, 6)?;
+        let secured = flag_at(row, 9)?;
+        let vif = vif_at(row, 14)?;
+        let by_admin = flag_at(row, 15)?;
+        let project = text_at(row, 1)?;
+        let name = text_at(row, 3)?;
+        let description = text_at(row, 4)?;
         let fixed = list_at(alloc, row, 7)?;
         let pairs = list_at(alloc, row, 8)?;
-        let secured = flag_at(row, 9)?;
         let groups = list_at(alloc, row, 10)?;
         let device = text_at(row, 11)?;
         let owner = text_at(row, 12)?;
         let host = text_at(row, 13)?;
-        let vif = vif_at(row, 14)?;
-        let by_admin = flag_at(row, 15)?;
         Ok(OldPort {
             id,
             project,
@@ -111,9 +111,7 @@ impl Stored for OldRule {
 
     fn read(_alloc: Global, row: &Row) -> Result<OldRule, Trouble> {
         let id = id_at(row, 0)?;
-        let project = text_at(row, 1)?;
         let group = id_at(row, 2)?;
-        let description = text_at(row, 3)?;
         let direction = direction_at(row, 4)?;
         let ethertype = ethertype_at(row, 5)?;
         let protocol = byte_if(row, 6)?;
@@ -121,6 +119,8 @@ impl Stored for OldRule {
         let high = short_if(row, 8)?;
         let remote_prefix = four_prefix_if(row, 9)?;
         let remote_group = id_if(row, 10)?;
+        let project = text_at(row, 1)?;
+        let description = text_at(row, 3)?;
         Ok(OldRule {
             id,
             project,
@@ -144,12 +144,12 @@ impl Stored for OldRouter {
 
     fn read(alloc: Global, row: &Row) -> Result<OldRouter, Trouble> {
         let id = id_at(row, 0)?;
+        let up = flag_at(row, 4)?;
+        let gateway = gateway_of(id_if(row, 6)?, id_if(row, 7)?, flag_if(row, 8)?)?;
         let project = text_at(row, 1)?;
         let name = text_at(row, 2)?;
         let description = text_at(row, 3)?;
-        let up = flag_at(row, 4)?;
         let host = text_if(row, 5)?;
-        let gateway = gateway_of(id_if(row, 6)?, id_if(row, 7)?, flag_if(row, 8)?)?;
         let routes = list_at(alloc, row, 9)?;
         Ok(OldRouter {
             id,

@@ -1,11 +1,24 @@
 //! RBAC policies in the store.
 
+ghost use Rattle.std.specs.Prelude.{◌≡◌, OnOk};
+ghost use Rattle.keeper_sql.specs.Whole.{CommitsNothing, Runs};
+
 use crate::column::{bytes_at, id_at, text_at};
-use crate::stored::{Stored, delete_by_id};
+use crate::statement::execute;
+use crate::stored::Stored;
 use crate::trouble::Trouble;
 use api_types::{Action, PolicyRow};
 use sqlite::{Alter, Row, Transaction, params};
 use std::alloc::Global;
+
+const UPSERT: &str = "INSERT INTO rbac_policies (id, project_id, object_id, action, target_tenant)
+    VALUES (?1, ?2, ?3, ?4, ?5)
+    ON CONFLICT (id) DO UPDATE SET project_id = excluded.project_id,
+    object_id = excluded.object_id, action = excluded.action,
+    target_tenant = excluded.target_tenant";
+
+/// Deletes the row with an id.
+pub(crate) const DELETE: &str = "DELETE FROM rbac_policies WHERE id = ?1";
 
 fn action_word(action: Action) -> &'static str {
     match action {
@@ -27,15 +40,16 @@ pub(crate) fn write<S: Alter>(
     alloc: Global,
     to: &mut Transaction<'_, S>,
     row: &PolicyRow,
-) -> Result<(), Trouble> {
+) -> Result<(), Trouble>
+    ensures same_reference { to.new.conn.ghost_name ≡ to.old.conn.ghost_name }
+    ensures inside { CommitsNothing S.Store to.old.conn.now to.new.conn.now }
+    ensures ran { OnOk result (Runs S.Store to.old.conn.now to.new.conn.now) }
+{
     let id = row.id.print(alloc)?;
     let object = row.object.print(alloc)?;
-    to.execute(
-        "INSERT INTO rbac_policies (id, project_id, object_id, action, target_tenant)
-            VALUES (?1, ?2, ?3, ?4, ?5)
-        ON CONFLICT (id) DO UPDATE SET project_id = excluded.project_id,
-            object_id = excluded.object_id, action = excluded.action,
-            target_tenant = excluded.target_tenant",
+    execute(
+        to,
+        UPSERT,
         params![
             id.as_str(),
             row.project.as_str(),
@@ -43,16 +57,7 @@ pub(crate) fn write<S: Alter>(
             action_word(row.action),
             row.target.as_str(),
         ],
-    )?;
-    Ok(())
-}
-
-pub(crate) fn delete<S: Alter>(
-    alloc: Global,
-    to: &mut Transaction<'_, S>,
-    row: &PolicyRow,
-) -> Result<(), Trouble> {
-    delete_by_id(alloc, to, "DELETE FROM rbac_policies WHERE id = ?1", row.id)
+    )
 }
 
 impl Stored for PolicyRow {
@@ -62,9 +67,9 @@ impl Stored for PolicyRow {
 
     fn read(_alloc: Global, row: &Row) -> Result<PolicyRow, Trouble> {
         let id = id_at(row, 0)?;
-        let project = text_at(row, 1)?;
         let object = id_at(row, 2)?;
         let action = action_at(row, 3)?;
+        let project = text_at(row, 1)?;
         let target = text_at(row, 4)?;
         Ok(PolicyRow {
             id,

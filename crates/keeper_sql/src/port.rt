@@ -1,10 +1,15 @@
 //! Ports in the store.
 
+ghost use Rattle.std.specs.Prelude.{◌≡◌, OnOk};
+ghost use Rattle.keeper_sql.specs.Whole.{CommitsNothing, Runs};
+
 use crate::column::{bytes_at, flag_at, id_at, mac_at, text_at};
 use crate::listed::{list_at, list_text};
-use crate::stored::{Stored, delete_by_id};
+use crate::statement::execute;
+use crate::stored::Stored;
 use crate::trouble::Trouble;
 use api_types::{PortRow, Vif};
+use net_addr::{OutOfMemory, Text};
 use sqlite::{Alter, Row, Transaction, params};
 use std::alloc::Global;
 
@@ -20,6 +25,9 @@ const UPSERT: &str = "INSERT INTO ports (id, project_id, network_id, name, descr
     security_groups = excluded.security_groups, device_id = excluded.device_id,
     device_owner = excluded.device_owner, host_id = excluded.host_id,
     vif_type = excluded.vif_type, by_admin = excluded.by_admin";
+
+/// Deletes the row with an id.
+pub(crate) const DELETE: &str = "DELETE FROM ports WHERE id = ?1";
 
 fn vif_word(vif: Vif) -> &'static str {
     match vif {
@@ -39,48 +47,61 @@ pub(crate) fn vif_at(row: &Row, at: usize) -> Result<Vif, Trouble> {
     }
 }
 
+// The columns that are printed.
+#[derive(Drop)]
+struct PortTexts {
+    id: Text,
+    network: Text,
+    mac: Text,
+    fixed: String,
+    pairs: String,
+    groups: String,
+}
+
+fn port_texts(alloc: Global, row: &PortRow) -> Result<PortTexts, OutOfMemory> {
+    Ok(PortTexts {
+        id: row.id.print(alloc)?,
+        network: row.network.print(alloc)?,
+        mac: row.mac.print(alloc)?,
+        fixed: list_text(alloc, &row.fixed)?,
+        pairs: list_text(alloc, &row.pairs)?,
+        groups: list_text(alloc, &row.groups)?,
+    })
+}
+
 /// Replaces the row with its id, or adds it last.
 pub(crate) fn write<S: Alter>(
     alloc: Global,
     to: &mut Transaction<'_, S>,
     row: &PortRow,
-) -> Result<(), Trouble> {
-    let id = row.id.print(alloc)?;
-    let network = row.network.print(alloc)?;
-    let mac = row.mac.print(alloc)?;
-    let fixed = list_text(alloc, &row.fixed)?;
-    let pairs = list_text(alloc, &row.pairs)?;
-    let groups = list_text(alloc, &row.groups)?;
-    to.execute(
+) -> Result<(), Trouble>
+    ensures same_reference { to.new.conn.ghost_name ≡ to.old.conn.ghost_name }
+    ensures inside { CommitsNothing S.Store to.old.conn.now to.new.conn.now }
+    ensures ran { OnOk result (Runs S.Store to.old.conn.now to.new.conn.now) }
+{
+    let texts = port_texts(alloc, row)?;
+    execute(
+        to,
         UPSERT,
         params![
-            id.as_str(),
+            texts.id.as_str(),
             row.project.as_str(),
-            network.as_str(),
+            texts.network.as_str(),
             row.name.as_str(),
             row.description.as_str(),
             row.up,
-            mac.as_str(),
-            fixed.as_str(),
-            pairs.as_str(),
+            texts.mac.as_str(),
+            texts.fixed.as_str(),
+            texts.pairs.as_str(),
             row.secured,
-            groups.as_str(),
+            texts.groups.as_str(),
             row.device.as_str(),
             row.owner.as_str(),
             row.host.as_str(),
             vif_word(row.vif),
             row.by_admin,
         ],
-    )?;
-    Ok(())
-}
-
-pub(crate) fn delete<S: Alter>(
-    alloc: Global,
-    to: &mut Transaction<'_, S>,
-    row: &PortRow,
-) -> Result<(), Trouble> {
-    delete_by_id(alloc, to, "DELETE FROM ports WHERE id = ?1", row.id)
+    )
 }
 
 impl Stored for PortRow {
@@ -92,21 +113,21 @@ impl Stored for PortRow {
 
     fn read(alloc: Global, row: &Row) -> Result<PortRow, Trouble> {
         let id = id_at(row, 0)?;
-        let project = text_at(row, 1)?;
         let network = id_at(row, 2)?;
-        let name = text_at(row, 3)?;
-        let description = text_at(row, 4)?;
         let up = flag_at(row, 5)?;
         let mac = mac_at(row, 6)?;
+        let secured = flag_at(row, 9)?;
+        let vif = vif_at(row, 14)?;
+        let by_admin = flag_at(row, 15)?;
+        let project = text_at(row, 1)?;
+        let name = text_at(row, 3)?;
+        let description = text_at(row, 4)?;
         let fixed = list_at(alloc, row, 7)?;
         let pairs = list_at(alloc, row, 8)?;
-        let secured = flag_at(row, 9)?;
         let groups = list_at(alloc, row, 10)?;
         let device = text_at(row, 11)?;
         let owner = text_at(row, 12)?;
         let host = text_at(row, 13)?;
-        let vif = vif_at(row, 14)?;
-        let by_admin = flag_at(row, 15)?;
         Ok(PortRow {
             id,
             project,

@@ -1,6 +1,10 @@
 //! Projects in the store.
 
+ghost use Rattle.std.specs.Prelude.{◌≡◌, OnOk};
+ghost use Rattle.keeper_sql.specs.Whole.{CommitsNothing, Runs};
+
 use crate::column::text_at;
+use crate::statement::execute;
 use crate::stored::Stored;
 use crate::trouble::Trouble;
 use api_types::ProjectRow;
@@ -16,28 +20,30 @@ fn signed(number: u64) -> Result<i64, Trouble> {
 }
 
 /// Replaces the row with its id, or adds it last.
-pub(crate) fn write<S: Alter>(
-    to: &mut Transaction<'_, S>,
-    row: &ProjectRow,
-) -> Result<(), Trouble> {
+pub(crate) fn write<S: Alter>(to: &mut Transaction<'_, S>, row: &ProjectRow) -> Result<(), Trouble>
+    ensures same_reference { to.new.conn.ghost_name ≡ to.old.conn.ghost_name }
+    ensures inside { CommitsNothing S.Store to.old.conn.now to.new.conn.now }
+    ensures ran { OnOk result (Runs S.Store to.old.conn.now to.new.conn.now) }
+{
     let count = signed(row.count)?;
-    to.execute(
+    execute(
+        to,
         "INSERT INTO projects (ordinal, name, count) VALUES (?1, ?2, ?3)
         ON CONFLICT (ordinal) DO UPDATE SET name = excluded.name, count = excluded.count",
         params![row.ordinal, row.name.as_str(), count],
-    )?;
-    Ok(())
+    )
 }
 
-pub(crate) fn delete<S: Alter>(
-    to: &mut Transaction<'_, S>,
-    row: &ProjectRow,
-) -> Result<(), Trouble> {
-    to.execute(
+pub(crate) fn delete<S: Alter>(to: &mut Transaction<'_, S>, row: &ProjectRow) -> Result<(), Trouble>
+    ensures same_reference { to.new.conn.ghost_name ≡ to.old.conn.ghost_name }
+    ensures inside { CommitsNothing S.Store to.old.conn.now to.new.conn.now }
+    ensures ran { OnOk result (Runs S.Store to.old.conn.now to.new.conn.now) }
+{
+    execute(
+        to,
         "DELETE FROM projects WHERE ordinal = ?1",
         params![row.ordinal],
-    )?;
-    Ok(())
+    )
 }
 
 impl Stored for ProjectRow {
@@ -47,8 +53,8 @@ impl Stored for ProjectRow {
 
     fn read(_alloc: Global, row: &Row) -> Result<ProjectRow, Trouble> {
         let ordinal: u32 = row.get(0)?;
-        let name = text_at(row, 1)?;
         let count: u64 = row.get(2)?;
+        let name = text_at(row, 1)?;
         Ok(ProjectRow {
             name,
             ordinal,

@@ -1,8 +1,12 @@
 //! Routers in the store.
 
+ghost use Rattle.std.specs.Prelude.{◌≡◌, OnOk};
+ghost use Rattle.keeper_sql.specs.Whole.{CommitsNothing, Runs};
+
 use crate::column::{flag_at, flag_if, id_at, id_if, text_at, text_if};
 use crate::listed::{list_at, list_text};
-use crate::stored::{Stored, delete_by_id};
+use crate::statement::execute;
+use crate::stored::Stored;
 use crate::trouble::Trouble;
 use api_types::{Gateway, Id, RouterRow};
 use net_addr::{OutOfMemory, Text};
@@ -17,6 +21,9 @@ const UPSERT: &str = "INSERT INTO routers (id, project_id, name, description, ad
     host = excluded.host, gateway_network_id = excluded.gateway_network_id,
     gateway_port_id = excluded.gateway_port_id, enable_snat = excluded.enable_snat,
     routes = excluded.routes";
+
+/// Deletes the row with an id.
+pub(crate) const DELETE: &str = "DELETE FROM routers WHERE id = ?1";
 
 // The gateway's columns: network, port and translation.
 #[derive(Drop)]
@@ -41,39 +48,49 @@ fn gateway_texts(alloc: Global, gateway: Option<Gateway>) -> Result<GatewayTexts
     }
 }
 
+// The columns that are printed.
+#[derive(Drop)]
+struct RouterTexts {
+    id: Text,
+    gateway: GatewayTexts,
+    routes: String,
+}
+
+fn router_texts(alloc: Global, row: &RouterRow) -> Result<RouterTexts, OutOfMemory> {
+    Ok(RouterTexts {
+        id: row.id.print(alloc)?,
+        gateway: gateway_texts(alloc, row.gateway)?,
+        routes: list_text(alloc, &row.routes)?,
+    })
+}
+
 /// Replaces the row with its id, or adds it last.
 pub(crate) fn write<S: Alter>(
     alloc: Global,
     to: &mut Transaction<'_, S>,
     row: &RouterRow,
-) -> Result<(), Trouble> {
-    let id = row.id.print(alloc)?;
-    let gateway = gateway_texts(alloc, row.gateway)?;
-    let routes = list_text(alloc, &row.routes)?;
-    to.execute(
+) -> Result<(), Trouble>
+    ensures same_reference { to.new.conn.ghost_name ≡ to.old.conn.ghost_name }
+    ensures inside { CommitsNothing S.Store to.old.conn.now to.new.conn.now }
+    ensures ran { OnOk result (Runs S.Store to.old.conn.now to.new.conn.now) }
+{
+    let texts = router_texts(alloc, row)?;
+    execute(
+        to,
         UPSERT,
         params![
-            id.as_str(),
+            texts.id.as_str(),
             row.project.as_str(),
             row.name.as_str(),
             row.description.as_str(),
             row.up,
             row.host.as_ref().map(Text::as_str),
-            gateway.network.as_ref().map(Text::as_str),
-            gateway.port.as_ref().map(Text::as_str),
-            gateway.snat,
-            routes.as_str(),
+            texts.gateway.network.as_ref().map(Text::as_str),
+            texts.gateway.port.as_ref().map(Text::as_str),
+            texts.gateway.snat,
+            texts.routes.as_str(),
         ],
-    )?;
-    Ok(())
-}
-
-pub(crate) fn delete<S: Alter>(
-    alloc: Global,
-    to: &mut Transaction<'_, S>,
-    row: &RouterRow,
-) -> Result<(), Trouble> {
-    delete_by_id(alloc, to, "DELETE FROM routers WHERE id = ?1", row.id)
+    )
 }
 
 /// The gateway that the columns spell: all three are there, or none.
@@ -101,12 +118,12 @@ impl Stored for RouterRow {
 
     fn read(alloc: Global, row: &Row) -> Result<RouterRow, Trouble> {
         let id = id_at(row, 0)?;
+        let up = flag_at(row, 4)?;
+        let gateway = gateway_of(id_if(row, 6)?, id_if(row, 7)?, flag_if(row, 8)?)?;
         let project = text_at(row, 1)?;
         let name = text_at(row, 2)?;
         let description = text_at(row, 3)?;
-        let up = flag_at(row, 4)?;
         let host = text_if(row, 5)?;
-        let gateway = gateway_of(id_if(row, 6)?, id_if(row, 7)?, flag_if(row, 8)?)?;
         let routes = list_at(alloc, row, 9)?;
         Ok(RouterRow {
             id,

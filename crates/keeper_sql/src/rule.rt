@@ -1,7 +1,11 @@
 //! Rules of security groups in the store.
 
+ghost use Rattle.std.specs.Prelude.{◌≡◌, OnOk};
+ghost use Rattle.keeper_sql.specs.Whole.{CommitsNothing, Runs};
+
 use crate::column::{byte_if, bytes_at, id_at, id_if, prefix_if, short_if, text_at};
-use crate::stored::{Stored, delete_by_id};
+use crate::statement::execute;
+use crate::stored::Stored;
 use crate::trouble::Trouble;
 use api_types::{Direction, Ethertype, Id, RuleRow};
 use net_addr::{OutOfMemory, Prefix, Text};
@@ -17,6 +21,9 @@ const UPSERT: &str = "INSERT INTO security_group_rules (id, project_id, security
     direction = excluded.direction, ethertype = excluded.ethertype, protocol = excluded.protocol,
     port_range_min = excluded.port_range_min, port_range_max = excluded.port_range_max,
     remote_ip_prefix = excluded.remote_ip_prefix, remote_group_id = excluded.remote_group_id";
+
+/// Deletes the row with an id.
+pub(crate) const DELETE: &str = "DELETE FROM security_group_rules WHERE id = ?1";
 
 fn direction_word(direction: Direction) -> &'static str {
     match direction {
@@ -65,45 +72,51 @@ pub(crate) fn id_text(alloc: Global, id: Option<Id>) -> Result<Option<Text>, Out
     }
 }
 
+// The columns that are printed.
+#[derive(Drop)]
+struct RuleTexts {
+    id: Text,
+    group: Text,
+    prefix: Option<Text>,
+    remote: Option<Text>,
+}
+
+fn rule_texts(alloc: Global, row: &RuleRow) -> Result<RuleTexts, OutOfMemory> {
+    Ok(RuleTexts {
+        id: row.id.print(alloc)?,
+        group: row.group.print(alloc)?,
+        prefix: prefix_text(alloc, row.remote_prefix)?,
+        remote: id_text(alloc, row.remote_group)?,
+    })
+}
+
 /// Replaces the row with its id, or adds it last.
 pub(crate) fn write<S: Alter>(
     alloc: Global,
     to: &mut Transaction<'_, S>,
     row: &RuleRow,
-) -> Result<(), Trouble> {
-    let id = row.id.print(alloc)?;
-    let group = row.group.print(alloc)?;
-    let prefix = prefix_text(alloc, row.remote_prefix)?;
-    let remote = id_text(alloc, row.remote_group)?;
-    to.execute(
+) -> Result<(), Trouble>
+    ensures same_reference { to.new.conn.ghost_name ≡ to.old.conn.ghost_name }
+    ensures inside { CommitsNothing S.Store to.old.conn.now to.new.conn.now }
+    ensures ran { OnOk result (Runs S.Store to.old.conn.now to.new.conn.now) }
+{
+    let texts = rule_texts(alloc, row)?;
+    execute(
+        to,
         UPSERT,
         params![
-            id.as_str(),
+            texts.id.as_str(),
             row.project.as_str(),
-            group.as_str(),
+            texts.group.as_str(),
             row.description.as_str(),
             direction_word(row.direction),
             ethertype_word(row.ethertype),
             row.protocol.map(u32::from),
             row.low.map(u32::from),
             row.high.map(u32::from),
-            prefix.as_ref().map(Text::as_str),
-            remote.as_ref().map(Text::as_str),
+            texts.prefix.as_ref().map(Text::as_str),
+            texts.remote.as_ref().map(Text::as_str),
         ],
-    )?;
-    Ok(())
-}
-
-pub(crate) fn delete<S: Alter>(
-    alloc: Global,
-    to: &mut Transaction<'_, S>,
-    row: &RuleRow,
-) -> Result<(), Trouble> {
-    delete_by_id(
-        alloc,
-        to,
-        "DELETE FROM security_group_rules WHERE id = ?1",
-        row.id,
     )
 }
 
@@ -116,9 +129,7 @@ impl Stored for RuleRow {
 
     fn read(_alloc: Global, row: &Row) -> Result<RuleRow, Trouble> {
         let id = id_at(row, 0)?;
-        let project = text_at(row, 1)?;
         let group = id_at(row, 2)?;
-        let description = text_at(row, 3)?;
         let direction = direction_at(row, 4)?;
         let ethertype = ethertype_at(row, 5)?;
         let protocol = byte_if(row, 6)?;
@@ -126,6 +137,8 @@ impl Stored for RuleRow {
         let high = short_if(row, 8)?;
         let remote_prefix = prefix_if(row, 9)?;
         let remote_group = id_if(row, 10)?;
+        let project = text_at(row, 1)?;
+        let description = text_at(row, 3)?;
         Ok(RuleRow {
             id,
             project,

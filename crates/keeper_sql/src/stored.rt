@@ -1,9 +1,8 @@
 //! A kind of rows in the store.
 
 use crate::trouble::Trouble;
-use api_types::Id;
 use net_addr::OutOfMemory;
-use sqlite::{Alter, Row, Transaction, params};
+use sqlite::{Alter, Row, Transaction};
 use std::alloc::Global;
 
 /// A row of a kind that has a table.
@@ -11,7 +10,8 @@ pub(crate) trait Stored: Sized + Drop {
     /// The query of all rows, in the order in which they were made.
     fn select() -> &'static str;
 
-    /// The row that the columns of the query spell.
+    /// The row that the columns of the query spell. Those that own no memory are read first: then
+    /// less has to be dropped if a later one is refused.
     fn read(alloc: Global, row: &Row) -> Result<Self, Trouble>;
 }
 
@@ -40,16 +40,4 @@ pub(crate) fn read_all<R: AddedTo<K>, K, S: Alter>(
         }
     }
     Err(Trouble::Fault)
-}
-
-/// Takes the row with this id out, by the statement for its table.
-pub(crate) fn delete_by_id<S: Alter>(
-    alloc: Global,
-    to: &mut Transaction<'_, S>,
-    statement: &str,
-    id: Id,
-) -> Result<(), Trouble> {
-    let id = id.print(alloc)?;
-    to.execute(statement, params![id.as_str()])?;
-    Ok(())
 }

@@ -1,8 +1,12 @@
 //! Subnets in the store.
 
+ghost use Rattle.std.specs.Prelude.{◌≡◌, OnOk};
+ghost use Rattle.keeper_sql.specs.Whole.{CommitsNothing, Runs};
+
 use crate::column::{address_if, bytes_if, flag_at, id_at, prefix_at, text_at};
 use crate::listed::{list_at, list_text};
-use crate::stored::{Stored, delete_by_id};
+use crate::statement::execute;
+use crate::stored::Stored;
 use crate::trouble::Trouble;
 use api_types::{Ipv6Mode, SubnetRow};
 use net_addr::{Addr, OutOfMemory, Text};
@@ -19,6 +23,9 @@ const UPSERT: &str = "INSERT INTO subnets (id, project_id, network_id, name, des
     allocation_pools = excluded.allocation_pools, enable_dhcp = excluded.enable_dhcp,
     ipv6_address_mode = excluded.ipv6_address_mode, ipv6_ra_mode = excluded.ipv6_ra_mode,
     dns_nameservers = excluded.dns_nameservers, host_routes = excluded.host_routes";
+
+/// Deletes the row with an id.
+pub(crate) const DELETE: &str = "DELETE FROM subnets WHERE id = ?1";
 
 fn mode_word(mode: Option<Ipv6Mode>) -> Option<&'static str> {
     match mode {
@@ -53,46 +60,60 @@ fn str_if(text: &Option<Text>) -> Option<&str> {
     }
 }
 
+// The columns that are printed.
+#[derive(Drop)]
+struct SubnetTexts {
+    id: Text,
+    network: Text,
+    prefix: Text,
+    gateway: Option<Text>,
+    pools: String,
+    dns: String,
+    host_routes: String,
+}
+
+fn subnet_texts(alloc: Global, row: &SubnetRow) -> Result<SubnetTexts, OutOfMemory> {
+    Ok(SubnetTexts {
+        id: row.id.print(alloc)?,
+        network: row.network.print(alloc)?,
+        prefix: row.prefix.print(alloc)?,
+        gateway: gateway_text(alloc, row.gateway)?,
+        pools: list_text(alloc, &row.pools)?,
+        dns: list_text(alloc, &row.dns)?,
+        host_routes: list_text(alloc, &row.host_routes)?,
+    })
+}
+
 /// Replaces the row with its id, or adds it last.
 pub(crate) fn write<S: Alter>(
     alloc: Global,
     to: &mut Transaction<'_, S>,
     row: &SubnetRow,
-) -> Result<(), Trouble> {
-    let id = row.id.print(alloc)?;
-    let network = row.network.print(alloc)?;
-    let prefix = row.prefix.print(alloc)?;
-    let gateway = gateway_text(alloc, row.gateway)?;
-    let pools = list_text(alloc, &row.pools)?;
-    let dns = list_text(alloc, &row.dns)?;
-    let host_routes = list_text(alloc, &row.host_routes)?;
-    to.execute(
+) -> Result<(), Trouble>
+    ensures same_reference { to.new.conn.ghost_name ≡ to.old.conn.ghost_name }
+    ensures inside { CommitsNothing S.Store to.old.conn.now to.new.conn.now }
+    ensures ran { OnOk result (Runs S.Store to.old.conn.now to.new.conn.now) }
+{
+    let texts = subnet_texts(alloc, row)?;
+    execute(
+        to,
         UPSERT,
         params![
-            id.as_str(),
+            texts.id.as_str(),
             row.project.as_str(),
-            network.as_str(),
+            texts.network.as_str(),
             row.name.as_str(),
             row.description.as_str(),
-            prefix.as_str(),
-            str_if(&gateway),
-            pools.as_str(),
+            texts.prefix.as_str(),
+            str_if(&texts.gateway),
+            texts.pools.as_str(),
             row.dhcp,
             mode_word(row.address_mode),
             mode_word(row.ra_mode),
-            dns.as_str(),
-            host_routes.as_str(),
+            texts.dns.as_str(),
+            texts.host_routes.as_str(),
         ],
-    )?;
-    Ok(())
-}
-
-pub(crate) fn delete<S: Alter>(
-    alloc: Global,
-    to: &mut Transaction<'_, S>,
-    row: &SubnetRow,
-) -> Result<(), Trouble> {
-    delete_by_id(alloc, to, "DELETE FROM subnets WHERE id = ?1", row.id)
+    )
 }
 
 impl Stored for SubnetRow {
@@ -104,16 +125,16 @@ impl Stored for SubnetRow {
 
     fn read(alloc: Global, row: &Row) -> Result<SubnetRow, Trouble> {
         let id = id_at(row, 0)?;
-        let project = text_at(row, 1)?;
         let network = id_at(row, 2)?;
-        let name = text_at(row, 3)?;
-        let description = text_at(row, 4)?;
         let prefix = prefix_at(row, 5)?;
         let gateway = address_if(row, 6)?;
-        let pools = list_at(alloc, row, 7)?;
         let dhcp = flag_at(row, 8)?;
         let address_mode = mode_if(row, 9)?;
         let ra_mode = mode_if(row, 10)?;
+        let project = text_at(row, 1)?;
+        let name = text_at(row, 3)?;
+        let description = text_at(row, 4)?;
+        let pools = list_at(alloc, row, 7)?;
         let dns = list_at(alloc, row, 11)?;
         let host_routes = list_at(alloc, row, 12)?;
         Ok(SubnetRow {

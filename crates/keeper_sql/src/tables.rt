@@ -1,7 +1,8 @@
 //! The tables, and their format.
 
+use crate::statement::execute;
 use crate::trouble::Trouble;
-use sqlite::{Alter, Transaction};
+use sqlite::{Alter, Row, Transaction};
 
 /// The formats of a store.
 #[derive(Clone, Copy, Debug, PartialEq, Eq)]
@@ -147,19 +148,25 @@ const BROUGHT_BACK: &str = "INSERT INTO subnets SELECT place, id, project_id, ne
     host_routes FROM subnets_of_format_1;
 DROP TABLE subnets_of_format_1;";
 
+// All rows of a query. (Without clauses of the database: its callers have none either.)
+fn query_all<S: Alter>(from: &mut Transaction<'_, S>, query: &str) -> Result<Vec<Row>, Trouble> {
+    Ok(from.query_all(query, &[])?)
+}
+
+// The same of statements.
+fn execute_batch<S: Alter>(to: &mut Transaction<'_, S>, statements: &str) -> Result<(), Trouble> {
+    Ok(to.execute_batch(statements)?)
+}
+
 // Whether the store has a table of formats.
 fn has_format<S: Alter>(to: &mut Transaction<'_, S>) -> Result<bool, Trouble> {
-    let rows = to.query_all(
-        "SELECT name FROM sqlite_schema WHERE type = 'table' AND name = 'format'",
-        &[],
-    )?;
-    Ok(!rows.is_empty())
+    let query = "SELECT name FROM sqlite_schema WHERE type = 'table' AND name = 'format'";
+    Ok(!query_all(to, query)?.is_empty())
 }
 
 // Whether nothing stands in the store.
 fn is_bare<S: Alter>(to: &mut Transaction<'_, S>) -> Result<bool, Trouble> {
-    let rows = to.query_all("SELECT name FROM sqlite_schema", &[])?;
-    Ok(rows.is_empty())
+    Ok(query_all(to, "SELECT name FROM sqlite_schema")?.is_empty())
 }
 
 // The format with a number, as a store says it.
@@ -173,7 +180,7 @@ fn format_of(number: i64) -> Result<Format, Trouble> {
 
 // The one number of the format.
 fn read_format<S: Alter>(to: &mut Transaction<'_, S>) -> Result<Format, Trouble> {
-    let rows = to.query_all("SELECT number FROM format", &[])?;
+    let rows = query_all(to, "SELECT number FROM format")?;
     match rows.as_slice() {
         [row] => format_of(row.get(0)?),
         _ => Err(Trouble::Fault),
@@ -188,18 +195,17 @@ pub(crate) fn make_tables<S: Alter>(to: &mut Transaction<'_, S>) -> Result<Forma
     if !is_bare(to)? {
         return Err(Trouble::Fault);
     }
-    to.execute_batch(TABLES)?;
-    to.execute_batch(SUBNETS)?;
-    to.execute("INSERT INTO format (number) VALUES (2)", &[])?;
+    execute_batch(to, TABLES)?;
+    execute_batch(to, SUBNETS)?;
+    execute(to, "INSERT INTO format (number) VALUES (2)", &[])?;
     Ok(Format::Two)
 }
 
 /// Makes a store of format 1 one of format 2. Only subnets have other columns there; a text of
 /// version 4 is what it was.
 pub(crate) fn renew_tables<S: Alter>(to: &mut Transaction<'_, S>) -> Result<(), Trouble> {
-    to.execute_batch(SET_ASIDE)?;
-    to.execute_batch(SUBNETS)?;
-    to.execute_batch(BROUGHT_BACK)?;
-    to.execute("UPDATE format SET number = 2", &[])?;
-    Ok(())
+    execute_batch(to, SET_ASIDE)?;
+    execute_batch(to, SUBNETS)?;
+    execute_batch(to, BROUGHT_BACK)?;
+    execute(to, "UPDATE format SET number = 2", &[])
 }

@@ -21,4 +21,4 @@ sink_told (sink.Peer s) = record { written = None; flushed = None; faults = s.fa
 -- rows in memory are told, and those in a file aren't
 abbrev pub store_told : SystemStore → KeeperTold
 store_told (Memory k) = sure_rows k
-store_told (File k) = record { rows = None; faults = k }
+store_told (File k) = record { rows = None; faults = k.faults }
