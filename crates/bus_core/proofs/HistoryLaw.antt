@@ -42,14 +42,14 @@ pub gone_none : (h : History) (n : ℕ) → length h.kept ≤ h.version → (n <
 gone_none h n numbered (inl less) = let e : nat_lt n (first_kept h) ≡ true = grind (arith, nat_tests, less) in ap (λ (b : Bool). cond b None (slice_get h.kept (n - first_kept h))) e
 gone_none h n numbered (inr more) = place_kept h n (omega (arith, more, numbered)) ∙ slice_get_past h.kept (n - first_kept h) (omega (arith, more, numbered))
 
--- a kept change has a number up to the version of now
+-- a kept change has a number up to the current version
 pub kept_within : (h : History) (n : ℕ) (c : List Item) → length h.kept ≤ h.version → change_at h n ≡ Some c → (first_kept h ≤ n) × (n ≤ h.version)
 kept_within h n c numbered at =
     let place = kept_place h n c at in
     let within = slice_get_within h.kept (n - first_kept h) c place.1 in
     (place.0, omega (arith, within, numbered, place.0))
 
--- the rows of now are those of the version of now
+-- the current rows are those of the current version
 pub rows_now : (h : History) → length h.kept ≤ h.version → rows_at h h.version ≡ h.rows
 rows_now h numbered = ap (before_all h.rows) (drop_all (h.version + 1 - first_kept h) h.kept (omega (arith, numbered))) ∙ none_back h.rows
 

@@ -6,7 +6,7 @@ ghost use Rattle.keeper_core.specs.declared.refusal.OutsideRefusal.TheVariants.{
 ghost use Rattle.keeper_sql.specs.Whole.{IsWhole};
 
 use crate::change::write_change;
-use crate::lifting::lift_store;
+use crate::migration::migrate_store;
 use crate::stored::read_all;
 use crate::tables::{Format, make_tables};
 use crate::trouble::Trouble;
@@ -54,7 +54,7 @@ fn read_kinds<S: Alter>(alloc: Global, from: &mut Transaction<'_, S>) -> Result<
 // The rows of a store, which is of the format of today after it.
 fn read_format<S: Alter>(alloc: Global, from: &mut Transaction<'_, S>) -> Result<Rows, Trouble> {
     match make_tables(from)? {
-        Format::One => lift_store(alloc, from),
+        Format::One => migrate_store(alloc, from),
         Format::Two => read_kinds(alloc, from),
     }
 }

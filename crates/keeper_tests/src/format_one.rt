@@ -180,7 +180,7 @@ fn a_router(alloc: Global) -> Result<RouterRow, OutOfMemory> {
     Ok(row)
 }
 
-fn lifted_rows(alloc: Global) -> Result<Seq<Row>, OutOfMemory> {
+fn migrated_rows(alloc: Global) -> Result<Seq<Row>, OutOfMemory> {
     let mut rows = Seq::new(alloc);
     rows.push(Row::Project(a_project(alloc)?))?;
     rows.push(Row::Network(a_network(alloc)?))?;
@@ -213,15 +213,15 @@ const PLACE: &str = "SELECT place FROM subnets";
 
 // It is loaded, is of format 2 from then on, and gives the same rows again, each in its place.
 #[test]
-fn lifts_format_one(rt: HostRuntime) -> Result<(), Fail> {
+fn migrates_format_one(rt: HostRuntime) -> Result<(), Fail> {
     let alloc = rt.alloc();
     let mut keeper = SqlKeeper::make(store_of_format_one(alloc)?);
-    assert!(rt; gives(alloc, &mut keeper, lifted_rows(alloc)?)?);
+    assert!(rt; gives(alloc, &mut keeper, migrated_rows(alloc)?)?);
     let mut conn = keeper.into_conn();
     assert_eq!(rt; number_in(&mut conn, FORMAT)?, 2);
     assert_eq!(rt; number_in(&mut conn, PLACE)?, 3);
     let mut keeper = SqlKeeper::make(conn);
-    assert!(rt; gives(alloc, &mut keeper, lifted_rows(alloc)?)?);
+    assert!(rt; gives(alloc, &mut keeper, migrated_rows(alloc)?)?);
     assert_eq!(rt; keeper.faults(), 0);
     Ok(())
 }

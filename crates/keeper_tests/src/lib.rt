@@ -1,4 +1,4 @@
-//! Tests of `keeper_sql`: what is applied is loaded, a store of format 1 is lifted, and a damaged
+//! Tests of `keeper_sql`: what is applied is loaded, a store of format 1 is migrated, and a damaged
 //! database is refused.
 //!
 //! The rows are made by `test_rows`, and have the extremes of their columns. A crate with tests is

@@ -1,5 +1,5 @@
 mod MapLemmas
-mod LiftLemmas
+mod MigrationLemmas
 mod LawNames
 mod LawForms
 mod LawPorts

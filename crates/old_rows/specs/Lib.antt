@@ -1,4 +1,4 @@
 pub mod Prefixes4
 pub mod OldLists
-pub mod Lifted
+pub mod Migrated
 pub mod OldConsistent

@@ -1,10 +1,10 @@
 //! Ports with addresses of version 4.
 
 ghost use Rattle.std.specs.Prelude.{◌≡◌};
-ghost use Rattle.old_rows.specs.Lifted.{lifted_fixed, lifted_pair, lifted_port};
+ghost use Rattle.old_rows.specs.Migrated.{migrated_fixed, migrated_pair, migrated_port};
 
-use crate::lifts::Lifts;
-use crate::list::lift_all;
+use crate::list::migrate_all;
+use crate::migrates::Migrates;
 use crate::prefix::Prefix4;
 use crate::table::OldRow;
 use api_types::{Fixed, Id, Pair, PortRow, Vif};
@@ -60,12 +60,12 @@ pub struct OldPort {
     pub by_admin: bool,
 }
 
-impl Lifts for Fixed4 {
+impl Migrates for Fixed4 {
     type Now = Fixed;
 
-    ghost lifted = { lifted_fixed };
+    ghost migrated = { migrated_fixed };
 
-    fn lift(&self, _alloc: Global) -> Result<Fixed, OutOfMemory> {
+    fn migrate(&self, _alloc: Global) -> Result<Fixed, OutOfMemory> {
         Ok(Fixed {
             subnet: self.subnet,
             address: Addr::V4(self.address),
@@ -73,25 +73,25 @@ impl Lifts for Fixed4 {
     }
 }
 
-impl Lifts for Pair4 {
+impl Migrates for Pair4 {
     type Now = Pair;
 
-    ghost lifted = { lifted_pair };
+    ghost migrated = { migrated_pair };
 
-    fn lift(&self, alloc: Global) -> Result<Pair, OutOfMemory> {
+    fn migrate(&self, alloc: Global) -> Result<Pair, OutOfMemory> {
         Ok(Pair {
             mac: self.mac,
-            prefix: self.prefix.lift(alloc)?,
+            prefix: self.prefix.migrate(alloc)?,
         })
     }
 }
 
-impl Lifts for OldPort {
+impl Migrates for OldPort {
     type Now = PortRow;
 
-    ghost lifted = { lifted_port };
+    ghost migrated = { migrated_port };
 
-    fn lift(&self, alloc: Global) -> Result<PortRow, OutOfMemory> {
+    fn migrate(&self, alloc: Global) -> Result<PortRow, OutOfMemory> {
         Ok(PortRow {
             id: self.id,
             project: self.project.copy(alloc)?,
@@ -100,8 +100,8 @@ impl Lifts for OldPort {
             description: self.description.copy(alloc)?,
             up: self.up,
             mac: self.mac,
-            fixed: lift_all(alloc, &self.fixed)?,
-            pairs: lift_all(alloc, &self.pairs)?,
+            fixed: migrate_all(alloc, &self.fixed)?,
+            pairs: migrate_all(alloc, &self.pairs)?,
             secured: self.secured,
             groups: self.groups.copy(alloc)?,
             device: self.device.copy(alloc)?,

@@ -1,9 +1,9 @@
 //! Prefixes and spans of addresses of version 4.
 
 ghost use Rattle.std.specs.Prelude.{◌≡◌};
-ghost use Rattle.old_rows.specs.Lifted.{lifted_address, lifted_prefix, lifted_span, prefix_in, span_in};
+ghost use Rattle.old_rows.specs.Migrated.{migrated_address, migrated_prefix, migrated_span, prefix_in, span_in};
 
-use crate::lifts::Lifts;
+use crate::migrates::Migrates;
 use net_addr::{Addr, Addr4, OutOfMemory, Prefix, Span};
 use std::alloc::Global;
 use std::marker::Model;
@@ -80,22 +80,22 @@ impl Span4 {
     }
 }
 
-impl Lifts for Addr4 {
+impl Migrates for Addr4 {
     type Now = Addr;
 
-    ghost lifted = { lifted_address };
+    ghost migrated = { migrated_address };
 
-    fn lift(&self, _alloc: Global) -> Result<Addr, OutOfMemory> {
+    fn migrate(&self, _alloc: Global) -> Result<Addr, OutOfMemory> {
         Ok(Addr::V4(*self))
     }
 }
 
-impl Lifts for Prefix4 {
+impl Migrates for Prefix4 {
     type Now = Prefix;
 
-    ghost lifted = { lifted_prefix };
+    ghost migrated = { migrated_prefix };
 
-    fn lift(&self, _alloc: Global) -> Result<Prefix, OutOfMemory> {
+    fn migrate(&self, _alloc: Global) -> Result<Prefix, OutOfMemory> {
         Ok(Prefix {
             base: Addr::V4(self.base),
             len: self.len,
@@ -103,12 +103,12 @@ impl Lifts for Prefix4 {
     }
 }
 
-impl Lifts for Span4 {
+impl Migrates for Span4 {
     type Now = Span;
 
-    ghost lifted = { lifted_span };
+    ghost migrated = { migrated_span };
 
-    fn lift(&self, _alloc: Global) -> Result<Span, OutOfMemory> {
+    fn migrate(&self, _alloc: Global) -> Result<Span, OutOfMemory> {
         Ok(Span {
             first: Addr::V4(self.first),
             last: Addr::V4(self.last),

@@ -1,10 +1,10 @@
 //! Routers with routes of version 4.
 
 ghost use Rattle.std.specs.Prelude.{◌≡◌};
-ghost use Rattle.old_rows.specs.Lifted.{lifted_router};
+ghost use Rattle.old_rows.specs.Migrated.{migrated_router};
 
-use crate::lifts::Lifts;
-use crate::list::lift_all;
+use crate::list::migrate_all;
+use crate::migrates::Migrates;
 use crate::subnet::Hop4;
 use crate::table::OldRow;
 use api_types::{Gateway, Id, RouterRow};
@@ -30,12 +30,12 @@ pub struct OldRouter {
     pub routes: Seq<Hop4>,
 }
 
-impl Lifts for OldRouter {
+impl Migrates for OldRouter {
     type Now = RouterRow;
 
-    ghost lifted = { lifted_router };
+    ghost migrated = { migrated_router };
 
-    fn lift(&self, alloc: Global) -> Result<RouterRow, OutOfMemory> {
+    fn migrate(&self, alloc: Global) -> Result<RouterRow, OutOfMemory> {
         Ok(RouterRow {
             id: self.id,
             project: self.project.copy(alloc)?,
@@ -44,7 +44,7 @@ impl Lifts for OldRouter {
             up: self.up,
             host: self.host.copy(alloc)?,
             gateway: self.gateway,
-            routes: lift_all(alloc, &self.routes)?,
+            routes: migrate_all(alloc, &self.routes)?,
         })
     }
 }

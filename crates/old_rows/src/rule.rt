@@ -1,10 +1,10 @@
 //! Rules of security groups with prefixes of version 4.
 
 ghost use Rattle.std.specs.Prelude.{◌≡◌};
-ghost use Rattle.old_rows.specs.Lifted.{lifted_rule};
+ghost use Rattle.old_rows.specs.Migrated.{migrated_rule};
 
-use crate::lifts::Lifts;
-use crate::list::lift_some;
+use crate::list::migrate_some;
+use crate::migrates::Migrates;
 use crate::prefix::Prefix4;
 use crate::table::OldRow;
 use api_types::{Direction, Ethertype, Id, RuleRow};
@@ -34,12 +34,12 @@ pub struct OldRule {
     pub remote_group: Option<Id>,
 }
 
-impl Lifts for OldRule {
+impl Migrates for OldRule {
     type Now = RuleRow;
 
-    ghost lifted = { lifted_rule };
+    ghost migrated = { migrated_rule };
 
-    fn lift(&self, alloc: Global) -> Result<RuleRow, OutOfMemory> {
+    fn migrate(&self, alloc: Global) -> Result<RuleRow, OutOfMemory> {
         Ok(RuleRow {
             id: self.id,
             project: self.project.copy(alloc)?,
@@ -50,7 +50,7 @@ impl Lifts for OldRule {
             protocol: self.protocol,
             low: self.low,
             high: self.high,
-            remote_prefix: lift_some(alloc, &self.remote_prefix)?,
+            remote_prefix: migrate_some(alloc, &self.remote_prefix)?,
             remote_group: self.remote_group,
         })
     }

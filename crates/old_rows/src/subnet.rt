@@ -1,10 +1,10 @@
 //! Subnets and routes of version 4.
 
 ghost use Rattle.std.specs.Prelude.{◌≡◌};
-ghost use Rattle.old_rows.specs.Lifted.{lifted_hop, lifted_subnet};
+ghost use Rattle.old_rows.specs.Migrated.{migrated_hop, migrated_subnet};
 
-use crate::lifts::Lifts;
-use crate::list::{lift_all, lift_some};
+use crate::list::{migrate_all, migrate_some};
+use crate::migrates::Migrates;
 use crate::prefix::{Prefix4, Span4};
 use crate::table::OldRow;
 use api_types::{Hop, Id, SubnetRow};
@@ -43,39 +43,39 @@ pub struct OldSubnet {
     pub host_routes: Seq<Hop4>,
 }
 
-impl Lifts for Hop4 {
+impl Migrates for Hop4 {
     type Now = Hop;
 
-    ghost lifted = { lifted_hop };
+    ghost migrated = { migrated_hop };
 
-    fn lift(&self, alloc: Global) -> Result<Hop, OutOfMemory> {
+    fn migrate(&self, alloc: Global) -> Result<Hop, OutOfMemory> {
         Ok(Hop {
-            destination: self.destination.lift(alloc)?,
+            destination: self.destination.migrate(alloc)?,
             next: Addr::V4(self.next),
         })
     }
 }
 
-impl Lifts for OldSubnet {
+impl Migrates for OldSubnet {
     type Now = SubnetRow;
 
-    ghost lifted = { lifted_subnet };
+    ghost migrated = { migrated_subnet };
 
-    fn lift(&self, alloc: Global) -> Result<SubnetRow, OutOfMemory> {
+    fn migrate(&self, alloc: Global) -> Result<SubnetRow, OutOfMemory> {
         Ok(SubnetRow {
             id: self.id,
             project: self.project.copy(alloc)?,
             network: self.network,
             name: self.name.copy(alloc)?,
             description: self.description.copy(alloc)?,
-            prefix: self.prefix.lift(alloc)?,
-            gateway: lift_some(alloc, &self.gateway)?,
-            pools: lift_all(alloc, &self.pools)?,
+            prefix: self.prefix.migrate(alloc)?,
+            gateway: migrate_some(alloc, &self.gateway)?,
+            pools: migrate_all(alloc, &self.pools)?,
             dhcp: self.dhcp,
             address_mode: None,
             ra_mode: None,
-            dns: lift_all(alloc, &self.dns)?,
-            host_routes: lift_all(alloc, &self.host_routes)?,
+            dns: migrate_all(alloc, &self.dns)?,
+            host_routes: migrate_all(alloc, &self.host_routes)?,
         })
     }
 }

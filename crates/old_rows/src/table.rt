@@ -4,7 +4,7 @@ ghost use Rattle.std.specs.Prelude.{◌≡◌, [], ◌∷◌, ◌++◌, if◌the
 ghost use Rattle.api_types.specs.Ident.{Ident};
 ghost use Rattle.api_types.specs.Table.{row_of, is_new, HaveOwnIds};
 
-use crate::lifts::Lifts;
+use crate::migrates::Migrates;
 use api_types::Id;
 use indexmap::IndexMap;
 use net_addr::OutOfMemory;
@@ -12,7 +12,7 @@ use std::alloc::Global;
 use std::marker::Model;
 
 /// An old row with an id of its own.
-pub(crate) trait OldRow: Lifts {
+pub(crate) trait OldRow: Migrates {
     ghost id_of: { Self → Ident };
 
     /// The id by which the row is found.

@@ -65,7 +65,7 @@ module _ (settings : SettingsParts) (name : List ℕ) (opening : RowLists) (cs :
   again : (old : WireState) (s : WireStep) (new : WireState) → IsTrueTo old → (s ≡ step.Again) × (new ≡ old) → Goes old s new
   again old s new is h = stays old step.Again old s new is refl (same_held (held_by old)) h
 
-  -- rows of a version, put in the place of what was held
+  -- rows of a version, put in place of what was held
   pub with_right : (o : Option Agent) (version : ℕ) (rows : RowLists) → IfSome o Right → version ≤ length cs → rows ≡ rows_after opening cs version → Right (agent_with name version rows o)
   with_right None version rows right most same =
       let good : AreSound settings rows = subst (AreSound settings) (sym same) (sound_at (AreSound settings) opening cs sound may version) in

@@ -1,4 +1,4 @@
--- What hosts that hold a version have, and what frames come to where all hold the version of now.
+-- What hosts that hold a version have, and what frames come to where all hold the current version.
 use Rattle.std.proofs.Common.{◌≡◌, ℕ, ◌+◌, ◌≤◌, List, Some, ap, sym, subst, ◌∙◌, arith, map}
 use Rattle.std.specs.List.{list_any}
 use Rattle.std.specs.Str.{bytes_eq}
@@ -36,7 +36,7 @@ held_rows w is k a at v held from =
 pub held_tables : (w : World) → IsWorld w → Each (λ (a : Agent). (v : ℕ) → a.held ≡ Some v → first_kept w.history ≤ v + 1 → Realises (rows_at w.history v) a.name a.tables) w.agents
 held_tables w is k a at v held from = subst (λ rows. Realises rows a.name a.tables) (held_rows w is k a at v held from) (is.realised k a at)
 
--- and one that holds the version of now has the rows of now
+-- and one that holds the current version has the current rows
 pub rows_of_now : (w : World) → IsWorld w → Each (λ (a : Agent). a.held ≡ Some w.history.version → a.rows ≡ w.history.rows) w.agents
 rows_of_now w is k a at held =
     let numbered = is.lead.history.numbered in
@@ -49,7 +49,7 @@ next_change w is n v c at next k a there held =
     let f = next_fits w.settings w.history is.lead.history a v n c (is.lead.agents k a there) at held next in
     (f.fits, f.sound, f.leads)
 
--- ---- all hold the version of now
+-- ---- all hold the current version
 
 pub synced_hold : (w : World) → IsWorld w → IsSynced w → HoldRows (carries w.settings.hosts) w.history.rows (hosts_of w)
 synced_hold w is synced =

@@ -1,4 +1,4 @@
--- When every host holds the version of now, and that in automatic delivery each step but a restart leaves it so.
+-- When every host holds the current version, and that in automatic delivery each step but a restart leaves it so.
 use Rattle.std.proofs.Common.{◌≡◌, ℕ, zero, suc, ◌+◌, ◌≤◌, List, [], ◌∷◌, ◌++◌, Bool, true, false, cond, Option, None, Some, refl, ap, sym, subst, ◌∙◌, arith, map}
 use Rattle.std.specs.List.{filter_map}
 use Rattle.std.specs.Str.{bytes_eq}
@@ -32,7 +32,7 @@ settle_syncs w = each_map (after_settle w.history.version w.history.rows) (λ (a
     by a true e = holds_it w.history.version a.held e
     by a false e = refl
 
--- in automatic delivery, where each host holds the version of now, each is given the new rows
+-- in automatic delivery, where each host holds the current version, each is given the new rows
 pub accept_rewires : (w : World) (c : List Item) → IsWorld w → w.manual ≡ false → IsSynced w → (step w (Accept c)).agents ≡ map (after_resync (w.history.version + 1) (after w.history.rows c)) w.agents
 accept_rewires w c is automatic synced = by w.manual automatic
   where
@@ -51,7 +51,7 @@ accept_rewires w c is automatic synced = by w.manual automatic
     by true e = absurd cc
     by false e = all w.agents (λ k a at. tells a (synced k a at) (rows_of_now w is k a at (synced k a at)))
 
--- in automatic delivery all stay at the version of now
+-- in automatic delivery all stay at the current version
 pub accept_syncs : (w : World) (c : List Item) → w.manual ≡ false → IsSynced w → IsSynced (step w (Accept c))
 accept_syncs w c automatic synced = by w.manual automatic
   where
@@ -77,7 +77,7 @@ named_sync version name f agents still synced = each_map (λ (a : Agent). cond (
     by a true held = still a held
     by a false held = held
 
--- no kept change follows the version of now
+-- no kept change follows the current version
 still_held : (n version : ℕ) (c : List Item) (a : Agent) → n ≤ version → HoldsVersion version a → HoldsVersion version (after_change n c a)
 still_held n version c a within held = by (follows n a.held) refl
   where

@@ -28,7 +28,7 @@ pub data Step : Type 0 where
 abbrev pub at_host : List ℕ → (Agent → Agent) → List Agent → List Agent
 at_host name f agents = map (λ (a : Agent). if bytes_eq name a.name then f a else a) agents
 
--- by hand alone no host hears of it
+-- where changes are delivered only by hand, no host hears of it
 abbrev pub deliver_by : Bool → ℕ → List Item → List Agent → List Agent
 deliver_by true n c agents = agents
 deliver_by false n c agents = map (after_change n c) agents

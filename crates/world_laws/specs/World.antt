@@ -15,7 +15,7 @@ use Rattle.plane_types.specs.Node.{Agent, first_agent, host_of}
 
 pub record World : Type 0 where
   pub settings : SettingsParts
-  -- whether changes are delivered by hand alone
+  -- whether changes are delivered only by hand
   pub manual : Bool
   pub history : History
   -- in the order of the settings' hosts

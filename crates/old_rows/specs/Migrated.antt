@@ -22,44 +22,44 @@ use Rattle.old_rows.specs.declared.port.OldPort.{OldPort}
 use Rattle.old_rows.specs.declared.rule.OldRule.{OldRule}
 use Rattle.old_rows.specs.declared.router.OldRouter.{OldRouter}
 
-abbrev pub lifted_address : ℕ → Addr
-lifted_address n = V4 n
+abbrev pub migrated_address : ℕ → Addr
+migrated_address n = V4 n
 
-abbrev pub lifted_prefix : OldPrefix → Prefix
-lifted_prefix p = record { base = V4 p.base; len = p.len }
+abbrev pub migrated_prefix : OldPrefix → Prefix
+migrated_prefix p = record { base = V4 p.base; len = p.len }
 
-abbrev pub lifted_span : OldSpan → Span
-lifted_span s = record { first = V4 s.first; last = V4 s.last }
+abbrev pub migrated_span : OldSpan → Span
+migrated_span s = record { first = V4 s.first; last = V4 s.last }
 
-abbrev pub lifted_hop : Hop4 → Hop
-lifted_hop h = record { destination = lifted_prefix h.destination; next = V4 h.next }
+abbrev pub migrated_hop : Hop4 → Hop
+migrated_hop h = record { destination = migrated_prefix h.destination; next = V4 h.next }
 
-abbrev pub lifted_fixed : Fixed4 → Fixed
-lifted_fixed f = record { subnet = f.subnet; address = V4 f.address }
+abbrev pub migrated_fixed : Fixed4 → Fixed
+migrated_fixed f = record { subnet = f.subnet; address = V4 f.address }
 
-abbrev pub lifted_pair : Pair4 → Pair
-lifted_pair p = record { mac = p.mac; prefix = lifted_prefix p.prefix }
+abbrev pub migrated_pair : Pair4 → Pair
+migrated_pair p = record { mac = p.mac; prefix = migrated_prefix p.prefix }
 
-abbrev pub lifted_subnet : OldSubnet → SubnetRow
-lifted_subnet s =
+abbrev pub migrated_subnet : OldSubnet → SubnetRow
+migrated_subnet s =
     record {
       id = s.id;
       project = s.project;
       network = s.network;
       name = s.name;
       description = s.description;
-      prefix = lifted_prefix s.prefix;
-      gateway = option_map lifted_address s.gateway;
-      pools = map lifted_span s.pools;
+      prefix = migrated_prefix s.prefix;
+      gateway = option_map migrated_address s.gateway;
+      pools = map migrated_span s.pools;
       dhcp = s.dhcp;
       address_mode = None;
       ra_mode = None;
-      dns = map lifted_address s.dns;
-      host_routes = map lifted_hop s.host_routes;
+      dns = map migrated_address s.dns;
+      host_routes = map migrated_hop s.host_routes;
     }
 
-abbrev pub lifted_port : OldPort → PortRow
-lifted_port p =
+abbrev pub migrated_port : OldPort → PortRow
+migrated_port p =
     record {
       id = p.id;
       project = p.project;
@@ -68,8 +68,8 @@ lifted_port p =
       description = p.description;
       up = p.up;
       mac = p.mac;
-      fixed = map lifted_fixed p.fixed;
-      pairs = map lifted_pair p.pairs;
+      fixed = map migrated_fixed p.fixed;
+      pairs = map migrated_pair p.pairs;
       secured = p.secured;
       groups = p.groups;
       device = p.device;
@@ -79,8 +79,8 @@ lifted_port p =
       by_admin = p.by_admin;
     }
 
-abbrev pub lifted_rule : OldRule → RuleRow
-lifted_rule r =
+abbrev pub migrated_rule : OldRule → RuleRow
+migrated_rule r =
     record {
       id = r.id;
       project = r.project;
@@ -91,12 +91,12 @@ lifted_rule r =
       protocol = r.protocol;
       low = r.low;
       high = r.high;
-      remote_prefix = option_map lifted_prefix r.remote_prefix;
+      remote_prefix = option_map migrated_prefix r.remote_prefix;
       remote_group = r.remote_group;
     }
 
-abbrev pub lifted_router : OldRouter → RouterRow
-lifted_router r =
+abbrev pub migrated_router : OldRouter → RouterRow
+migrated_router r =
     record {
       id = r.id;
       project = r.project;
@@ -105,19 +105,19 @@ lifted_router r =
       up = r.up;
       host = r.host;
       gateway = r.gateway;
-      routes = map lifted_hop r.routes;
+      routes = map migrated_hop r.routes;
     }
 
-abbrev pub lifted : OldLists → RowLists
-lifted old =
+abbrev pub migrated : OldLists → RowLists
+migrated old =
     record {
       projects = old.projects;
       networks = old.networks;
-      subnets = map lifted_subnet old.subnets;
-      ports = map lifted_port old.ports;
+      subnets = map migrated_subnet old.subnets;
+      ports = map migrated_port old.ports;
       groups = old.groups;
-      rules = map lifted_rule old.rules;
-      routers = map lifted_router old.routers;
+      rules = map migrated_rule old.rules;
+      routers = map migrated_router old.routers;
       floatings = old.floatings;
       policies = old.policies;
     }

@@ -6,12 +6,12 @@ use net_addr::OutOfMemory;
 use std::alloc::Global;
 
 /// An old value, of which there is one of today.
-pub(crate) trait Lifts: Sized + Drop {
+pub(crate) trait Migrates: Sized + Drop {
     type Now: Drop;
 
-    ghost lifted: { Self → Self.Now };
+    ghost migrated: { Self → Self.Now };
 
     /// The value of today. Its cost grows with the value.
-    fn lift(&self, alloc: Global) -> Result<Self::Now, OutOfMemory>
-        ensures { IfOk result (λ x. x ≡ lifted self.now) };
+    fn migrate(&self, alloc: Global) -> Result<Self::Now, OutOfMemory>
+        ensures { IfOk result (λ x. x ≡ migrated self.now) };
 }

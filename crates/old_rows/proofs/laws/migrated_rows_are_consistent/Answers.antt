@@ -1,9 +1,9 @@
-use Rattle.old_rows.specs.Lifted.{lifted}
+use Rattle.old_rows.specs.Migrated.{migrated}
 use Rattle.old_rows.proofs.LawNames.{are_numbered, names_stand, ports_are_allowed, outsides_are_allowed}
 use Rattle.old_rows.proofs.LawForms.{are_in_form, are_hosts}
 use Rattle.old_rows.proofs.LawPorts.{are_held_once, are_disjoint, are_on_hosts, routes_lead, floatings_lead}
 use Rattle.old_rows.proofs.LawServices.{services_stand, groups_serve}
-use Rattle.old_rows.proofs.laws.lifted_rows_are_consistent.Goals as goal
+use Rattle.old_rows.proofs.laws.migrated_rows_are_consistent.Goals as goal
 
 pub returns : goal.returns
 returns c = λ old all. record {

@@ -1,4 +1,4 @@
--- Rows that are lifted one by one are each new, since old rows have ids of their own.
+-- Rows that are migrated one by one are each new, since old rows have ids of their own.
 use Rattle.std.proofs.Common.{◌≡◌, ◌∙◌, ℕ, ◌+◌, zero, suc, List, [], ◌∷◌, ◌++◌, Bool, true, false, cond, not, Option, None, Some, map, take, slice_get, refl, ap, sym, arith}
 use Rattle.std.specs.Prelude.{find, is_some, if◌then◌else◌}
 use Rattle.api_types.specs.Ident.{Ident}
@@ -17,8 +17,8 @@ module _ {X Y : Type 0} (f : X → Y) (id_of : X → Ident) (new_id : Y → Iden
           let rest : row_of id_of i xs ≡ None = sym (ap (λ b. cond b (Some x) (row_of id_of i xs)) e) ∙ none in
           ap (λ b. cond b (Some (f x)) (row_of new_id i (map f xs))) (ap (ident_eq i) (same x) ∙ e) ∙ more rest
 
-  pub new_lifted : (xs : List X) (k : ℕ) (x : X) → HaveOwnIds id_of xs → slice_get xs k ≡ Some x → is_new new_id (f x) (map f (take k xs)) ≡ true
-  new_lifted xs k x own at =
+  pub new_migrated : (xs : List X) (k : ℕ) (x : X) → HaveOwnIds id_of xs → slice_get xs k ≡ Some x → is_new new_id (f x) (map f (take k xs)) ≡ true
+  new_migrated xs k x own at =
       ap (λ o. not (is_some o)) (ap (λ i. row_of new_id i (map f (take k xs))) (same x) ∙ none-map (id_of x) (take k xs) (new_here id_of k x xs own at))
 
 pub one_more : {X Y : Type 0} (f : X → Y) (xs : List X) (k : ℕ) (x : X) → slice_get xs k ≡ Some x → map f (take k xs) ++ f x ∷ [] ≡ map f (take (suc k) xs)
@@ -26,7 +26,7 @@ one_more f [] k x at = cc
 one_more f (y ∷ xs) zero x at = let same : x ≡ y = cc in ap (λ z. f z ∷ []) same
 one_more f (y ∷ xs) (suc k) x at = ap (λ zs. f y ∷ zs) (one_more f xs k x at)
 
--- one row more is lifted: `get` and `put` are a kind's list among the rows
+-- one row more is migrated: `get` and `put` are a kind's list among the rows
 pub next_rows : {X Y : Type 0} (f : X → Y) (id_of : X → Ident) (new_id : Y → Ident) (same : (x : X) → new_id (f x) ≡ id_of x)
     (get : RowLists → List Y) (put : RowLists → List Y → RowLists)
     (got : (rows : RowLists) (ys : List Y) → get (put rows ys) ≡ ys) (again : (rows : RowLists) (ys zs : List Y) → put (put rows ys) zs ≡ put rows zs)
@@ -36,7 +36,7 @@ pub next_rows : {X Y : Type 0} (f : X → Y) (id_of : X → Ident) (new_id : Y �
     → after ≡ (if added then put before (get before ++ row ∷ []) else before) → after ≡ put start (map f (take (k + 1) xs))
 next_rows {X} {Y} f id_of new_id same get put got again xs k x own at start before after row added was is tells made =
     let front : List Y = map f (take k xs) in
-    let new : added ≡ true = tells ∙ (λ j. is_new new_id (is j) ((ap get was ∙ got start front) j)) ∙ new_lifted f id_of new_id same xs k x own at in
+    let new : added ≡ true = tells ∙ (λ j. is_new new_id (is j) ((ap get was ∙ got start front) j)) ∙ new_migrated f id_of new_id same xs k x own at in
     let more : suc k ≡ k + 1 = omega arith in
     made ∙ ap (λ (b : Bool). if b then put before (get before ++ row ∷ []) else before) new
     ∙ (λ j. put (was j) ((ap get was ∙ got start front) j ++ is j ∷ [])) ∙ again start front (front ++ f x ∷ [])

@@ -4,7 +4,7 @@ use crate::stored::read_all;
 use crate::tables::renew_tables;
 use crate::trouble::Trouble;
 use api_types::{FloatingRow, GroupRow, NetworkRow, PolicyRow, ProjectRow, Rows};
-use old_rows::{OldPort, OldRouter, OldRows, OldRule, OldSubnet, lift};
+use old_rows::{OldPort, OldRouter, OldRows, OldRule, OldSubnet, migrate};
 use sqlite::{Alter, Transaction};
 use std::alloc::Global;
 
@@ -24,12 +24,12 @@ fn read_old<S: Alter>(alloc: Global, from: &mut Transaction<'_, S>) -> Result<Ol
 }
 
 /// The rows of a store of format 1, which is of format 2 after it.
-pub(crate) fn lift_store<S: Alter>(
+pub(crate) fn migrate_store<S: Alter>(
     alloc: Global,
     store: &mut Transaction<'_, S>,
 ) -> Result<Rows, Trouble> {
     let old = read_old(alloc, store)?;
-    let rows = lift(alloc, &old)?;
+    let rows = migrate(alloc, &old)?;
     renew_tables(store)?;
     Ok(rows)
 }
