@@ -12,7 +12,8 @@ use Rattle.neutron.specs.declared.store.SystemStore.TheVariants.{Memory, File}
 
 abbrev pub source_told : SystemSource → SourceTold
 source_told (source.Input s) = record { left = None; last = s.last; faults = s.faults }
-source_told (source.Peer s) = record { left = None; last = s.last; faults = s.faults }
+source_told (source.Peer p) =
+    record { left = None; last = p.source.last; faults = p.source.faults }
 
 abbrev pub sink_told : SystemSink → SinkTold
 sink_told (sink.Output s) = record { written = None; flushed = None; faults = s.faults }

@@ -2,7 +2,7 @@
 ghost use Rattle.std.specs.Prelude.{◌≡◌};
 
 use crate::accepting::{Accepted, accept};
-use crate::ends::{SystemSink, SystemSource};
+use crate::ends::{PeerSource, SystemSink, SystemSource};
 use crate::parting::part;
 use crate::store::SystemStore;
 use api_types::Rows;
@@ -119,8 +119,12 @@ impl Desk for SystemDesk {
                 },
             ) => {
                 self.peer = Some(stream);
+                let source = PeerSource {
+                    source: ReaderSource::make(input),
+                    is_drained: false,
+                };
                 Ok(Some((
-                    SystemSource::Peer(ReaderSource::make(input)),
+                    SystemSource::Peer(source),
                     SystemSink::Peer(WriterSink::make(output)),
                 )))
             }
@@ -131,10 +135,10 @@ impl Desk for SystemDesk {
         }
     }
 
-    fn done(&mut self, _input: SystemSource, _output: SystemSink) {
+    fn done(&mut self, input: SystemSource, _output: SystemSink) {
         if let Some(stream) = self.peer.take() {
             // (where that fails, the peer is gone)
-            let _ = part(&self.rt, &stream);
+            let _ = part(&self.rt, &stream, input.is_drained());
         }
     }
 }

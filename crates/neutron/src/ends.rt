@@ -6,11 +6,29 @@ use keeper_core::{Failed, ReaderSource, Sink, SinkRefusal, Source, WriterSink};
 use std::io::{Stdin, Stdout};
 use std::net::TcpStream;
 
+/// What a peer sends.
+#[derive(Drop)]
+pub(crate) struct PeerSource {
+    pub(crate) source: ReaderSource<TcpStream>,
+    // Whether the last read took all that had come.
+    pub(crate) is_drained: bool,
+}
+
 /// Standard input, or what a peer sends.
 #[derive(Drop)]
 pub(crate) enum SystemSource {
     Input(ReaderSource<Stdin>),
-    Peer(ReaderSource<TcpStream>),
+    Peer(PeerSource),
+}
+
+impl SystemSource {
+    /// Whether all that had come from a peer was read when it was last asked for.
+    pub(crate) fn is_drained(&self) -> bool {
+        match self {
+            SystemSource::Input(_) => false,
+            SystemSource::Peer(peer) => peer.is_drained,
+        }
+    }
 }
 
 /// Standard output, or what a peer is sent.
@@ -26,7 +44,11 @@ impl Source for SystemSource {
     fn read(&mut self, buf: &mut [u8]) -> Result<usize, Failed> {
         match self {
             SystemSource::Input(source) => source.read(buf),
-            SystemSource::Peer(source) => source.read(buf),
+            SystemSource::Peer(peer) => {
+                let count = peer.source.read(buf)?;
+                peer.is_drained = count < buf.len();
+                Ok(count)
+            }
         }
     }
 }
