@@ -1,0 +1,16 @@
+pub mod EditsAtLemmas
+pub mod NumberedLaw
+pub mod KeyedLaw
+pub mod PlaceLemmas
+pub mod DescendLemmas
+pub mod NumberPlaces
+pub mod OwnKeyLaw
+pub mod SameKinds
+pub mod NumberSteps
+pub mod NumbersTold
+pub mod KindsAfter
+pub mod ChunkPlaces
+pub mod ChunkLaw
+pub mod TableLaws
+pub mod FilterLaw
+pub mod SetLaw

@@ -1,0 +1,9 @@
+pub mod EditsAt
+pub mod ChunksSeen
+pub mod Rewires
+pub mod NumbersTold
+pub mod NumbersSeen
+pub mod Places
+pub mod KeyOrders
+pub mod RisesProp
+pub mod Untouched
