@@ -1,0 +1,6 @@
+mod HostLemmas
+mod MeansLaw
+mod PlainLaw
+mod PositionLemmas
+mod RouteLists
+mod TellsLemmas

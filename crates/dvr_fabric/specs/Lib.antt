@@ -1,0 +1,5 @@
+pub mod Beginnings
+pub mod Found
+pub mod Meaning
+pub mod Positions
+pub mod Steps
