@@ -1,0 +1,13 @@
+//! The rows after project `a` has made its first network, and the renaming of that network, as texts.
+
+/// The project, its network `n1`, its group `default` and that group's four rules.
+pub(crate) const SEVEN_ROWS: &str =
+    r#"[{"kind":"Project","row":{"count":6,"name":"a","ordinal":1}},{"kind":"Network","row":{"description":"","id":"00000001-0000-8000-8000-000000000006","name":"n1","project":"a","segment":{"number":1,"physical":null,"type":"Vxlan"},"up":true}},{"kind":"Group","row":{"description":"","id":"00000001-0000-8000-8000-000000000001","is_default":true,"name":"default","project":"a"}},{"kind":"Rule","row":{"description":"","direction":"Egress","ethertype":"Ipv4","group":"00000001-0000-8000-8000-000000000001","high":null,"id":"00000001-0000-8000-8000-000000000002","low":null,"project":"a","protocol":null,"remote_group":null,"remote_prefix":null}},{"kind":"Rule","row":{"description":"","direction":"Egress","ethertype":"Ipv6","group":"00000001-0000-8000-8000-000000000001","high":null,"id":"00000001-0000-8000-8000-000000000003","low":null,"project":"a","protocol":null,"remote_group":null,"remote_prefix":null}},{"kind":"Rule","row":{"description":"","direction":"Ingress","ethertype":"Ipv4","group":"00000001-0000-8000-8000-000000000001","high":null,"id":"00000001-0000-8000-8000-000000000004","low":null,"project":"a","protocol":null,"remote_group":"00000001-0000-8000-8000-000000000001","remote_prefix":null}},{"kind":"Rule","row":{"description":"","direction":"Ingress","ethertype":"Ipv6","group":"00000001-0000-8000-8000-000000000001","high":null,"id":"00000001-0000-8000-8000-000000000005","low":null,"project":"a","protocol":null,"remote_group":"00000001-0000-8000-8000-000000000001","remote_prefix":null}}]"#;
+
+/// The network gets the name `n2`.
+pub(crate) const RENAMING: &str =
+    r#"[{"after":{"description":"","id":"00000001-0000-8000-8000-000000000006","name":"n2","project":"a","segment":{"number":1,"physical":null,"type":"Vxlan"},"up":true},"before":{"description":"","id":"00000001-0000-8000-8000-000000000006","name":"n1","project":"a","segment":{"number":1,"physical":null,"type":"Vxlan"},"up":true},"kind":"Network","place":0}]"#;
+
+/// A renaming of another network than `n1`, which doesn't fit these rows.
+pub(crate) const OTHER_RENAMING: &str =
+    r#"[{"after":{"description":"","id":"00000001-0000-8000-8000-000000000006","name":"n3","project":"a","segment":{"number":1,"physical":null,"type":"Vxlan"},"up":true},"before":{"description":"","id":"00000001-0000-8000-8000-000000000006","name":"n0","project":"a","segment":{"number":1,"physical":null,"type":"Vxlan"},"up":true},"kind":"Network","place":0}]"#;
