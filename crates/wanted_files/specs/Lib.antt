@@ -1,0 +1,5 @@
+pub mod Document
+pub mod Names
+pub mod Ranges
+pub mod Tables
+pub mod Values
