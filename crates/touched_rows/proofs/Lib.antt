@@ -1,0 +1,5 @@
+mod AlikeLemmas
+mod AmongLemmas
+mod DeviceLemmas
+mod RetagLemmas
+mod RouterLemmas

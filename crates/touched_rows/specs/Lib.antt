@@ -1,0 +1,4 @@
+pub mod RowStays
+pub mod Retagged
+pub mod TouchedNumbers
+pub mod LeadsProp
