@@ -10,4 +10,4 @@ pub returns : goal.returns
 returns c =
     let left = c.loop-table.table-iterator in
     lines-done (string_bytes c.loop-table.lines) (lines_of c.args.wanted.now c.args.judged.now) (iter_rest (zip_first left)) (iter_rest (zip_second left))
-    (either_empty_from_Zip left _ c.next.result c.in-None.is c.next.ensures.steps) c.loop-table.invariant
+    (either_empty_from_Zip left c.next.new.self c.next.result c.in-None.is c.next.ensures.steps) c.loop-table.invariant
