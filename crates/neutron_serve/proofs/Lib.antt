@@ -1,4 +1,3 @@
-mod AskLemmas
 mod DrillLemmas
 mod OpeningLemmas
 mod RunLemmas

@@ -11,12 +11,12 @@ use Rattle.keeper_core.specs.declared.ask.DeskAsk.TheVariants.{Next}
 use Rattle.world_laws.specs.World.{World}
 use Rattle.http_session.specs.declared.session_end.SessionEnd.{SessionEnd}
 use Rattle.neutron_serve.specs.Connections.{AreServed, AreWhole, Carried, AllServed, ComesNext, DeskFailed, IsOver, Listens, NoMemory, NoneLeft, Over, Passes, Served, ServesAll, done_of, handed_back, is_wanting, over_status, start_of}
-use Rattle.neutron_serve.specs.Openings.{with_asks}
+use Rattle.openings.specs.Openings.{with_asks}
 use Rattle.neutron_serve.specs.Status.{is_listening}
 use Rattle.neutron_serve.specs.declared.serving.NextConnection.TheVariants as next
 use Rattle.neutron_serve.specs.declared.status.Status.{Status}
 use Rattle.neutron_serve.specs.declared.status.Status.TheVariants as status
-use Rattle.neutron_serve.proofs.AskLemmas.{none_after}
+use Rattle.openings.proofs.AskLemmas.{none_after}
 
 same_option : {X : Type 0} (f : X → X) → ((x : X) → x ≡ f x) → (o : Option X) → o ≡ option_map f o
 same_option f is None = refl

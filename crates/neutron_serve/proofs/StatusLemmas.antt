@@ -7,10 +7,10 @@ use Rattle.keeper_core.specs.Desk.{Closes, DeskTold}
 use Rattle.keeper_core.specs.Kept.{KeeperTold}
 use Rattle.http_session.specs.declared.session_end.SessionEnd.{SessionEnd}
 use Rattle.http_session.specs.declared.session_end.SessionEnd.TheVariants as end
-use Rattle.neutron_serve.specs.Openings.{AreBadSettings, AreBroken, DeskRose, IsCause}
+use Rattle.openings.specs.Openings.{AreBadSettings, AreBroken, DeskRose, IsCause}
 use Rattle.neutron_serve.specs.Status.{ended_status, is_drilling, is_listening, is_serving, status_code, unopened_status}
-use Rattle.neutron_serve.specs.declared.opening.Unopened.{Unopened}
-use Rattle.neutron_serve.specs.declared.opening.Unopened.TheVariants as unopened
+use Rattle.openings.specs.declared.unopened.Unopened.{Unopened}
+use Rattle.openings.specs.declared.unopened.Unopened.TheVariants as unopened
 use Rattle.neutron_serve.specs.declared.status.Status.{Status}
 use Rattle.neutron_serve.specs.declared.status.Status.TheVariants.{BadSettings, Budget, Done, Failed, Inconsistent, OutOfMemory, ReadFault, WriteFault, WrongWords}
 

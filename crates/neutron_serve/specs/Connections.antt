@@ -10,7 +10,7 @@ use Rattle.keeper_core.specs.Ends.{SinkTold, SourceTold}
 use Rattle.keeper_core.specs.Kept.{KeeperTold}
 use Rattle.keeper_core.specs.declared.ask.DeskAsk.TheVariants.{Listen, Next}
 use Rattle.world_laws.specs.World.{World}
-use Rattle.neutron_serve.specs.Openings.{with_asks}
+use Rattle.openings.specs.Openings.{with_asks}
 use Rattle.neutron_serve.specs.Promises.{Promises}
 use Rattle.neutron_serve.specs.declared.serving.NextConnection.{NextConnection}
 use Rattle.neutron_serve.specs.declared.serving.NextConnection.TheVariants as next

@@ -1,7 +1,6 @@
 pub mod Causes
 pub mod Connections
 pub mod Drills
-pub mod Openings
 pub mod Promises
 pub mod Reading
 pub mod Replies

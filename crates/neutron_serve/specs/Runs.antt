@@ -1,23 +1,25 @@
 -- What the program does by its arguments.
-use Rattle.std.specs.Prelude.{◌≡◌, ◌⊎◌, ℕ, ◌+◌, ◌-◌, ◌^◌, ◌≤◌, Bool, true, false, Option, Some, None, min, option_map}
+use Rattle.std.specs.Prelude.{◌≡◌, ◌⊎◌, ℕ, ◌^◌, ◌≤◌, Bool, true, false, Option, Some, None}
 use Rattle.net_addr.specs.Words.{Text}
 use Rattle.http_session.specs.Serves.{scene}
 use Rattle.http_session.specs.declared.session_end.SessionEnd.{SessionEnd}
 use Rattle.api_types.specs.RowLists.{RowLists}
+use Rattle.command_lines.specs.declared.line.Delivery.{Delivery}
+use Rattle.command_lines.specs.declared.line.Delivery.TheVariants.{Automatic, Manual}
 use Rattle.command_lines.specs.declared.line.Opening.{Opening}
 use Rattle.command_lines.specs.declared.line.Line.{Line}
 use Rattle.command_lines.specs.declared.line.Line.TheVariants.{Session, Serve, Drill}
-use Rattle.keeper_core.specs.Desk.{DeskTold, closed_as, opened_as}
+use Rattle.keeper_core.specs.Desk.{DeskTold}
 use Rattle.keeper_core.specs.Ends.{SinkTold, SourceTold}
 use Rattle.keeper_core.specs.Kept.{KeeperTold}
 use Rattle.net_settings.specs.Settings.{SettingsParts}
+use Rattle.openings.specs.Openings.{AreBadSettings, AreBroken, IsUnopened, Opens, with_closing, with_opening}
+use Rattle.openings.specs.declared.unopened.Unopened.{Unopened}
 use Rattle.world_laws.specs.World.{World, first_world}
 use Rattle.neutron_serve.specs.Connections.{Carried, Listens, carried}
 use Rattle.neutron_serve.specs.Drills.{RunsDrill}
-use Rattle.neutron_serve.specs.Openings.{AreBadSettings, AreBroken, IsUnopened, Opens, is_manual, opening_asks, with_asks}
 use Rattle.neutron_serve.specs.Promises.{Promises}
 use Rattle.neutron_serve.specs.Status.{ended_status, unopened_status}
-use Rattle.neutron_serve.specs.declared.opening.Unopened.{Unopened}
 use Rattle.neutron_serve.specs.declared.status.Status.{Status}
 use Rattle.neutron_serve.specs.declared.status.Status.TheVariants.{OutOfMemory, WrongWords}
 
@@ -33,20 +35,9 @@ abbrev pub opening_of : Option Line → Option Opening
 opening_of None = None
 opening_of (Some line) = opening_in line
 
--- the desk once settings and store were asked for and the store is open, with this count of faults
-abbrev pub with_opening : {P : Type 0} → Opening → ℕ → DeskTold P → DeskTold P
-with_opening opening faults desk = record desk {
-  asks = with_asks (opening_asks opening) desk.asks;
-  stores = option_map (opened_as opening.store) desk.stores;
-  faults = faults;
-}
-
--- the desk once that store is closed with these rows, and so many faults of it are counted
-abbrev pub with_closing : {P : Type 0} → Opening → RowLists → ℕ → DeskTold P → DeskTold P
-with_closing opening rows counted desk = record desk {
-  stores = option_map (closed_as (Some opening.store) rows) desk.stores;
-  store_faults = min (desk.store_faults + counted) (2 ^ 64 - 1);
-}
+abbrev pub is_manual : Delivery → Bool
+is_manual Automatic = false
+is_manual Manual = true
 
 -- what is opened listens, connections are served over it, and the store is closed with the rows of
 -- the last world

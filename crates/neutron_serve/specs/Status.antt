@@ -2,8 +2,8 @@
 use Rattle.std.specs.Prelude.{ℕ, Bool, false, true}
 use Rattle.http_session.specs.declared.session_end.SessionEnd.{SessionEnd}
 use Rattle.http_session.specs.declared.session_end.SessionEnd.TheVariants as end
-use Rattle.neutron_serve.specs.declared.opening.Unopened.{Unopened}
-use Rattle.neutron_serve.specs.declared.opening.Unopened.TheVariants as unopened
+use Rattle.openings.specs.declared.unopened.Unopened.{Unopened}
+use Rattle.openings.specs.declared.unopened.Unopened.TheVariants as unopened
 use Rattle.neutron_serve.specs.declared.status.Status.{Status}
 use Rattle.neutron_serve.specs.declared.status.Status.TheVariants.{BadSettings, Budget, Done, Failed, Inconsistent, OutOfMemory, ReadFault, WriteFault, WrongWords}
 

@@ -2,8 +2,8 @@
 ghost use Rattle.std.specs.Prelude.{◌≡◌};
 ghost use Rattle.neutron_serve.specs.Status.{ended_status, status_code, unopened_status};
 
-use crate::opening::Unopened;
 use http_session::SessionEnd;
+use openings::Unopened;
 
 /// How a run of the program ended.
 #[derive(Clone, Copy, Debug, PartialEq, Eq)]

@@ -6,7 +6,7 @@ ghost use Rattle.keeper_core.specs.Counts.{RoseBy, Tells};
 ghost use Rattle.keeper_core.specs.Desk.{IsNoneOut};
 ghost use Rattle.keeper_core.specs.Kept.{IsStored};
 ghost use Rattle.neutron_serve.specs.Connections.{Listens, carried};
-ghost use Rattle.neutron_serve.specs.Openings.{AreBadSettings, AreBroken, DeskRose};
+ghost use Rattle.openings.specs.Openings.{AreBadSettings, AreBroken, DeskRose};
 ghost use Rattle.neutron_serve.specs.Runs as runs;
 ghost use Rattle.neutron_serve.specs.Status.{is_listening, is_serving, status_code};
 ghost use Rattle.neutron_serve.specs.declared.status.Status.{Status as TheStatus};

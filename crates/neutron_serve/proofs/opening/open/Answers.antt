@@ -1,37 +1,28 @@
-use Rattle.std.proofs.Common.{◌∙◌, ◌≡◌, Some, ap, inl, subst, sym}
+use Rattle.std.proofs.Common.{◌∙◌, ◌≡◌, Some, ap, subst, sym}
 use Rattle.keeper_core.specs.Counts.{RoseBy, Tells}
 use Rattle.world_laws.specs.World.{first_world}
 use Rattle.std.specs.Prelude.{Err, IfSome}
 use Rattle.keeper_core.specs.Desk.{opening_rows}
 use Rattle.std.proofs.lemmas.Result.{err_from_is_err_and}
-use Rattle.neutron_serve.proofs.OpeningLemmas.{all_opened, cause_of, if_err_cause, opens_told, rows_refused, store_refused, stored_rows, told_rows}
+use Rattle.openings.proofs.OpeningLemmas.{cause_of, if_err_cause, rows_refused, stored_rows, told_rows}
 use Rattle.neutron_serve.proofs.opening.open.Goals as goal
 
 pub returns-in_err-settings-clause-err : goal.returns-in_err-settings-clause-err
 returns-in_err-settings-clause-err g c =
     let p = err_from_is_err_and c.from_residual.result c.from_residual.ensures.1 in
-    rw (p.1, p.2) (inl c.in_err-settings.ensures.err)
+    rw (p.1, p.2) c.in_err-settings.ensures.err
 
 pub returns-in_err-settings-clause-cause : goal.returns-in_err-settings-clause-cause
 returns-in_err-settings-clause-cause g c = if_err_cause c.args.opening.now _ _ _ (returns-in_err-settings-clause-err g c)
 
-pub returns-in_err-store-clause-err : goal.returns-in_err-store-clause-err
-returns-in_err-store-clause-err g c =
-    let p = err_from_is_err_and c.from_residual-in_err-store.result c.from_residual-in_err-store.ensures.1 in
-    rw (p.1, p.2) (store_refused c.in_err-store.field-0.0 c.in_ok-settings.settings c.args.opening.now (g.D.Desk.told c.args.desk.now) (g.D.Desk.told c.settings_for.new.desk) (g.D.Desk.told c.store_for.new.desk) c.in_ok-settings.ensures.ok c.in_ok-settings.ensures.asked c.settings_for.ensures.later c.in_err-store.ensures.asks)
-
-pub returns-in_err-store-clause-cause : goal.returns-in_err-store-clause-cause
-returns-in_err-store-clause-cause g c = if_err_cause c.args.opening.now _ _ _ (returns-in_err-store-clause-err g c)
-
 pub returns-in-Ok-clause-opened : goal.returns-in-Ok-clause-opened
-returns-in-Ok-clause-opened g c = all_opened c.args.opening.now (g.D.Desk.told c.args.desk.now) (g.D.Desk.told c.settings_for.new.desk) (g.D.Desk.told c.store_for.new.desk) c.in_ok-settings.ensures.asked c.in_ok-store.ensures.asks.is
+returns-in-Ok-clause-opened g c = c.in_ok-settings.ensures.opened
 
 pub returns-in-Ok-clause-told : goal.returns-in-Ok-clause-told
 returns-in-Ok-clause-told g c =
     let name = c.args.opening.now.store in
     let stores = (g.D.Desk.told c.args.desk.now).stores in
-    let tells = opens_told c.args.opening.now (g.D.Desk.told c.args.desk.now) (g.D.Desk.told c.settings_for.new.desk) (g.D.Store.Keeper.told c.in_ok-store.store) c.in_ok-settings.ensures.asked c.in_ok-store.ensures.store in
-    told_rows name stores _ (subst (λ k. IfSome stores (λ told. k ≡ Some (opening_rows name told))) (sym c.load_world.ensures.kept) tells)
+    told_rows name stores _ (subst (λ k. IfSome stores (λ told. k ≡ Some (opening_rows name told))) (sym c.load_world.ensures.kept) c.in_ok-settings.ensures.store.rows)
 
 pub returns-in-Ok-clause-ok : goal.returns-in-Ok-clause-ok
 returns-in-Ok-clause-ok g c =
@@ -39,8 +30,8 @@ returns-in-Ok-clause-ok g c =
       c.in_ok-settings.settings,
       l.0,
       record {
-        spelled = c.in_ok-settings.ensures.ok;
-        stored = stored_rows c.args.opening.now.store _ _ l.0 (opens_told c.args.opening.now (g.D.Desk.told c.args.desk.now) (g.D.Desk.told c.settings_for.new.desk) (g.D.Store.Keeper.told c.in_ok-store.store) c.in_ok-settings.ensures.asked c.in_ok-store.ensures.store) l.1;
+        spelled = c.in_ok-settings.ensures.settings;
+        stored = stored_rows c.args.opening.now.store _ _ l.0 c.in_ok-settings.ensures.store.rows l.1;
         consistent = l.3;
       },
       l.2 ∙ ap (λ m. first_world c.in_ok-settings.settings m l.0) c.is_manual.ensures,
@@ -52,9 +43,9 @@ returns-in-Err-clause-err g c =
     let opening = c.args.opening.now in
     let stores = (g.D.Desk.told c.args.desk.now).stores in
     let loaded = g.D.Store.Keeper.told c.load_world.new.keeper in
-    let tells = opens_told opening (g.D.Desk.told c.args.desk.now) (g.D.Desk.told c.settings_for.new.desk) (g.D.Store.Keeper.told c.in_ok-store.store) c.in_ok-settings.ensures.asked c.in_ok-store.ensures.store in
-    rows_refused c.in-Err.why c.in_ok-settings.settings opening (g.D.Desk.told c.args.desk.now) (g.D.Desk.told c.store_for.new.desk) (g.D.Desk.told c.close.new.self) loaded c.in_ok-settings.ensures.ok
-    (all_opened opening (g.D.Desk.told c.args.desk.now) (g.D.Desk.told c.settings_for.new.desk) (g.D.Desk.told c.store_for.new.desk) c.in_ok-settings.ensures.asked c.in_ok-store.ensures.asks.is)
+    let tells = c.in_ok-settings.ensures.store.rows in
+    rows_refused c.in-Err.why c.in_ok-settings.settings opening (g.D.Desk.told c.args.desk.now) (g.D.Desk.told c.open_store.new.desk) (g.D.Desk.told c.close.new.self) loaded c.in_ok-settings.ensures.settings
+    c.in_ok-settings.ensures.opened
     (subst (λ k. IfSome stores (λ told. k ≡ Some (opening_rows opening.store told))) (sym c.load_world.ensures.kept) tells)
     c.close.ensures
     (λ e. c.in-Err.ensures.settings (ap Err e))
@@ -64,7 +55,7 @@ returns-in-Err-clause-err g c =
       stored = stored_rows opening.store _ _ b.0 tells b.2;
       breaks = b.3;
     })
-    (λ e. subst (λ n. RoseBy 1 n loaded.faults) c.in_ok-store.ensures.store.fresh (c.in-Err.ensures.failed (ap Err e)))
+    (λ e. subst (λ n. RoseBy 1 n loaded.faults) c.in_ok-settings.ensures.store.fresh (c.in-Err.ensures.failed (ap Err e)))
 
 pub returns-in-Err-clause-cause : goal.returns-in-Err-clause-cause
 returns-in-Err-clause-cause g c = cause_of c.in-Err.why c.args.opening.now _ _ (returns-in-Err-clause-err g c)

@@ -2,7 +2,7 @@ use Rattle.std.proofs.Common.{◌∙◌, ap, arith, refl, subst, sym}
 use Rattle.std.specs.Prelude.{Err, IfSome, Ok}
 use Rattle.keeper_core.specs.Desk.{AreFresh, HandsOut, IsSpent}
 use Rattle.neutron_serve.proofs.ServingLemmas.{none_came, none_passed, none_out, one_passed, served_by}
-use Rattle.neutron_serve.proofs.AskLemmas.{none_after}
+use Rattle.openings.proofs.AskLemmas.{none_after}
 use Rattle.neutron_serve.proofs.serving.serve_next.Goals as goal
 
 pub returns-in-Ok-Some-clause-comes : goal.returns-in-Ok-Some-clause-comes

@@ -1,7 +1,7 @@
 use Rattle.std.proofs.Common.{◌∙◌, ap, inl, inr, refl, subst, sym}
 use Rattle.world_laws.specs.World.{World, first_world}
 use Rattle.neutron_serve.specs.Connections.{Listens, carried}
-use Rattle.neutron_serve.specs.Openings.{is_manual}
+use Rattle.neutron_serve.specs.Runs.{is_manual}
 use Rattle.neutron_serve.proofs.OpeningLemmas.{opened_out, served_closed}
 use Rattle.neutron_serve.proofs.ServingLemmas.{listened_stores}
 use Rattle.neutron_serve.proofs.StatusLemmas.{bad_settings, broken_rows, desk_rose, listening_serves, not_listening, served_rose, unopened_serving}

@@ -2,7 +2,7 @@ use Rattle.std.proofs.Common.{◌∙◌, inl, inr, refl, subst, sym}
 use Rattle.http_session.specs.Serves.{scene}
 use Rattle.world_laws.specs.World.{World}
 use Rattle.neutron_serve.specs.Promises.{Promises}
-use Rattle.neutron_serve.proofs.OpeningLemmas.{session_closed}
+use Rattle.openings.proofs.OpeningLemmas.{store_closed}
 use Rattle.neutron_serve.proofs.StatusLemmas.{bad_settings, broken_rows, desk_rose, ended_read, ended_write, not_ended, not_unopened}
 use Rattle.neutron_serve.specs.declared.status.Status.TheVariants as status
 use Rattle.neutron_serve.proofs.top.run_session.Goals as goal
@@ -27,7 +27,7 @@ returns-in-Ok-clause-runs g c =
             (scene w first (g.D.In.Source.told c.args.input.now) (g.D.Out.Sink.told c.args.output.now))
             (scene end.new.world after (g.D.In.Source.told end.new.input) (g.D.Out.Sink.told end.new.output)) end.result)
             o.3 end.ensures.promises;
-        closed = session_closed c.args.opening.now (g.D.Desk.told c.args.desk.now) (g.D.Desk.told c.open.new.desk) (g.D.Desk.told c.close.new.self) first after end.new.world.history.rows c.in-Ok.ensures.opened c.in-Ok.ensures.told end.ensures.kept c.close.ensures;
+        closed = store_closed c.args.opening.now (g.D.Desk.told c.args.desk.now) (g.D.Desk.told c.open.new.desk) (g.D.Desk.told c.close.new.self) first after end.new.world.history.rows c.in-Ok.ensures.opened c.in-Ok.ensures.told end.ensures.kept c.close.ensures;
       },
     )
 

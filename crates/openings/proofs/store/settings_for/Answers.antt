@@ -1,9 +1,9 @@
 use Rattle.std.proofs.Common.{rules, sym, subst}
 use Rattle.std.proofs.lemmas.Result.{err_from_is_err_and}
 use Rattle.keeper_core.specs.Desk.{AreNamed}
-use Rattle.neutron_serve.specs.Openings.{AreSettings, by_settings}
-use Rattle.neutron_serve.proofs.OpeningLemmas.{settings_given, settings_refused, settings_unread, settings_unmade}
-use Rattle.neutron_serve.proofs.opening.settings_for.Goals as goal
+use Rattle.openings.specs.Openings.{AreSettings, by_settings}
+use Rattle.openings.proofs.OpeningLemmas.{settings_given, settings_refused, settings_unread, settings_unmade}
+use Rattle.openings.proofs.store.settings_for.Goals as goal
 
 pub returns-in_err-default_settings-clause-err : goal.returns-in_err-default_settings-clause-err
 returns-in_err-default_settings-clause-err g c =

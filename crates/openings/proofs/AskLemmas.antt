@@ -2,7 +2,7 @@
 use Rattle.std.proofs.Common.{◌≡◌, ◌∙◌, ◌++◌, List, [], Option, None, Some, ap, refl, sym}
 use Rattle.std.proofs.lemmas.List.{append-nil, append_assoc}
 use Rattle.keeper_core.specs.declared.ask.DeskAsk.{DeskAsk}
-use Rattle.neutron_serve.specs.Openings.{AsksFirst, with_asks}
+use Rattle.openings.specs.Openings.{AsksFirst, with_asks}
 
 pub none_after : (o : Option (List DeskAsk)) → o ≡ with_asks [] o
 none_after None = refl

@@ -1,12 +1,10 @@
 -- What a run starts from: settings, and the rows that a store keeps; or why it starts from
 -- nothing.
-use Rattle.std.specs.Prelude.{◌≡◌, ◌⊎◌, Bool, true, false, List, [], ◌∷◌, ◌++◌, Option, Some, None, Ok, Err, IfSome, is_some, option_map, ⊤}
+use Rattle.std.specs.Prelude.{◌≡◌, ◌⊎◌, ℕ, ◌+◌, ◌-◌, ◌^◌, true, List, [], ◌∷◌, ◌++◌, Option, Some, None, Ok, Err, IfSome, is_some, min, option_map, ⊤}
 use Rattle.net_addr.specs.Words.{Bytes, Text}
 use Rattle.api_check.specs.FirstBroken.{first_broken_of}
 use Rattle.api_check.specs.declared.broken.Inconsistent.{Inconsistent}
 use Rattle.api_types.specs.RowLists.{RowLists}
-use Rattle.command_lines.specs.declared.line.Delivery.{Delivery}
-use Rattle.command_lines.specs.declared.line.Delivery.TheVariants.{Automatic, Manual}
 use Rattle.command_lines.specs.declared.line.Opening.{Opening}
 use Rattle.keeper_core.specs.Counts.{RoseBy}
 use Rattle.keeper_core.specs.Desk.{AreNamed, DeskTold, Stores, closed_as, opened_as, opening_rows}
@@ -15,19 +13,13 @@ use Rattle.keeper_core.specs.declared.ask.DeskAsk.TheVariants.{Settings, Store}
 use Rattle.keeper_core.specs.declared.named.Named.{Named}
 use Rattle.keeper_core.specs.declared.refusal.OutsideRefusal.{OutsideRefusal}
 use Rattle.keeper_core.specs.declared.refusal.OutsideRefusal.TheVariants as outside
-use Rattle.lab_world.specs.declared.opening.OpenRefusal.{OpenRefusal}
-use Rattle.lab_world.specs.declared.opening.OpenRefusal.TheVariants as world
 use Rattle.net_settings.specs.Defaults.{default_parts}
 use Rattle.net_settings.specs.Document.{settings_of}
 use Rattle.net_settings.specs.Settings.{SettingsParts}
 use Rattle.net_settings.specs.declared.refusal.SettingsRefusal.{SettingsRefusal}
 use Rattle.net_settings.specs.declared.refusal.SettingsRefusal.TheVariants as settings
-use Rattle.neutron_serve.specs.declared.opening.Unopened.{Unopened}
-use Rattle.neutron_serve.specs.declared.opening.Unopened.TheVariants.{BadSettings, Inconsistent as BrokenRows, Failed, OutOfMemory}
-
-abbrev pub is_manual : Delivery → Bool
-is_manual Automatic = false
-is_manual Manual = true
+use Rattle.openings.specs.declared.unopened.Unopened.{Unopened}
+use Rattle.openings.specs.declared.unopened.Unopened.TheVariants.{BadSettings, Inconsistent as BrokenRows, Failed, OutOfMemory}
 
 -- ---- what is asked
 
@@ -69,7 +61,7 @@ AreBadSettings files (Some name) =
 abbrev pub AreStored : Option Stores → Option Text → RowLists → Type 0
 AreStored stores name rows = IfSome stores (λ told. rows ≡ opening_rows name told)
 
--- settings and rows with which a world is opened: they break no clause of consistency
+-- settings and rows to begin with: they break no clause of consistency
 pub record Opens {P : Type 0} (opening : Opening) (settings : SettingsParts) (rows : RowLists)
     (desk : DeskTold P) : Type 0 where
   pub spelled : AreSettings desk.files opening.settings settings
@@ -89,6 +81,23 @@ pub record AreBroken {P : Type 0} (opening : Opening) (desk : DeskTold P) : Type
   pub settings : SettingsParts
   pub spelled : AreSettings desk.files opening.settings settings
   pub breaks : RowsBreak opening settings desk
+
+-- ---- what is opened
+
+-- the desk once settings and store were asked for and the store is open, with this count of faults
+abbrev pub with_opening : {P : Type 0} → Opening → ℕ → DeskTold P → DeskTold P
+with_opening opening faults desk = record desk {
+  asks = with_asks (opening_asks opening) desk.asks;
+  stores = option_map (opened_as opening.store) desk.stores;
+  faults = faults;
+}
+
+-- the desk once that store is closed with these rows, and so many faults of it are counted
+abbrev pub with_closing : {P : Type 0} → Opening → RowLists → ℕ → DeskTold P → DeskTold P
+with_closing opening rows counted desk = record desk {
+  stores = option_map (closed_as (Some opening.store) rows) desk.stores;
+  store_faults = min (desk.store_faults + counted) (2 ^ 64 - 1);
+}
 
 -- ---- why nothing is opened
 
@@ -121,7 +130,7 @@ pub record EndsAtSettings {P : Type 0} (why : Unopened) (opening : Opening) (old
   pub asks : AreMade why (settings_asks opening.settings) old.asks new.asks
   pub stays : new ≡ record old { asks = new.asks; faults = new.faults }
 
--- why there is no world under these settings: the desk or the store failed, the rows break a
+-- why there are no rows under these settings: the desk or the store failed, the rows break a
 -- clause, or memory ran out
 abbrev pub IsStoreCause : {P : Type 0} → Unopened → SettingsParts → Opening → DeskTold P
     → DeskTold P → Type 0
@@ -174,7 +183,3 @@ by_desk outside.OutOfMemory = OutOfMemory
 abbrev pub by_settings : SettingsRefusal → Unopened
 by_settings (settings.BadSettings key) = BadSettings
 by_settings settings.OutOfMemory = OutOfMemory
-
-abbrev pub by_world : OpenRefusal → Unopened
-by_world (world.Inconsistent rule kind id) = BrokenRows
-by_world world.OutOfMemory = OutOfMemory
