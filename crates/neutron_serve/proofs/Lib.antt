@@ -11,3 +11,4 @@ pub mod Naming
 pub mod Promising
 pub mod Replying
 pub mod SaidValues
+pub mod Sparing

@@ -38,6 +38,7 @@ use Rattle.neutron_serve.specs.Requests.{asked_by, by_caller, caller_of, request
 use Rattle.neutron_serve.specs.Steps.{Steps, fixed_replies, request_outcome}
 use Rattle.neutron_serve.proofs.InForm.{asked_in_form, caller_named_asks}
 use Rattle.neutron_serve.proofs.Naming.{name_there}
+use Rattle.neutron_serve.proofs.Sparing.{ask_spares}
 
 -- ---- what is read of a request
 
@@ -149,6 +150,7 @@ step_promised old new asked reply world s = record {
   apart = λ caller ask is tenant other consistent one same.
       s.replies ∙ ap (λ r. outcome_bytes (closes asked.head) (request_outcome old r)) is
       ∙ told_apart old other caller ask (closes asked.head) (formed asked caller ask is).named world tenant consistent one same;
+  others = λ caller ask is tenant. ask_spares caller ask old new tenant (formed asked caller ask is).named world (subst (λ r. MovesBy old (request_outcome old r) new) is s.moves);
   refused = stays old new (request_outcome old (request_of asked)) s.moves;
 }
 

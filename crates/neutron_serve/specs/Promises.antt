@@ -1,15 +1,16 @@
 -- What a session promises. Begin here.
 --
 -- Whole requests are answered once each, in order, each by one whole reply (`Serves`). When the
--- store fails to keep a change, or memory runs out, the reply says so and nothing has changed;
--- any reply may be replaced by one that says out of memory. Each other request is promised what
--- follows. The reply and the rows are those of the machine of the Networking API. A tenant's
--- reply depends only on its footing. After any messages that hosts missed, got twice or lost in a
--- restart, whenever every host has the current version, each frame that is sent through the
--- tables has exactly the outcome, path and tracked entries that the rows give. Two laws of frames
--- hold then: a frame crosses between networks only at routers, and ends on the last network of
--- its path; a secured port lets in and out only what its groups and its guard allow, and answers
--- to that. In automatic delivery every host has that version until one is restarted.
+-- store fails to keep a change, or memory runs out, the reply says so and nothing has changed; any
+-- reply may be replaced by one that says out of memory. Each other request is promised what
+-- follows. The reply and the rows are those of the machine of the Networking API. A tenant's reply
+-- depends only on its footing, and its request leaves what others own alone. After any messages
+-- that hosts missed, got twice or lost in a restart, whenever every host has the current version,
+-- each frame that is sent through the tables has exactly the outcome, path and tracked entries
+-- that the rows give. Two laws of frames hold then: a frame crosses between networks only at
+-- routers, and ends on the last network of its path; a secured port lets in and out only what its
+-- groups and its guard allow, and answers to that. In automatic delivery every host has that
+-- version until one is restarted.
 use Rattle.std.specs.Prelude.{◌≡◌, ℕ, ◌+◌, ◌≤◌, Bool, true, false, List, Ok, None, Some, map}
 use Rattle.net_addr.specs.Words.{Bytes, Text, Version}
 use Rattle.api_types.specs.Consistent.{IsConsistent}
@@ -34,6 +35,7 @@ use Rattle.world_laws.specs.Steps.{Send, step}
 use Rattle.world_laws.specs.World.{IsSynced, World, hosts_of}
 use Rattle.lab_world.specs.Lab.{Answered, Barred, event_refusal}
 use Rattle.lab_world.specs.World.{AskOutcome, ByLab, ByMachine, ask_outcome, state_of}
+use Rattle.owner_laws.specs.Others.{OthersStay}
 use Rattle.http_heads.specs.Fields.{closes}
 use Rattle.http_heads.specs.Heads.{Asked}
 use Rattle.http_session.specs.Serves.{Scene, Serves}
@@ -121,6 +123,12 @@ pub record Promised (old : World) (asked : Asked) (reply : Bytes) (new : World) 
       → (other : World) → IsConsistent other.history.rows → other.settings ≡ old.settings
       → footing other.settings (state_of other) caller ≡ footing old.settings (state_of old) caller
       → reply ≡ outcome_bytes (closes asked.head) (ask_outcome other caller ask)
+  -- a tenant's request leaves what others own alone, but that a policy goes with its network, a
+  -- port may go from a network of the tenant's, and a floating address whose port went leads
+  -- nowhere
+  pub others : (caller : Caller) (ask : Ask) → request_of asked ≡ Ok (caller, ask)
+      → caller.admin ≡ false
+      → OthersStay caller.project old.history.rows new.history.rows
   -- a refusal leaves all as it was
   pub refused : is_refusal (request_outcome old (request_of asked)) ≡ true → new ≡ old
 

@@ -16,10 +16,11 @@ use std::alloc::Global;
 /// At most `limit` bytes are read. A buffer of 81,920 bytes, which the longest request fills, is
 /// taken first. What is promised of each request stands in specs/Promises: it is answered by the
 /// step of the API or of the lab, whenever every host holds the current version frames come to
-/// what the rows say, and a tenant's reply depends on its footing alone. Each reply is flushed
-/// before more is read. An accepted change is in the rows and in the kept rows, or the reply says
-/// that the store failed or that memory ran out, and nothing changed. Bytes that are refused have
-/// their reply, and a reply that closes the connection is the last one.
+/// what the rows say, a tenant's reply depends on its footing alone, and its request leaves what
+/// others own alone. Each reply is flushed before more is read. An accepted change is in the rows
+/// and in the kept rows, or the reply says that the store failed or that memory ran out, and
+/// nothing changed. Bytes that are refused have their reply, and a reply that closes the connection
+/// is the last one.
 ///
 /// A request's cost grows with its bytes, in whatever pieces they come, with its reply, and with
 /// the rows.

@@ -68,6 +68,11 @@ spares_all project old new same = record {
   floatings = record { freed = λ f. false; left = same.floatings ∙ none_freed (of_others (λ r. r.project) project old.floatings); lost = λ k f at. refl };
 }
 
+-- where nothing changes, it stays
+pub others_stay_refl : (project : List ℕ) (rows : RowLists) → OthersStay project rows rows
+others_stay_refl project rows =
+    spares_all project rows rows (record { projects = refl; networks = refl; subnets = refl; groups = refl; rules = refl; routers = refl; policies = refl; floatings = refl; ports = refl })
+
 abbrev pub others : {R : Type 0} → (R → List ℕ) → List ℕ → R → Bool
 others owner_of project r = not (bytes_eq (owner_of r) project)
 
