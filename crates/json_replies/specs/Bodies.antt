@@ -1,6 +1,6 @@
 -- What each reply prints (OpenStack API reference, Networking API v2.0; the lab's replies are this
 -- server's own).
-use Rattle.std.specs.Prelude.{ℕ, Bool, [], ◌∷◌, map, codes, Option, Some, None}
+use Rattle.std.specs.Prelude.{ℕ, Bool, List, [], ◌∷◌, map, codes, Option, Some, None}
 use Rattle.net_addr.specs.Words.{Bytes, Text}
 use Rattle.api_types.specs.Printed.{Tree, truth, number, word, NamedTree, ShownRow, OneRow, ManyRows, NewRow, NoRow, InterfaceRow, reply_of}
 use Rattle.api_types.specs.Printed as answered
@@ -12,6 +12,7 @@ use Rattle.plane_types.specs.declared.ask.LabAnswer.{LabAnswer}
 use Rattle.plane_types.specs.declared.ask.LabAnswer.TheVariants.{Seen, Told, Hosts, Tables, Version, Change, Page}
 use Rattle.plane_types.specs.declared.ask.Reply.{Reply}
 use Rattle.plane_types.specs.declared.ask.Reply.TheVariants.{Done, LabDone, Refused}
+use Rattle.plane_types.specs.declared.verdict.Verdict.{Verdict}
 use Rattle.json_replies.specs.Printed.{fields, list, or_null, body_text}
 use Rattle.json_replies.specs.Verdicts.{verdict_tree, heard_tree}
 use Rattle.json_replies.specs.Tables.{tables_tree}
@@ -47,6 +48,11 @@ abbrev pub page_tree : ℕ → ℕ → Bool → Tree
 page_tree version n last = fields (
     (codes "last", truth last) ∷ (codes "number", number n) ∷ (codes "version", number version)
     ∷ [])
+
+-- a verdict, with the hosts that handled its event
+abbrev pub handled_tree : List Text → Verdict → Tree
+handled_tree hosts verdict =
+    fields ((codes "hosts", list (map word hosts)) ∷ (codes "verdict", verdict_tree verdict) ∷ [])
 
 abbrev pub lab_tree : LabAnswer → Tree
 lab_tree (Seen verdict) = only (codes "verdict") (verdict_tree verdict)

@@ -3,3 +3,4 @@ pub mod Frames
 pub mod Verdicts
 pub mod Tables
 pub mod Bodies
+pub mod Straight

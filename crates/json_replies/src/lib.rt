@@ -5,11 +5,13 @@
 //! `plane_types`, `neutron_http` and `serde_json`, whose own words its definitions cite.
 #![tactic(auto)]
 
+mod ascending;
 mod frame;
 mod printed;
 mod reply;
+mod sending;
 mod table;
 mod verdict;
 mod word;
 
-pub use reply::write_reply;
+pub use reply::{write_handled, write_reply};

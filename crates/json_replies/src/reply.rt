@@ -4,14 +4,15 @@ ghost use Rattle.serde_json.specs.Written.{compact_text};
 ghost use Rattle.api_types.specs.Printed.{shown_row, reply_of};
 ghost use Rattle.api_types.specs.Titles.{resource_of, collection_of};
 ghost use Rattle.json_replies.specs.Printed.{tree_data, body_text};
-ghost use Rattle.json_replies.specs.Bodies.{only, row_tree, answer_tree, host_tree, version_tree, change_tree, page_tree, lab_tree, words_tree, fault_tree, body_of};
+ghost use Rattle.json_replies.specs.Bodies.{only, row_tree, answer_tree, host_tree, version_tree, change_tree, page_tree, lab_tree, words_tree, fault_tree, handled_tree, body_of};
 
 use crate::frame::put;
 use crate::printed::{Prints, members_of};
+use crate::sending::{Sends, write_shown};
 use api_types::{Answer, Refusal, Shown};
-use net_addr::{Bytes, OutOfMemory};
+use net_addr::{Bytes, Names, OutOfMemory};
 use neutron_http::{Fault, fault_of};
-use plane_types::{HostState, LabAnswer, Reply};
+use plane_types::{HostState, LabAnswer, Reply, Verdict};
 use serde_json::{Map, Value};
 use std::alloc::Global;
 
@@ -34,18 +35,18 @@ impl Prints for HostState {
     }
 }
 
-// A value as the text of a body.
-fn text<T: Prints>(alloc: Global, value: &T) -> Result<Bytes, OutOfMemory>
+/// A value as the text of a body.
+pub(crate) fn text<T: Prints>(alloc: Global, value: &T) -> Result<Bytes, OutOfMemory>
     ensures { IfOk result (λ b. b ≡ compact_text (tree_data (T.tree value.now))) }
 {
     Ok(Bytes::from_vec(value.value(alloc)?.to_vec(alloc)?))
 }
 
-// A body with one member.
+/// A body with one member.
 #[derive(Drop)]
-struct OneMember<'a, T> {
-    name: &'static str,
-    value: &'a T,
+pub(crate) struct OneMember<'a, T> {
+    pub(crate) name: &'static str,
+    pub(crate) value: &'a T,
 }
 
 impl<'a, T: Prints> Prints for OneMember<'a, T> {
@@ -65,16 +66,23 @@ fn only<T: Prints>(alloc: Global, name: &'static str, value: &T) -> Result<Bytes
     text(alloc, &OneMember { name, value })
 }
 
+// The text of a body whose one member is shown.
+fn show<T: Sends>(alloc: Global, name: &'static str, value: &T) -> Result<Bytes, OutOfMemory>
+    ensures { IfOk result (λ b. b ≡ compact_text (tree_data (only name.now (T.tree value.now)))) }
+{
+    write_shown(alloc, &OneMember { name, value })
+}
+
 // The body of an answer.
 fn answered(alloc: Global, answer: &Answer) -> Result<Bytes, OutOfMemory>
     ensures { IfOk result (λ b. b ≡ body_text (answer_tree (reply_of answer.now))) }
 {
     match answer {
-        Answer::One(row) => only(alloc, row.kind.resource(), row),
-        Answer::Many { kind, rows } => only(alloc, kind.collection(), rows),
-        Answer::Created(row) => only(alloc, row.kind.resource(), row),
+        Answer::One(row) => show(alloc, row.kind.resource(), row),
+        Answer::Many { kind, rows } => show(alloc, kind.collection(), rows),
+        Answer::Created(row) => show(alloc, row.kind.resource(), row),
         Answer::Gone => Ok(Bytes::from_vec(Vec::new(alloc))),
-        Answer::Interface(row) => text(alloc, row),
+        Answer::Interface(row) => write_shown(alloc, row),
     }
 }
 
@@ -208,4 +216,30 @@ pub fn write_reply(alloc: Global, reply: &Reply) -> Result<Bytes, OutOfMemory>
         Reply::LabDone(answer) => seen(alloc, answer),
         Reply::Refused(refusal) => refused(alloc, refusal),
     }
+}
+
+// A verdict, and the hosts that handled its event.
+#[derive(Drop)]
+struct HandledVerdict<'a> {
+    hosts: &'a Names,
+    verdict: &'a Verdict,
+}
+
+impl<'a> Prints for HandledVerdict<'a> {
+    ghost tree = { λ h. handled_tree h.hosts.now h.verdict.now };
+
+    fn value(&self, alloc: Global) -> Result<Value, OutOfMemory> {
+        let mut map = Map::new(alloc);
+        put(&mut map, alloc, "hosts", self.hosts)?;
+        put(&mut map, alloc, "verdict", self.verdict)?;
+        Ok(Value::Object(map))
+    }
+}
+
+/// A verdict with the names of the hosts that handled its event, as one object. Its cost grows with
+/// what is printed.
+pub fn write_handled(alloc: Global, hosts: &Names, verdict: &Verdict) -> Result<Bytes, OutOfMemory>
+    ensures { IfOk result (λ b. b ≡ compact_text (tree_data (handled_tree hosts.now verdict.now))) }
+{
+    text(alloc, &HandledVerdict { hosts, verdict })
 }

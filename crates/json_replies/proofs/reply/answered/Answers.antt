@@ -8,4 +8,4 @@ use Rattle.json_replies.proofs.reply.answered.Goals as goal
 
 pub returns-in-Many : goal.returns-in-Many
 returns-in-Many c =
-    IfOk-weaker c.only-in-Many.result _ _ (λ b h. h ∙ many_rows c.in-Many.kind c.in-Many.rows _ c.collection.ensures ∙ ap (λ a. body_text (answer_tree (reply_of a))) (sym c.in-Many.is)) c.only-in-Many.ensures
+    IfOk-weaker c.show-in-Many.result _ _ (λ b h. h ∙ many_rows c.in-Many.kind c.in-Many.rows _ c.collection.ensures ∙ ap (λ a. body_text (answer_tree (reply_of a))) (sym c.in-Many.is)) c.show-in-Many.ensures
