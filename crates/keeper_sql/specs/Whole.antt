@@ -1,7 +1,7 @@
 -- A change of a database: all of it or none, over crashes too (SQLite, "Atomic Commit In SQLite").
 -- What a connection shows, what a statement does to it and what a crash may leave is defined by
 -- `State` of the crate `sqlite`.
-use Rattle.std.specs.Prelude.{◌≡◌, ℕ, zero, suc, IsTrue, true, OnErr, OnOk, Ok, Result}
+use Rattle.std.specs.Prelude.{◌≡◌, ℕ, zero, suc, true, IsTrue, OnErr, OnOk, Ok, Result}
 use Rattle.net_addr.specs.Words.{Text}
 use Rattle.sqlite.specs.Held.{Held, state}
 use Rattle.sqlite.specs.Order.{Row}

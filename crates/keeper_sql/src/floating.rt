@@ -9,7 +9,8 @@ use crate::stored::Stored;
 use crate::trouble::Trouble;
 use api_types::{FloatingRow, Id, Target};
 use net_addr::{Addr4, OutOfMemory, Text};
-use sqlite::{Alter, Row, Transaction, params};
+use sqlite::types::{ToSql, ValueRef};
+use sqlite::{Alter, Row, Transaction};
 use std::alloc::Global;
 
 const UPSERT: &str = "INSERT INTO floating_ips (id, project_id, description, floating_network_id,
@@ -67,6 +68,21 @@ fn floating_texts(alloc: Global, row: &FloatingRow) -> Result<FloatingTexts, Out
     })
 }
 
+// The columns' values.
+fn values<'r>(row: &'r FloatingRow, texts: &'r FloatingTexts) -> [ValueRef<'r>; 9] {
+    [
+        texts.id.as_str().to_sql(),
+        row.project.as_str().to_sql(),
+        row.description.as_str().to_sql(),
+        texts.network.as_str().to_sql(),
+        texts.own_port.as_str().to_sql(),
+        texts.address.as_str().to_sql(),
+        texts.target.port.as_ref().map(Text::as_str).to_sql(),
+        texts.target.fixed.as_ref().map(Text::as_str).to_sql(),
+        texts.target.router.as_ref().map(Text::as_str).to_sql(),
+    ]
+}
+
 /// Replaces the row with its id, or adds it last.
 pub(crate) fn write<S: Alter>(
     alloc: Global,
@@ -78,21 +94,7 @@ pub(crate) fn write<S: Alter>(
     ensures ran { OnOk result (Runs S.Store to.old.conn.now to.new.conn.now) }
 {
     let texts = floating_texts(alloc, row)?;
-    execute(
-        to,
-        UPSERT,
-        params![
-            texts.id.as_str(),
-            row.project.as_str(),
-            row.description.as_str(),
-            texts.network.as_str(),
-            texts.own_port.as_str(),
-            texts.address.as_str(),
-            texts.target.port.as_ref().map(Text::as_str),
-            texts.target.fixed.as_ref().map(Text::as_str),
-            texts.target.router.as_ref().map(Text::as_str),
-        ],
-    )
+    execute(to, UPSERT, &values(row, &texts))
 }
 
 // An association has all three columns, and none has none.

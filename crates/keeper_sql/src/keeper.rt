@@ -36,27 +36,44 @@ impl<S: Alter> Model for SqlKeeper<S> {
     ghost view = { λ k. record { conn = k.conn; faults = k.faults } };
 }
 
-// All rows, in the order of their kinds.
-fn read_kinds<S: Alter>(alloc: Global, from: &mut Transaction<'_, S>) -> Result<Rows, Trouble> {
+// Adds all rows, in the order of their kinds.
+fn read_kinds<S: Alter>(
+    alloc: Global,
+    from: &mut Transaction<'_, S>,
+    rows: &mut Rows,
+) -> Result<(), Trouble> {
+    read_all::<ProjectRow, Rows, S>(alloc, from, rows)?;
+    read_all::<NetworkRow, Rows, S>(alloc, from, rows)?;
+    read_all::<SubnetRow, Rows, S>(alloc, from, rows)?;
+    read_all::<PortRow, Rows, S>(alloc, from, rows)?;
+    read_all::<GroupRow, Rows, S>(alloc, from, rows)?;
+    read_all::<RuleRow, Rows, S>(alloc, from, rows)?;
+    read_all::<RouterRow, Rows, S>(alloc, from, rows)?;
+    read_all::<FloatingRow, Rows, S>(alloc, from, rows)?;
+    read_all::<PolicyRow, Rows, S>(alloc, from, rows)
+}
+
+// The rows of a store of the current format.
+fn read_current<S: Alter>(alloc: Global, from: &mut Transaction<'_, S>) -> Result<Rows, Trouble> {
     let mut rows = Rows::empty(alloc)?;
-    read_all::<ProjectRow, Rows, S>(alloc, from, &mut rows)?;
-    read_all::<NetworkRow, Rows, S>(alloc, from, &mut rows)?;
-    read_all::<SubnetRow, Rows, S>(alloc, from, &mut rows)?;
-    read_all::<PortRow, Rows, S>(alloc, from, &mut rows)?;
-    read_all::<GroupRow, Rows, S>(alloc, from, &mut rows)?;
-    read_all::<RuleRow, Rows, S>(alloc, from, &mut rows)?;
-    read_all::<RouterRow, Rows, S>(alloc, from, &mut rows)?;
-    read_all::<FloatingRow, Rows, S>(alloc, from, &mut rows)?;
-    read_all::<PolicyRow, Rows, S>(alloc, from, &mut rows)?;
+    read_kinds(alloc, from, &mut rows)?;
     Ok(rows)
 }
 
-// The rows of a store, which is of the format of today after it.
+// The rows of a store, which is of the current format after it.
 fn read_format<S: Alter>(alloc: Global, from: &mut Transaction<'_, S>) -> Result<Rows, Trouble> {
     match make_tables(from)? {
         Format::One => migrate_store(alloc, from),
-        Format::Two => read_kinds(alloc, from),
+        Format::Two => read_current(alloc, from),
     }
+}
+
+// The rows, and the end of the transaction in which they are read.
+fn read_in<S: Alter>(alloc: Global, transaction: Transaction<'_, S>) -> Result<Rows, Trouble> {
+    let mut from = transaction;
+    let rows = read_format(alloc, &mut from)?;
+    from.commit()?;
+    Ok(rows)
 }
 
 // The rows, of one transaction, which makes the tables where there are none, and writes those of a
@@ -66,10 +83,7 @@ fn read_rows<S: Alter>(alloc: Global, conn: &mut Connection<S>) -> Result<Rows, 
         // (SQLite refuses a second BEGIN)
         return Err(Trouble::Fault);
     }
-    let mut from = conn.transaction();
-    let rows = read_format(alloc, &mut from)?;
-    from.commit()?;
-    Ok(rows)
+    read_in(alloc, conn.transaction())
 }
 
 // Counts a fault, but not running out of memory.

@@ -9,7 +9,8 @@ use crate::stored::Stored;
 use crate::trouble::Trouble;
 use api_types::{NetworkRow, Segment};
 use net_addr::Text;
-use sqlite::{Alter, Row, Transaction, params};
+use sqlite::types::{ToSql, ValueRef};
+use sqlite::{Alter, Row, Transaction};
 use std::alloc::Global;
 
 const UPSERT: &str = "INSERT INTO networks (id, project_id, name, description, admin_state_up,
@@ -34,6 +35,21 @@ fn parts(segment: &Segment) -> (&'static str, Option<&str>, Option<u32>) {
     }
 }
 
+// The columns' values.
+fn values<'r>(row: &'r NetworkRow, id: &'r Text) -> [ValueRef<'r>; 8] {
+    let (kind, physical, number) = parts(&row.segment);
+    [
+        id.as_str().to_sql(),
+        row.project.as_str().to_sql(),
+        row.name.as_str().to_sql(),
+        row.description.as_str().to_sql(),
+        row.up.to_sql(),
+        kind.to_sql(),
+        physical.to_sql(),
+        number.to_sql(),
+    ]
+}
+
 /// Replaces the row with its id, or adds it last.
 pub(crate) fn write<S: Alter>(
     alloc: Global,
@@ -45,21 +61,7 @@ pub(crate) fn write<S: Alter>(
     ensures ran { OnOk result (Runs S.Store to.old.conn.now to.new.conn.now) }
 {
     let id = row.id.print(alloc)?;
-    let (kind, physical, number) = parts(&row.segment);
-    execute(
-        to,
-        UPSERT,
-        params![
-            id.as_str(),
-            row.project.as_str(),
-            row.name.as_str(),
-            row.description.as_str(),
-            row.up,
-            kind,
-            physical,
-            number,
-        ],
-    )
+    execute(to, UPSERT, &values(row, &id))
 }
 
 fn tag_of(number: u32) -> Result<u16, Trouble> {

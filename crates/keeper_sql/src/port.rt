@@ -10,7 +10,8 @@ use crate::stored::Stored;
 use crate::trouble::Trouble;
 use api_types::{PortRow, Vif};
 use net_addr::{OutOfMemory, Text};
-use sqlite::{Alter, Row, Transaction, params};
+use sqlite::types::{ToSql, ValueRef};
+use sqlite::{Alter, Row, Transaction};
 use std::alloc::Global;
 
 const UPSERT: &str = "INSERT INTO ports (id, project_id, network_id, name, description,
@@ -69,6 +70,28 @@ fn port_texts(alloc: Global, row: &PortRow) -> Result<PortTexts, OutOfMemory> {
     })
 }
 
+// The columns' values.
+fn values<'r>(row: &'r PortRow, texts: &'r PortTexts) -> [ValueRef<'r>; 16] {
+    [
+        texts.id.as_str().to_sql(),
+        row.project.as_str().to_sql(),
+        texts.network.as_str().to_sql(),
+        row.name.as_str().to_sql(),
+        row.description.as_str().to_sql(),
+        row.up.to_sql(),
+        texts.mac.as_str().to_sql(),
+        texts.fixed.as_str().to_sql(),
+        texts.pairs.as_str().to_sql(),
+        row.secured.to_sql(),
+        texts.groups.as_str().to_sql(),
+        row.device.as_str().to_sql(),
+        row.owner.as_str().to_sql(),
+        row.host.as_str().to_sql(),
+        vif_word(row.vif).to_sql(),
+        row.by_admin.to_sql(),
+    ]
+}
+
 /// Replaces the row with its id, or adds it last.
 pub(crate) fn write<S: Alter>(
     alloc: Global,
@@ -80,28 +103,7 @@ pub(crate) fn write<S: Alter>(
     ensures ran { OnOk result (Runs S.Store to.old.conn.now to.new.conn.now) }
 {
     let texts = port_texts(alloc, row)?;
-    execute(
-        to,
-        UPSERT,
-        params![
-            texts.id.as_str(),
-            row.project.as_str(),
-            texts.network.as_str(),
-            row.name.as_str(),
-            row.description.as_str(),
-            row.up,
-            texts.mac.as_str(),
-            texts.fixed.as_str(),
-            texts.pairs.as_str(),
-            row.secured,
-            texts.groups.as_str(),
-            row.device.as_str(),
-            row.owner.as_str(),
-            row.host.as_str(),
-            vif_word(row.vif),
-            row.by_admin,
-        ],
-    )
+    execute(to, UPSERT, &values(row, &texts))
 }
 
 impl Stored for PortRow {

@@ -10,7 +10,8 @@ use crate::stored::Stored;
 use crate::trouble::Trouble;
 use api_types::{Gateway, Id, RouterRow};
 use net_addr::{OutOfMemory, Text};
-use sqlite::{Alter, Row, Transaction, params};
+use sqlite::types::{ToSql, ValueRef};
+use sqlite::{Alter, Row, Transaction};
 use std::alloc::Global;
 
 const UPSERT: &str = "INSERT INTO routers (id, project_id, name, description, admin_state_up, host,
@@ -64,6 +65,22 @@ fn router_texts(alloc: Global, row: &RouterRow) -> Result<RouterTexts, OutOfMemo
     })
 }
 
+// The columns' values.
+fn values<'r>(row: &'r RouterRow, texts: &'r RouterTexts) -> [ValueRef<'r>; 10] {
+    [
+        texts.id.as_str().to_sql(),
+        row.project.as_str().to_sql(),
+        row.name.as_str().to_sql(),
+        row.description.as_str().to_sql(),
+        row.up.to_sql(),
+        row.host.as_ref().map(Text::as_str).to_sql(),
+        texts.gateway.network.as_ref().map(Text::as_str).to_sql(),
+        texts.gateway.port.as_ref().map(Text::as_str).to_sql(),
+        texts.gateway.snat.to_sql(),
+        texts.routes.as_str().to_sql(),
+    ]
+}
+
 /// Replaces the row with its id, or adds it last.
 pub(crate) fn write<S: Alter>(
     alloc: Global,
@@ -75,22 +92,7 @@ pub(crate) fn write<S: Alter>(
     ensures ran { OnOk result (Runs S.Store to.old.conn.now to.new.conn.now) }
 {
     let texts = router_texts(alloc, row)?;
-    execute(
-        to,
-        UPSERT,
-        params![
-            texts.id.as_str(),
-            row.project.as_str(),
-            row.name.as_str(),
-            row.description.as_str(),
-            row.up,
-            row.host.as_ref().map(Text::as_str),
-            texts.gateway.network.as_ref().map(Text::as_str),
-            texts.gateway.port.as_ref().map(Text::as_str),
-            texts.gateway.snat,
-            texts.routes.as_str(),
-        ],
-    )
+    execute(to, UPSERT, &values(row, &texts))
 }
 
 /// The gateway that the columns spell: all three are there, or none.

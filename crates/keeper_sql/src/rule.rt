@@ -9,7 +9,8 @@ use crate::stored::Stored;
 use crate::trouble::Trouble;
 use api_types::{Direction, Ethertype, Id, RuleRow};
 use net_addr::{OutOfMemory, Prefix, Text};
-use sqlite::{Alter, Row, Transaction, params};
+use sqlite::types::{ToSql, ValueRef};
+use sqlite::{Alter, Row, Transaction};
 use std::alloc::Global;
 
 const UPSERT: &str = "INSERT INTO security_group_rules (id, project_id, security_group_id,
@@ -90,6 +91,23 @@ fn rule_texts(alloc: Global, row: &RuleRow) -> Result<RuleTexts, OutOfMemory> {
     })
 }
 
+// The columns' values.
+fn values<'r>(row: &'r RuleRow, texts: &'r RuleTexts) -> [ValueRef<'r>; 11] {
+    [
+        texts.id.as_str().to_sql(),
+        row.project.as_str().to_sql(),
+        texts.group.as_str().to_sql(),
+        row.description.as_str().to_sql(),
+        direction_word(row.direction).to_sql(),
+        ethertype_word(row.ethertype).to_sql(),
+        row.protocol.map(u32::from).to_sql(),
+        row.low.map(u32::from).to_sql(),
+        row.high.map(u32::from).to_sql(),
+        texts.prefix.as_ref().map(Text::as_str).to_sql(),
+        texts.remote.as_ref().map(Text::as_str).to_sql(),
+    ]
+}
+
 /// Replaces the row with its id, or adds it last.
 pub(crate) fn write<S: Alter>(
     alloc: Global,
@@ -101,23 +119,7 @@ pub(crate) fn write<S: Alter>(
     ensures ran { OnOk result (Runs S.Store to.old.conn.now to.new.conn.now) }
 {
     let texts = rule_texts(alloc, row)?;
-    execute(
-        to,
-        UPSERT,
-        params![
-            texts.id.as_str(),
-            row.project.as_str(),
-            texts.group.as_str(),
-            row.description.as_str(),
-            direction_word(row.direction),
-            ethertype_word(row.ethertype),
-            row.protocol.map(u32::from),
-            row.low.map(u32::from),
-            row.high.map(u32::from),
-            texts.prefix.as_ref().map(Text::as_str),
-            texts.remote.as_ref().map(Text::as_str),
-        ],
-    )
+    execute(to, UPSERT, &values(row, &texts))
 }
 
 impl Stored for RuleRow {

@@ -10,7 +10,8 @@ use crate::stored::Stored;
 use crate::trouble::Trouble;
 use api_types::{Ipv6Mode, SubnetRow};
 use net_addr::{Addr, OutOfMemory, Text};
-use sqlite::{Alter, Row, Transaction, params};
+use sqlite::types::{ToSql, ValueRef};
+use sqlite::{Alter, Row, Transaction};
 use std::alloc::Global;
 
 const UPSERT: &str = "INSERT INTO subnets (id, project_id, network_id, name, description, cidr,
@@ -84,6 +85,25 @@ fn subnet_texts(alloc: Global, row: &SubnetRow) -> Result<SubnetTexts, OutOfMemo
     })
 }
 
+// The columns' values.
+fn values<'r>(row: &'r SubnetRow, texts: &'r SubnetTexts) -> [ValueRef<'r>; 13] {
+    [
+        texts.id.as_str().to_sql(),
+        row.project.as_str().to_sql(),
+        texts.network.as_str().to_sql(),
+        row.name.as_str().to_sql(),
+        row.description.as_str().to_sql(),
+        texts.prefix.as_str().to_sql(),
+        str_if(&texts.gateway).to_sql(),
+        texts.pools.as_str().to_sql(),
+        row.dhcp.to_sql(),
+        mode_word(row.address_mode).to_sql(),
+        mode_word(row.ra_mode).to_sql(),
+        texts.dns.as_str().to_sql(),
+        texts.host_routes.as_str().to_sql(),
+    ]
+}
+
 /// Replaces the row with its id, or adds it last.
 pub(crate) fn write<S: Alter>(
     alloc: Global,
@@ -95,25 +115,7 @@ pub(crate) fn write<S: Alter>(
     ensures ran { OnOk result (Runs S.Store to.old.conn.now to.new.conn.now) }
 {
     let texts = subnet_texts(alloc, row)?;
-    execute(
-        to,
-        UPSERT,
-        params![
-            texts.id.as_str(),
-            row.project.as_str(),
-            texts.network.as_str(),
-            row.name.as_str(),
-            row.description.as_str(),
-            texts.prefix.as_str(),
-            str_if(&texts.gateway),
-            texts.pools.as_str(),
-            row.dhcp,
-            mode_word(row.address_mode),
-            mode_word(row.ra_mode),
-            texts.dns.as_str(),
-            texts.host_routes.as_str(),
-        ],
-    )
+    execute(to, UPSERT, &values(row, &texts))
 }
 
 impl Stored for SubnetRow {

@@ -1,4 +1,3 @@
-use Rattle.std.proofs.Common.{refl}
 use Rattle.keeper_sql.proofs.WholeLemmas.{executed, ran_inside}
 use Rattle.keeper_sql.proofs.statement.execute.Goals as goal
 
