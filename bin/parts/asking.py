@@ -3,14 +3,13 @@ store."""
 
 import http.client
 import json
-import os
 import pathlib
-import shutil
 import subprocess
 import tempfile
 import urllib.parse
 
 import messages
+import stores
 
 LISTS = {
     "networks": "networks",
@@ -57,10 +56,8 @@ class Copied:
 
     def __init__(self, store, settings):
         self.folder = tempfile.TemporaryDirectory()
-        copy = os.path.join(self.folder.name, "copy.db")
         try:
-            for end in ("", "-wal") if os.path.exists(f"{store}-wal") else ("",):
-                shutil.copyfile(f"{store}{end}", f"{copy}{end}")
+            copy = stores.copy_store(store, self.folder.name)
         except OSError as error:
             raise Refused(f"the store can't be copied: {error}") from error
         words = [

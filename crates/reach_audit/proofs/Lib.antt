@@ -1,1 +1,3 @@
 pub mod LineLemmas
+mod MatchLemmas
+pub mod RunLemmas
