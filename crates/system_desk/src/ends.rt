@@ -1,6 +1,6 @@
 //! Standard input and output, and the two ends of connections.
 ghost use Rattle.std.specs.Prelude.{◌≡◌, ◌<◌, length};
-ghost use Rattle.neutron.specs.Told.{sink_told, source_told};
+ghost use Rattle.system_desk.specs.Told.{sink_told, source_told};
 
 use keeper_core::{Failed, ReaderSource, Sink, SinkRefusal, Source, WriterSink};
 use std::io::{Stdin, Stdout};
@@ -8,7 +8,7 @@ use std::net::TcpStream;
 
 /// What a peer sends.
 #[derive(Drop)]
-pub(crate) struct PeerSource {
+pub struct PeerSource {
     pub(crate) source: ReaderSource<TcpStream>,
     // Whether the last read took all that had come.
     pub(crate) is_drained: bool,
@@ -16,7 +16,7 @@ pub(crate) struct PeerSource {
 
 /// Standard input, or what a peer sends.
 #[derive(Drop)]
-pub(crate) enum SystemSource {
+pub enum SystemSource {
     Input(ReaderSource<Stdin>),
     Peer(PeerSource),
 }
@@ -33,7 +33,7 @@ impl SystemSource {
 
 /// Standard output, or what a peer is sent.
 #[derive(Drop)]
-pub(crate) enum SystemSink {
+pub enum SystemSink {
     Output(WriterSink<Stdout>),
     Peer(WriterSink<TcpStream>),
 }

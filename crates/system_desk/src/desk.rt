@@ -1,4 +1,4 @@
-//! The desk of the program: files, databases and sockets.
+//! The desk: files, databases and sockets.
 ghost use Rattle.std.specs.Prelude.{◌≡◌};
 
 use crate::accepting::{Accepted, accept};
@@ -14,9 +14,10 @@ use std::alloc::Global;
 use std::net::{TcpListener, TcpStream};
 use std::{fs, io};
 
-/// Settings in files, stores in databases of SQLite, and connections of TCP. It tells nothing.
+/// Settings in files, stores in databases of SQLite, and connections of TCP. It tells nothing but
+/// its counts of failures.
 #[derive(Drop)]
-pub(crate) struct SystemDesk {
+pub struct SystemDesk {
     rt: HostRuntime,
     listener: Option<TcpListener>,
     // The connection that is out.
@@ -26,7 +27,8 @@ pub(crate) struct SystemDesk {
 }
 
 impl SystemDesk {
-    pub(crate) fn make(rt: HostRuntime) -> SystemDesk {
+    /// A desk at which nothing is open, over the files and sockets of this process.
+    pub fn make(rt: HostRuntime) -> SystemDesk {
         SystemDesk {
             rt,
             listener: None,

@@ -1,6 +1,6 @@
 //! The stores of the desk.
 ghost use Rattle.std.specs.Prelude.{◌≡◌};
-ghost use Rattle.neutron.specs.Told.{store_told};
+ghost use Rattle.system_desk.specs.Told.{store_told};
 
 use api_types::{Change, Rows};
 use keeper_core::{Keeper, KeeperRefusal, SureKeeper};
@@ -10,7 +10,7 @@ use std::alloc::Global;
 
 /// Rows in memory, or in a file.
 #[derive(Drop)]
-pub(crate) enum SystemStore {
+pub enum SystemStore {
     Memory(SureKeeper),
     File(SqlKeeper<FileStore<File>>),
 }

@@ -3,12 +3,12 @@
 use Rattle.std.specs.Prelude.{Some, None}
 use Rattle.keeper_core.specs.Ends.{SinkTold, SourceTold}
 use Rattle.keeper_core.specs.Kept.{KeeperTold, sure_rows}
-use Rattle.neutron.specs.declared.ends.SystemSource.{SystemSource}
-use Rattle.neutron.specs.declared.ends.SystemSource.TheVariants as source
-use Rattle.neutron.specs.declared.ends.SystemSink.{SystemSink}
-use Rattle.neutron.specs.declared.ends.SystemSink.TheVariants as sink
-use Rattle.neutron.specs.declared.store.SystemStore.{SystemStore}
-use Rattle.neutron.specs.declared.store.SystemStore.TheVariants.{Memory, File}
+use Rattle.system_desk.specs.declared.ends.SystemSource.{SystemSource}
+use Rattle.system_desk.specs.declared.ends.SystemSource.TheVariants as source
+use Rattle.system_desk.specs.declared.ends.SystemSink.{SystemSink}
+use Rattle.system_desk.specs.declared.ends.SystemSink.TheVariants as sink
+use Rattle.system_desk.specs.declared.store.SystemStore.{SystemStore}
+use Rattle.system_desk.specs.declared.store.SystemStore.TheVariants.{Memory, File}
 
 abbrev pub source_told : SystemSource → SourceTold
 source_told (source.Input s) = record { left = None; last = s.last; faults = s.faults }
