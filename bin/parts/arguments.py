@@ -1,27 +1,36 @@
-"""The program's command lines, as crates/command_lines defines them, and what is wrong with
-arguments that are none."""
+"""The program's command lines, as crates/command_lines and crates/reach_audit define them, and what
+is wrong with arguments that are none."""
 
 import os
 
-OPENING = {"--settings": "FILE", "--store": "FILE", "--delivery": "auto|manual"}
+STORED = {"--settings": "FILE", "--store": "FILE"}
+OPENING = {**STORED, "--delivery": "auto|manual"}
 # The options of each command with a value, and those among them that are required.
 OPTIONS = {
     "session": OPENING,
     "serve": {"--listen": "ADDRESS", "--connections": "N", **OPENING},
     "drill": {},
+    "audit": {"--wanted": "FILE", **STORED},
 }
-REQUIRED = {"session": (), "serve": ("--listen", "--connections"), "drill": ()}
+REQUIRED = {
+    "session": (),
+    "serve": ("--listen", "--connections"),
+    "drill": (),
+    "audit": ("--wanted",),
+}
 USAGES = {
     "session": "neutron session [--settings FILE] [--store FILE] [--delivery auto|manual]",
     "serve": "neutron serve --listen ADDRESS --connections N [--settings FILE] [--store FILE]"
     " [--delivery auto|manual]",
     "drill": "neutron drill START SIZE [--replies]",
+    "audit": "neutron audit --wanted FILE [--settings FILE] [--store FILE]",
     "--prove": "neutron --prove",
 }
 SAYS = {
     "session": "answers the requests of standard input on standard output",
     "serve": "serves N connections, 1 to 1000000, that come at an address as 127.0.0.1:9696",
     "drill": "answers requests that it makes, and writes counts (START to 2^64 - 1, SIZE to 10000)",
+    "audit": "says for each table of a file of who is to reach whom whether it holds",
     "--prove": "proves and builds the program",
 }
 NUMBERS = {"--connections": (1, 1000000), "START": (0, 2**64 - 1), "SIZE": (1, 10000)}

@@ -19,6 +19,7 @@ MEANS = {
     3: "a write to standard output failed: its reader is gone, or the disk is full",
     4: "out of memory; what was answered 2xx is stored",
     8: "standard input has more than 2^40 bytes",
+    13: "what is wanted doesn't hold where a line begins with fail (docs/AUDIT.md)",
 }
 SIGNALS = {
     signal.SIGXFSZ: "a file reached the size limit of the shell (ulimit -f) or of the unit "
@@ -46,7 +47,7 @@ def explain(status, given):
     """A line on a status that isn't 0, from the options that the program was given."""
     if status > 128:
         return killed(status - 128)
-    causes = {5: bad_settings, 6: broken_rows, 7: failed}
+    causes = {5: bad_settings, 6: broken_rows, 7: failed, 12: bad_wanted}
     why = (
         causes[status](given)
         if status in causes
@@ -67,6 +68,14 @@ def bad_settings(given):
     why = settings_file.mistake(path.read_bytes()) if os.access(path, os.R_OK) else None
     return (
         f"the settings file {path} is refused: {why or 'a key breaks its rule'} (docs/SETTINGS.md)"
+    )
+
+
+def bad_wanted(given):
+    """What may be wrong with a wanted file."""
+    return (
+        f"the wanted file {given['--wanted']} isn't in its grammar, or names a port or an address that "
+        f"the rows of {given.get('--store', 'no store')} haven't (docs/AUDIT.md)"
     )
 
 
@@ -99,31 +108,41 @@ def broken_rows(given):
 
 
 def failed(given):
-    """Which of the settings, the store and the address failed: the first that is found, in the
-    program's order."""
+    """Which of the settings, the store, the address and the wanted file failed: the first that is
+    found, in the program's order."""
     for option, look in (
         ("--settings", unread_settings),
         ("--store", unopened_store),
         ("--listen", unheld_address),
+        ("--wanted", unread_wanted),
     ):
         if option in given and (why := look(given[option])):
             return why
     return (
-        "the settings can't be read, the store can't be opened or loaded, the address can't be had, or a connection "
-        "can't be taken; nothing is seen from outside, so try again"
+        "the settings or the wanted file can't be read, the store can't be opened or loaded, the address can't be had, "
+        "or a connection can't be taken; nothing is seen from outside, so try again"
     )
 
 
 def unread_settings(name):
+    return unread("settings", name)
+
+
+def unread_wanted(name):
+    return unread("wanted", name)
+
+
+def unread(what, name):
+    """What keeps the program from a file that it reads."""
     path = pathlib.Path(name)
     if not path.exists():
-        return f"the settings file {path} isn't there"
+        return f"the {what} file {path} isn't there"
     if path.is_dir():
-        return f"the settings file {path} is a folder"
+        return f"the {what} file {path} is a folder"
     return (
         None
         if os.access(path, os.R_OK)
-        else f"the settings file {path} can't be read: see its permissions"
+        else f"the {what} file {path} can't be read: see its permissions"
     )
 
 
