@@ -1,5 +1,6 @@
 """The rows of a store (docs/STORE.md), read from its file."""
 
+import contextlib
 import json
 import pathlib
 import shutil
@@ -10,15 +11,19 @@ from rows import KINDS
 
 def stored(path):
     """The rows by kind and id that a store has."""
-    base = sqlite3.connect(f"{path.resolve().as_uri()}?mode=ro", uri=True)
-    base.row_factory = sqlite3.Row
-    tables = {
-        kind: [
-            dict(row)
-            for row in base.execute(f"SELECT * FROM {kind.replace('gips', 'g_ips')} ORDER BY place")
-        ]
-        for kind in (*KINDS, "rbac_policies")
-    }
+    uri = f"{path.resolve().as_uri()}?mode=ro"
+    # (while it is open, the program takes the store for one in use)
+    with contextlib.closing(sqlite3.connect(uri, uri=True)) as base:
+        base.row_factory = sqlite3.Row
+        tables = {
+            kind: [
+                dict(row)
+                for row in base.execute(
+                    f"SELECT * FROM {kind.replace('gips', 'g_ips')} ORDER BY place"
+                )
+            ]
+            for kind in (*KINDS, "rbac_policies")
+        }
     policies = {
         (row["object_id"], row["action"])
         for row in tables.pop("rbac_policies")
