@@ -1,0 +1,9 @@
+mod Pieces
+mod LineLemmas
+mod TurnLemmas
+mod KeptHosts
+mod HostLemmas
+mod AnswerLemmas
+mod RunLemmas
+mod SameReplies
+mod PrintLemmas

@@ -1,0 +1,9 @@
+pub mod Answers
+pub mod Events
+pub mod Hosts
+pub mod Lines
+pub mod Reading
+pub mod Runs
+pub mod Status
+pub mod Turns
+pub mod Words
