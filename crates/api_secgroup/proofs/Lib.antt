@@ -1,2 +1,3 @@
+mod HoldLemmas
 mod MemberLemmas
 mod NamedLemmas

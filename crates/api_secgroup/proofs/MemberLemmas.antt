@@ -31,12 +31,12 @@ any-put_in {X} before T x (y ∷ ys) = go (before y x) (any-put_in before T x ys
     go true rest = ap (λ b. T y || b) rest ∙ turn (T y) (T x) (list_any T ys)
     go false rest = refl
 
-any-ascending : {X : Type 0} (before : X → X → Bool) (T : X → Bool) (xs : List X) → list_any T (ascending before xs) ≡ list_any T xs
+pub any-ascending : {X : Type 0} (before : X → X → Bool) (T : X → Bool) (xs : List X) → list_any T (ascending before xs) ≡ list_any T xs
 unfolding ascending
 any-ascending before T [] = refl
 any-ascending before T (x ∷ xs) = any-put_in before T x (ascending before xs) ∙ ap (λ b. T x || b) (any-ascending before T xs)
 
-prefix_same : (a b : Prefix) → prefix_eq a b ≡ true → a ≡ b
+pub prefix_same : (a b : Prefix) → prefix_eq a b ≡ true → a ≡ b
 prefix_same a b h =
     let p = and_parts (addr_eq a.base b.base) (a.len == b.len) h in
     ap (λ x. record { base = x; len = a.len }) (addr_same a.base b.base p.0) ∙ ap (λ x. record { base = b.base; len = x }) (eqb-true a.len b.len p.1)

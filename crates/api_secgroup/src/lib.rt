@@ -6,9 +6,11 @@
 //! of `api_types`.
 #![tactic(auto)]
 
+mod laws;
 mod listed;
 mod member;
 mod memberships;
 
+pub use laws::listed_prefixes_hold_members;
 pub use member::is_member;
 pub use memberships::Memberships;
