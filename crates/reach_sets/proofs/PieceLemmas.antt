@@ -43,32 +43,20 @@ one-piece rows p q Other d less = (refl, named-itself p q d rows.rules)
 pub own-piece : (rows : RowLists) (x : TwoPorts) (kind : ReachKind) (d : ℕ) → d < number_end kind → IsPiece rows x kind d d
 own-piece rows x kind d less = record { number = less; alike = one-piece rows x.from x.to kind d less; left = refl }
 
--- a left-out number is none of the kind
-and-not : (b : Bool) → (b && not true) ≡ false
-and-not true = refl
-and-not false = refl
+-- a number is one of the kind exactly if its piece isn't left out
+number-by : (rows : RowLists) (x : TwoPorts) (kind : ReachKind) (at d : ℕ) (left : Bool) → IsPiece rows x kind at d → left ≡ is_left_out kind (source x.ends) at → is_number kind (source x.ends) d ≡ not left
+number-by rows x kind at d left piece is =
+    let less = piece.number in
+    let within : nat_lt d (number_end kind) ≡ true = grind (arith, nat_tests, less) in
+    ap (λ t. t && not (is_left_out kind (source x.ends) d)) within ∙ ap not (sym piece.left ∙ sym is)
 
-and-kept : (b : Bool) → (b && not false) ≡ b
-and-kept true = refl
-and-kept false = refl
+pub without-number : (rows : RowLists) (x : TwoPorts) (kind : ReachKind) (at d : ℕ) (P : Type 0) → IsPiece rows x kind at d → true ≡ is_left_out kind (source x.ends) at → Decides false ((is_number kind (source x.ends) d ≡ true) × P)
+without-number rows x kind at d P piece is =
+    ((λ t. let bad : false ≡ true = t in absurd cc), (λ h. let bad : false ≡ true = sym (number-by rows x kind at d true piece is) ∙ h.0 in absurd cc))
 
-pub with-number : (rows : RowLists) (x : TwoPorts) (kind : ReachKind) (at d : ℕ) (b left : Bool) (P : Type 0) → IsPiece rows x kind at d → left ≡ is_left_out kind (source x.ends) at → Decides b P
-    → Decides (b && not left) ((is_number kind (source x.ends) d ≡ true) × P)
-with-number rows x kind at d b left P piece is decides = go left refl
-  where
-    within : nat_lt d (number_end kind) ≡ true
-    within = let less = piece.number in grind (arith, nat_tests, less)
-
-    number : is_number kind (source x.ends) d ≡ not left
-    number = ap (λ t. t && not (is_left_out kind (source x.ends) d)) within ∙ ap not (sym piece.left ∙ sym is)
-
-    go : (l : Bool) → left ≡ l → Decides (b && not l) ((is_number kind (source x.ends) d ≡ true) × P)
-    go true e = ((λ t. let bad : false ≡ true = sym (and-not b) ∙ t in absurd cc), (λ h. let bad : false ≡ true = sym (number ∙ ap not e) ∙ h.0 in absurd cc))
-    go false e = ((λ t. (number ∙ ap not e, decides.0 (sym (and-kept b) ∙ t))), (λ h. and-kept b ∙ decides.1 h.1))
-
-pub reached-decides : (rows : RowLists) (x : TwoPorts) (kind : ReachKind) (at d : ℕ) (b left : Bool) → IsPiece rows x kind at d → left ≡ is_left_out kind (source x.ends) at → Decides b (ReachesBetween rows x kind d)
-    → Decides (b && not left) (IsReachedBetween rows x kind d)
-reached-decides rows x kind at d b left piece is h = with-number rows x kind at d b left (ReachesBetween rows x kind d) piece is h
+pub with-number : (rows : RowLists) (x : TwoPorts) (kind : ReachKind) (at d : ℕ) (b : Bool) (P : Type 0) → IsPiece rows x kind at d → false ≡ is_left_out kind (source x.ends) at → Decides b P
+    → Decides b ((is_number kind (source x.ends) d ≡ true) × P)
+with-number rows x kind at d b P piece is decides = ((λ t. (number-by rows x kind at d false piece is, decides.0 t)), (λ h. decides.1 h.1))
 
 -- numbers end
 pub number-ends : (rows : RowLists) (x : TwoPorts) (kind : ReachKind) (d : ℕ) → is_number kind (source x.ends) d ≡ true → d < number_end kind

@@ -1,12 +1,13 @@
 //! Whether a first packet comes.
 
-ghost use Rattle.std.specs.Prelude.{◌≡◌, ◌==◌, ◌<◌, ◌&&◌, ℕ, IfOk, false, not};
+ghost use Rattle.std.specs.Prelude.{◌≡◌, ◌==◌, ◌<◌, ℕ, IfOk, false};
 ghost use Rattle.api_types.specs.Consistent.{IsConsistent};
 ghost use Rattle.reach_laws.specs.Decides.{Decides};
 ghost use Rattle.reach_laws.specs.Numbers.{number_end};
 ghost use Rattle.reach_laws.specs.Pieces.{AreOnePiece};
 ghost use Rattle.reach_laws.specs.Reach.{is_delivered};
-ghost use Rattle.reach_sets.specs.TwoPorts.{AreRows, ReachesBetween, comes_between, two_ports};
+ghost use Rattle.reach_sets.specs.Cuts.{IsPiece};
+ghost use Rattle.reach_sets.specs.TwoPorts.{AreRows, IsReachedBetween, ReachesBetween, comes_between, two_ports};
 
 use crate::events::first_event;
 use crate::pair::Pair;
@@ -76,9 +77,26 @@ pub(crate) fn reaches(
     Ok(came)
 }
 
-/// Whether what was found of a number counts: not if the number is left out.
-pub(crate) fn counts(found: bool, left_out: bool) -> bool
-    ensures { result ≡ (found && not left_out) }
+/// Whether a number is one of the kind, and first packets to it, and to each number of its piece,
+/// come. If it is left out no event is evaluated.
+pub(crate) fn is_reached(
+    alloc: Global,
+    rows: &Rows,
+    pair: &Pair,
+    kind: ReachKind,
+    number: u32,
+) -> Result<bool, OutOfMemory>
+    requires consistent { IsConsistent rows.now }
+    requires rows { AreRows rows.now (two_ports pair.now) }
+    requires number { number < number_end kind }
+    ensures { IfOk result (λ b. (d : ℕ)
+        → IsPiece rows.now (two_ports pair.now) kind number d
+        → Decides b (IsReachedBetween rows.now (two_ports pair.now) kind d)) }
 {
-    found && !left_out
+    let left_out = kind.is_left_out(&pair.ends.source(), number);
+    if left_out {
+        return Ok(false);
+    }
+    let came = reaches(alloc, rows, pair, kind, number)?;
+    Ok(came)
 }

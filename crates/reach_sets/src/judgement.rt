@@ -10,7 +10,7 @@ ghost use Rattle.reach_sets.specs.Judged.{AreJudged, Breaks, IsJudged, IsSource,
 ghost use Rattle.reach_sets.specs.Named.{are_named, named};
 ghost use Rattle.reach_sets.specs.TwoPorts.{AreRows, two_ports};
 
-use crate::comes::{comes, counts, reaches};
+use crate::comes::{comes, reaches};
 use crate::cuts::piece_end;
 use crate::events::first_event;
 use crate::pair::Pair;
@@ -55,7 +55,8 @@ fn usual_source(kind: ReachKind) -> u16
     }
 }
 
-// Whether the numbers of a piece are against what is wanted.
+// Whether the numbers of a piece are against what is wanted. If they are left out no event is
+// evaluated.
 fn is_piece_against(
     alloc: Global,
     rows: &Rows,
@@ -71,8 +72,11 @@ fn is_piece_against(
         → Decides b (IsNumberAgainst rows.now (two_ports pair.now) wanted.now d)) }
 {
     let left_out = wanted.proto.is_left_out(&pair.ends.source(), at);
+    if left_out {
+        return Ok(false);
+    }
     let came = reaches(alloc, rows, pair, wanted.proto, at)?;
-    Ok(counts(is_against(wanted.want, came), left_out))
+    Ok(is_against(wanted.want, came))
 }
 
 // The least number that breaks the table. It evaluates one event for each piece of the range.

@@ -12,7 +12,7 @@ ghost use Rattle.reach_sets.specs.Named.{ends_if_same, with_ends};
 ghost use Rattle.reach_sets.specs.ReachSets.{AreSpansOf, IsReachSet};
 ghost use Rattle.reach_sets.specs.TwoPorts.{AreRows, IsReachedBetween, ports_with_ends, two_ports};
 
-use crate::comes::{counts, reaches};
+use crate::comes::{is_reached, reaches};
 use crate::cuts::piece_end;
 use crate::growth::Growing;
 use crate::pair::Pair;
@@ -56,9 +56,8 @@ fn add_piece(
         AreSoFar (IsReachedBetween rows.now (two_ports pair.now) kind) next growing.new) }
 {
     let next = piece_end(rows, pair, kind, at);
-    let left_out = kind.is_left_out(&pair.ends.source(), at);
-    let came = reaches(alloc, rows, pair, kind, at)?;
-    growing.add(at, counts(came, left_out))?;
+    let reached = is_reached(alloc, rows, pair, kind, at)?;
+    growing.add(at, reached)?;
     Ok(next)
 }
 
