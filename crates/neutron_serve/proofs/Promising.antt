@@ -1,5 +1,6 @@
 -- A session keeps its promises.
 use Rattle.std.proofs.Common.{◌≡◌, ◌∙◌, inl, inr, ℕ, Bool, true, false, not, cond, List, [], ◌∷◌, Option, None, Some, refl, ap, sym, subst}
+use Rattle.std.specs.Fmt.{digits}
 use Rattle.std.specs.Prelude.{Result, Ok, Err}
 use Rattle.std.proofs.lemmas.Option.{same_Some}
 use Rattle.api_types.specs.Consistent.{IsConsistent}
@@ -33,7 +34,8 @@ use Rattle.http_session.specs.Told.{IsStep, Moves, NoMemory, Stage, StoreFailed,
 use Rattle.http_session.specs.declared.session_end.SessionEnd.{SessionEnd}
 use Rattle.http_session.specs.declared.session_end.SessionEnd.TheVariants.{Budget, Done, OutOfMemory, ReadFault, WriteFault}
 use Rattle.neutron_serve.specs.Promises.{FrameTold, Promised, Promises, is_refusal}
-use Rattle.neutron_serve.specs.Replies.{lab_bytes, outcome_bytes, refusal_bytes}
+use Rattle.api_types.specs.Printed.{InterfaceRow, ManyRows, NewRow, NoRow, OneRow, Reply}
+use Rattle.neutron_serve.specs.Replies.{answer_bytes, is_success, lab_bytes, outcome_bytes, refusal_bytes}
 use Rattle.neutron_serve.specs.Requests.{asked_by, by_caller, caller_of, request_of}
 use Rattle.neutron_serve.specs.Steps.{Steps, fixed_replies, request_outcome}
 use Rattle.neutron_serve.proofs.InForm.{asked_in_form, caller_named_asks}
@@ -120,6 +122,22 @@ told_apart old other caller ask close named world tenant consistent one same =
     ∙ ap (said_bytes close) (ask_apart caller old other tenant named (sound_of old world).consistent consistent (sym one) (sym same) ask)
     ∙ sym (bytes_told close (ask_outcome other caller ask))
 
+answer_succeeds : (close : Bool) (r : Reply) → is_success (answer_bytes close r) ≡ true
+unfolding digits
+answer_succeeds close (NewRow row) = refl
+answer_succeeds close NoRow = refl
+answer_succeeds close (OneRow row) = refl
+answer_succeeds close (ManyRows kind rows) = refl
+answer_succeeds close (InterfaceRow row) = refl
+
+succeeds : (close : Bool) (o : AskOutcome) → is_refusal o ≡ false → is_success (outcome_bytes close o) ≡ true
+unfolding digits
+succeeds close (ByMachine (Refused refusal)) is = absurd cc
+succeeds close (ByMachine (ToldReply reply)) is = answer_succeeds close reply
+succeeds close (ByMachine (Moved rows reply)) is = answer_succeeds close reply
+succeeds close (ByLab (Barred refusal)) is = absurd cc
+succeeds close (ByLab (Answered answer world)) is = refl
+
 stays : (old new : World) (o : AskOutcome) → MovesBy old o new → is_refusal o ≡ true → new ≡ old
 stays old new (ByMachine (Refused refusal)) moves is = moves
 stays old new (ByMachine (ToldReply reply)) moves is = moves
@@ -151,6 +169,7 @@ step_promised old new asked reply world s = record {
       s.replies ∙ ap (λ r. outcome_bytes (closes asked.head) (request_outcome old r)) is
       ∙ told_apart old other caller ask (closes asked.head) (formed asked caller ask is).named world tenant consistent one same;
   others = λ caller ask is tenant. ask_spares caller ask old new tenant (formed asked caller ask is).named world (subst (λ r. MovesBy old (request_outcome old r) new) is s.moves);
+  succeeds = λ is. ap is_success s.replies ∙ succeeds (closes asked.head) (request_outcome old (request_of asked)) is;
   refused = stays old new (request_outcome old (request_of asked)) s.moves;
 }
 

@@ -1,6 +1,6 @@
 -- Statuses and their numbers.
-use Rattle.std.proofs.Common.{◌≡◌, ◌≤◌, ◌∙◌, ℕ, ap, arith, inl, refl, sym}
-use Rattle.std.specs.Prelude.{◌==◌, Bool, false, if◌then◌else◌, true}
+use Rattle.std.proofs.Common.{◌≡◌, ◌≤◌, ◌∙◌, ℕ, ap, arith, inl, inr, refl, sym}
+use Rattle.std.specs.Prelude.{◌==◌, ◌⊎◌, Bool, None, Option, false, if◌then◌else◌, is_some, true}
 use Rattle.command_lines.specs.declared.line.Opening.{Opening}
 use Rattle.keeper_core.specs.Counts.{RoseBy}
 use Rattle.keeper_core.specs.Desk.{Closes, DeskTold}
@@ -42,6 +42,23 @@ status_is s n e = sym (coded s) ∙ ap by_code e
 
 impossible : {X : Type 0} → false ≡ true → X
 impossible e = absurd cc
+
+-- a status that is none of these is done, out of memory, or at the end of the bytes
+pub ends_well : (s : Status) (b : Bool) → (s ≡ WrongWords → ⊥) → (s ≡ ReadFault → ⊥) → (s ≡ WriteFault → ⊥) → (s ≡ BadSettings → ⊥) → (s ≡ Inconsistent → ⊥) → (s ≡ Failed → ⊥) → (s ≡ Budget → b ≡ true)
+    → (status_code s ≡ 0) ⊎ (status_code s ≡ 4) ⊎ ((status_code s ≡ 8) × (b ≡ true))
+ends_well Done b words read write settings rows failed budget = inl refl
+ends_well WrongWords b words read write settings rows failed budget = absurd (words refl)
+ends_well ReadFault b words read write settings rows failed budget = absurd (read refl)
+ends_well WriteFault b words read write settings rows failed budget = absurd (write refl)
+ends_well OutOfMemory b words read write settings rows failed budget = inr (inl refl)
+ends_well BadSettings b words read write settings rows failed budget = absurd (settings refl)
+ends_well Inconsistent b words read write settings rows failed budget = absurd (rows refl)
+ends_well Failed b words read write settings rows failed budget = absurd (failed refl)
+ends_well Budget b words read write settings rows failed budget = inr (inr (refl, budget refl))
+
+-- what isn't there isn't some
+pub no_line : {A X : Type 0} {o : Option A} → o ≡ None → is_some o ≡ true → X
+no_line none some = impossible (sym (ap is_some none) ∙ some)
 
 -- ---- sessions
 

@@ -3,8 +3,9 @@
 -- Whole requests are answered once each, in order, each by one whole reply (`Serves`). When the
 -- store fails to keep a change, or memory runs out, the reply says so and nothing has changed; any
 -- reply may be replaced by one that says out of memory. Each other request is promised what
--- follows. The reply and the rows are those of the machine of the Networking API. A tenant's reply
--- depends only on its footing, and its request leaves what others own alone. After any messages
+-- follows. The reply and the rows are those of the machine of the Networking API; where it refuses
+-- nothing, the reply is a 2xx. A tenant's reply depends only on its footing, and its request leaves
+-- what others own alone. After any messages
 -- that hosts missed, got twice or lost in a restart, whenever every host has the current version,
 -- each frame that is sent through the tables has exactly the outcome, path and tracked entries
 -- that the rows give. Two laws of frames hold then: a frame crosses between networks only at
@@ -40,7 +41,7 @@ use Rattle.http_heads.specs.Fields.{closes}
 use Rattle.http_heads.specs.Heads.{Asked}
 use Rattle.http_session.specs.Serves.{Scene, Serves}
 use Rattle.http_session.specs.declared.session_end.SessionEnd.{SessionEnd}
-use Rattle.neutron_serve.specs.Replies.{lab_bytes, outcome_bytes}
+use Rattle.neutron_serve.specs.Replies.{is_success, lab_bytes, outcome_bytes}
 use Rattle.neutron_serve.specs.Requests.{request_of}
 use Rattle.neutron_serve.specs.Steps.{Steps, fixed_replies, request_outcome}
 
@@ -129,6 +130,9 @@ pub record Promised (old : World) (asked : Asked) (reply : Bytes) (new : World) 
   pub others : (caller : Caller) (ask : Ask) → request_of asked ≡ Ok (caller, ask)
       → caller.admin ≡ false
       → OthersStay caller.project old.history.rows new.history.rows
+  -- what is no refusal is answered by a 2xx
+  pub succeeds : is_refusal (request_outcome old (request_of asked)) ≡ false
+      → is_success reply ≡ true
   -- a refusal leaves all as it was
   pub refused : is_refusal (request_outcome old (request_of asked)) ≡ true → new ≡ old
 

@@ -1,6 +1,7 @@
 -- The reply to a request (OpenStack API reference, Networking API v2.0: normal response codes and
 -- faults; RFC 9110, section 15).
-use Rattle.std.specs.Prelude.{ℕ, Bool, Option, Some, None}
+use Rattle.std.specs.Prelude.{ℕ, Bool, Option, Some, None, codes, take}
+use Rattle.std.specs.Str.{bytes_eq}
 use Rattle.net_addr.specs.Words.{Bytes, Text}
 use Rattle.api_types.specs.Outcome.{Refused, Told, Moved}
 use Rattle.api_types.specs.Printed.{Reply, OneRow, ManyRows, NewRow, NoRow, InterfaceRow, reply_of}
@@ -48,6 +49,11 @@ outcome_bytes close (ByMachine (Told reply)) = answer_bytes close reply
 outcome_bytes close (ByMachine (Moved rows reply)) = answer_bytes close reply
 outcome_bytes close (ByLab (Barred refusal)) = refusal_bytes close refusal
 outcome_bytes close (ByLab (Answered answer world)) = lab_bytes close answer
+
+-- a status of the class 2xx, by the first bytes of the status line (RFC 9112, section 4; RFC 9110,
+-- section 15)
+abbrev pub is_success : Bytes → Bool
+is_success reply = bytes_eq (take 10 reply) (codes "HTTP/1.1 2")
 
 -- ---- replies as values
 

@@ -1,5 +1,5 @@
 -- What the program does by its arguments.
-use Rattle.std.specs.Prelude.{◌≡◌, ◌⊎◌, ℕ, ◌^◌, ◌≤◌, Bool, true, false, Option, Some, None}
+use Rattle.std.specs.Prelude.{◌≡◌, ◌⊎◌, ℕ, ◌^◌, ◌≤◌, Bool, true, false, Option, Some, None, is_some}
 use Rattle.net_addr.specs.Words.{Text}
 use Rattle.http_session.specs.Serves.{scene}
 use Rattle.http_session.specs.declared.session_end.SessionEnd.{SessionEnd}
@@ -9,11 +9,12 @@ use Rattle.command_lines.specs.declared.line.Delivery.TheVariants.{Automatic, Ma
 use Rattle.command_lines.specs.declared.line.Opening.{Opening}
 use Rattle.command_lines.specs.declared.line.Line.{Line}
 use Rattle.command_lines.specs.declared.line.Line.TheVariants.{Session, Serve, Drill}
+use Rattle.keeper_core.specs.Counts.{RoseBy}
 use Rattle.keeper_core.specs.Desk.{DeskTold}
 use Rattle.keeper_core.specs.Ends.{SinkTold, SourceTold}
 use Rattle.keeper_core.specs.Kept.{KeeperTold}
 use Rattle.net_settings.specs.Settings.{SettingsParts}
-use Rattle.openings.specs.Openings.{AreBadSettings, AreBroken, IsUnopened, Opens, with_closing, with_opening}
+use Rattle.openings.specs.Openings.{AreBadSettings, AreBroken, DeskRose, IsUnopened, Opens, with_closing, with_opening}
 use Rattle.openings.specs.declared.unopened.Unopened.{Unopened}
 use Rattle.world_laws.specs.World.{World, first_world}
 use Rattle.neutron_serve.specs.Connections.{Carried, Listens, carried}
@@ -139,3 +140,18 @@ is_session_in (Drill start size replies) = false
 abbrev pub is_session_line : Option Line → Bool
 is_session_line None = false
 is_session_line (Some line) = is_session_in line
+
+-- the arguments are a command line, the settings and the rows that it names are good, and no object
+-- that was handed in or opened counts a failure
+pub record IsSound {D I O : Type 0} (desk : D → DeskTold (I × O)) (input : I → SourceTold)
+    (output : O → SinkTold) (line : Option Line) (old new : Outside D I O) : Type 0 where
+  pub is_line : is_some line ≡ true
+  pub settings : HasBadSettings (opening_of line) (desk old.desk) → ⊥
+  pub rows : HasBrokenRows (opening_of line) (desk old.desk) → ⊥
+  pub stands : DeskRose (desk old.desk) (desk new.desk) → ⊥
+  pub reads : RoseBy 1 (input old.input).faults (input new.input).faults → ⊥
+  pub writes : RoseBy 1 (output old.output).faults (output new.output).faults → ⊥
+
+-- all was done, memory ran out, or a session read all the bytes that it may
+abbrev pub EndsWell : Option Line → ℕ → Type 0
+EndsWell line n = (n ≡ 0) ⊎ (n ≡ 4) ⊎ ((n ≡ 8) × (is_session_line line ≡ true))

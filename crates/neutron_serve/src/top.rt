@@ -201,6 +201,10 @@ pub fn run<D: Desk>(
         → runs.HasBrokenRows (runs.opening_of (line_of words.now)) (D.told desk.old) }
     ensures outside { result ≡ 7 → DeskRose (D.told desk.old) (D.told desk.new) }
     ensures budget { result ≡ 8 → runs.is_session_line (line_of words.now) ≡ true }
+    ensures complete { runs.IsSound D.told D.In.told D.Out.told (line_of words.now)
+        (runs.outside desk.old input.old output.old)
+        (runs.outside desk.new input.new output.new)
+        → runs.EndsWell (line_of words.now) result }
 {
     match read_line(alloc, words) {
         Ok(line) => run_line(alloc, &line, desk, input, output).code(),

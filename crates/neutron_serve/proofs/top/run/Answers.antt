@@ -1,8 +1,9 @@
 use Rattle.std.proofs.Common.{◌∙◌, ap, inl, inr, refl, subst, sym}
-use Rattle.neutron_serve.specs.Runs.{HasBadSettings, HasBrokenRows, Runs, is_session_line, opening_of, outside}
+use Rattle.command_lines.specs.Lines.{line_of}
+use Rattle.neutron_serve.specs.Runs.{EndsWell, HasBadSettings, HasBrokenRows, Runs, is_session_line, opening_of, outside}
 use Rattle.neutron_serve.specs.declared.status.Status.TheVariants.{OutOfMemory, WrongWords}
 use Rattle.neutron_serve.proofs.RunLemmas.{untouched}
-use Rattle.neutron_serve.proofs.StatusLemmas.{status_is}
+use Rattle.neutron_serve.proofs.StatusLemmas.{ends_well, no_line, status_is}
 use Rattle.neutron_serve.proofs.top.run.Goals as goal
 
 pub returns-in-Ok-clause-runs : goal.returns-in-Ok-clause-runs
@@ -35,6 +36,24 @@ returns-in-Ok-clause-outside g c = λ e. c.run_line.ensures.outside (status_is c
 
 pub returns-in-Ok-clause-budget : goal.returns-in-Ok-clause-budget
 returns-in-Ok-clause-budget g c = λ e. ap is_session_line c.in-Ok.ensures ∙ c.run_line.ensures.budget (status_is c.run_line.result 8 (sym c.code.ensures ∙ e))
+
+pub returns-in-Ok-clause-complete : goal.returns-in-Ok-clause-complete
+returns-in-Ok-clause-complete g c = λ s.
+    subst (EndsWell (line_of c.args.words.now)) (sym c.code.ensures)
+    (ends_well c.run_line.result (is_session_line (line_of c.args.words.now))
+    c.run_line.ensures.words
+    (λ e. s.reads (c.run_line.ensures.read_fault e))
+    (λ e. s.writes (c.run_line.ensures.write_fault e))
+    (λ e. s.settings (subst (λ o. HasBadSettings (opening_of o) (g.D.Desk.told c.args.desk.now)) (sym c.in-Ok.ensures) (c.run_line.ensures.bad_settings e)))
+    (λ e. s.rows (subst (λ o. HasBrokenRows (opening_of o) (g.D.Desk.told c.args.desk.now)) (sym c.in-Ok.ensures) (c.run_line.ensures.broken_rows e)))
+    (λ e. s.stands (c.run_line.ensures.outside e))
+    (λ e. ap is_session_line c.in-Ok.ensures ∙ c.run_line.ensures.budget e))
+
+pub returns-in-Err-Wrong-clause-complete : goal.returns-in-Err-Wrong-clause-complete
+returns-in-Err-Wrong-clause-complete g c = λ s. no_line (c.in-Err-Wrong.ensures c.in-Err-Wrong.field-0-is) s.is_line
+
+pub returns-in-Err-OutOfMemory-clause-complete : goal.returns-in-Err-OutOfMemory-clause-complete
+returns-in-Err-OutOfMemory-clause-complete g c = λ s. inr (inl c.code-in-Err-OutOfMemory.ensures)
 
 pub returns-in-Err-Wrong-clause-runs : goal.returns-in-Err-Wrong-clause-runs
 returns-in-Err-Wrong-clause-runs g c = (
