@@ -1,5 +1,5 @@
-"""The program's command lines, as crates/command_lines and crates/reach_audit define them, and what
-is wrong with arguments that are none."""
+"""The program's command lines, as crates/command_lines, crates/dvr_run and crates/reach_audit define
+them, and what is wrong with arguments that are none."""
 
 import os
 
@@ -10,12 +10,14 @@ OPTIONS = {
     "session": OPENING,
     "serve": {"--listen": "ADDRESS", "--connections": "N", **OPENING},
     "drill": {},
+    "dvr": STORED,
     "audit": {"--wanted": "FILE", **STORED},
 }
 REQUIRED = {
     "session": (),
     "serve": ("--listen", "--connections"),
     "drill": (),
+    "dvr": (),
     "audit": ("--wanted",),
 }
 USAGES = {
@@ -23,6 +25,7 @@ USAGES = {
     "serve": "neutron serve --listen ADDRESS --connections N [--settings FILE] [--store FILE]"
     " [--delivery auto|manual]",
     "drill": "neutron drill START SIZE [--replies]",
+    "dvr": "neutron dvr [--settings FILE] [--store FILE]",
     "audit": "neutron audit --wanted FILE [--settings FILE] [--store FILE]",
     "--prove": "neutron --prove",
 }
@@ -30,6 +33,7 @@ SAYS = {
     "session": "answers the requests of standard input on standard output",
     "serve": "serves N connections, 1 to 1000000, that come at an address as 127.0.0.1:9696",
     "drill": "answers requests that it makes, and writes counts (START to 2^64 - 1, SIZE to 10000)",
+    "dvr": "answers events, one a line, by hosts that route between networks themselves",
     "audit": "says for each table of a file of who is to reach whom whether it holds",
     "--prove": "proves and builds the program",
 }

@@ -6,32 +6,25 @@ ghost use Rattle.neutron_command.specs.Commands as commands;
 ghost use Rattle.neutron_serve.specs.Runs as runs;
 ghost use Rattle.openings.specs.Openings.{DeskRose};
 
+use crate::named::Named;
+use dvr_run::run_dvr;
 use keeper_core::Desk;
 use net_addr::Text;
 use neutron_serve::run;
 use reach_audit::run_audit;
 use std::alloc::Global;
 
-// Whether the words are those of an audit.
-fn is_audit(words: &[Text]) -> bool
-    ensures { result ≡ commands.is_audit words.now }
-{
-    match words.first() {
-        Some(word) => word.as_str() == "audit",
-        None => false,
-    }
-}
-
-/// Runs the command that the arguments after the program's name give: `audit`, which holds a file of
-/// who is wanted to reach whom against a store, or a command of the server, as `run` does.
+/// Runs the command that the arguments after the program's name give: `dvr`, which answers the events
+/// of `input` by a store at hosts that route by copies of routers; `audit`, which holds a file of who
+/// is wanted to reach whom against a store; or a command of the server, as `run` does.
 ///
-/// The status is that of `run_audit` or `run`: 0 if all is well, 1 exactly if the arguments are no
-/// command line, 2 if a read of `input` failed, 3 if a write or a flush of `output` failed, 4 if
-/// memory ran out, 5 exactly if the bytes of the settings are none, 6 exactly if the rows of the
-/// store aren't consistent, 7 if the desk or the store failed, 8 if 2^40 bytes were read, 12 exactly
-/// if the wanted file is none, or names what the rows haven't, and 13 exactly if all was written and
-/// something that is wanted doesn't hold. What each command asks, reads and writes is said at its
-/// call.
+/// The status is that of `run_dvr`, `run_audit` or `run`: 0 if all is well, 1 exactly if the arguments
+/// are no command line, 2 if a read of `input` failed, 3 if a write or a flush of `output` failed, 4
+/// if memory ran out, 5 exactly if the bytes of the settings are none, 6 exactly if the rows of the
+/// store aren't consistent, 7 if the desk or the store failed, 8 if 2^40 bytes were read, 11 exactly
+/// if a line of `dvr` is no event of the rows, 12 exactly if the wanted file is none, or names what
+/// the rows haven't, and 13 exactly if all was written and something that is wanted doesn't hold.
+/// What each command asks, reads and writes is said at its call.
 pub fn command<D: Desk>(
     alloc: Global,
     words: &[Text],
@@ -40,31 +33,28 @@ pub fn command<D: Desk>(
     output: &mut D::Out,
 ) -> u8
     requires { IsNoneOut (D.told desk.old) }
-    ensures server { commands.is_audit words.now ≡ false
-        → commands.RunsServer D.told D.In.told D.Out.told words.now result
-        (runs.outside desk.old input.old output.old)
+    ensures runs { commands.Runs D.told D.In.told D.Out.told words.now
+        (commands.named_by words.now) result (runs.outside desk.old input.old output.old)
         (runs.outside desk.new input.new output.new) }
-    ensures audit { commands.is_audit words.now ≡ true
-        → commands.RunsAudit D.told D.In.told D.Out.told words.now result
-        (runs.outside desk.old input.old output.old)
-        (runs.outside desk.new input.new output.new) }
-    ensures wrong_words { result ≡ 1 → commands.is_line words.now ≡ false }
+    ensures wrong_words { result ≡ 1
+        → commands.is_line words.now (commands.named_by words.now) ≡ false }
     ensures read_fault { result ≡ 2
         → RoseBy 1 (D.In.told input.old).faults (D.In.told input.new).faults }
     ensures write_fault { result ≡ 3
         → RoseBy 1 (D.Out.told output.old).faults (D.Out.told output.new).faults }
     ensures bad_settings { result ≡ 5
-        → commands.HasBadSettings words.now (D.told desk.old) (commands.is_audit words.now) }
+        → commands.HasBadSettings words.now (D.told desk.old) (commands.named_by words.now) }
     ensures broken_rows { result ≡ 6
-        → commands.HasBrokenRows words.now (D.told desk.old) (commands.is_audit words.now) }
+        → commands.HasBrokenRows words.now (D.told desk.old) (commands.named_by words.now) }
     ensures outside { result ≡ 7 → DeskRose (D.told desk.old) (D.told desk.new) }
-    ensures budget { result ≡ 8 → commands.is_session words.now ≡ true }
+    ensures budget { result ≡ 8
+        → commands.answers_input words.now (commands.named_by words.now) ≡ true }
     ensures bad_wanted { result ≡ 12
-        → commands.HasBadWanted words.now (D.told desk.old) (commands.is_audit words.now) }
+        → commands.HasBadWanted words.now (D.told desk.old) (commands.named_by words.now) }
 {
-    if is_audit(words) {
-        run_audit(alloc, words, desk, output)
-    } else {
-        run(alloc, words, desk, input, output)
+    match Named::of(words) {
+        Named::Dvr => run_dvr(alloc, words, desk, input, output),
+        Named::Audit => run_audit(alloc, words, desk, output),
+        Named::Server => run(alloc, words, desk, input, output),
     }
 }
