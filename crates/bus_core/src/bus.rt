@@ -78,6 +78,13 @@ impl Bus {
         self.last
     }
 
+    /// The number of the first change that is kept. Where none is kept, it is one above the last.
+    pub fn first(&self) -> u64
+        ensures { result ≡ first_of self.now.last self.now.changes }
+    {
+        self.last - self.changes.len() as u64 + 1
+    }
+
     /// The change under this number, or that none is kept under it.
     pub fn get(&self, number: u64) -> Result<&Change, Gone>
         ensures ok { IfOk result

@@ -37,6 +37,17 @@ serve_app =
     with_rule (with_rule session_app (required_option (codes "listen")))
     (required_option (codes "connections"))
 
+-- `agent` with the server and the host alone
+abbrev pub host_app : App
+host_app =
+    with_rule (with_rule (plain_app (codes "agent")) (required_option (codes "connect")))
+    (required_option (codes "host"))
+
+abbrev pub agent_app : App
+agent_app =
+    with_rule (with_rule host_app (required_option (codes "rounds")))
+    (option (codes "settings"))
+
 abbrev pub drill_app : App
 drill_app =
     with_rule

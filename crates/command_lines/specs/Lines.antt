@@ -1,6 +1,6 @@
 -- Which words are a command line, and what they give. How `clap` reads words is said in its own
 -- words (`fault_of`, `matches_of`).
-use Rattle.std.specs.Prelude.{◌≡◌, ◌≢◌, ◌^◌, ◌-◌, ◌&&◌, List, [], ◌∷◌, Bool, true, false, not, Option, Some, None, Result, Ok, Err, codes, if◌then◌else◌, is_some, option_map, option_and_then}
+use Rattle.std.specs.Prelude.{◌≡◌, ◌≢◌, ℕ, ◌^◌, ◌-◌, ◌&&◌, List, [], ◌∷◌, Bool, true, false, not, Option, Some, None, Result, Ok, Err, codes, if◌then◌else◌, is_some, option_map, option_and_then}
 use Rattle.std.specs.List.{list_any}
 use Rattle.std.specs.Str.{bytes_eq}
 use Rattle.clap.specs.Walk.{Row, Text, first_of, rows_of}
@@ -9,10 +9,12 @@ use Rattle.clap.specs.declared.parser.matches.ArgMatches.{ArgMatches}
 use Rattle.clap.specs.Simple.{App, matches_of}
 use Rattle.clap.specs.Faults.{fault_of}
 use Rattle.clap.specs.Kinds.{Kinds}
-use Rattle.command_lines.specs.Commands.{session_app, serve_app, drill_app}
+use Rattle.command_lines.specs.Commands.{agent_app, drill_app, serve_app, session_app}
 use Rattle.command_lines.specs.Values.{delivery_of, is_set, optional_value, required_number, required_value}
 use Rattle.command_lines.specs.declared.line.Delivery.{Delivery}
+use Rattle.command_lines.specs.declared.line.Delivery.TheVariants.{Automatic}
 use Rattle.command_lines.specs.declared.line.Opening.{Opening}
+use Rattle.command_lines.specs.declared.line.AgentLine.{AgentLine}
 use Rattle.command_lines.specs.declared.line.Line.{Line}
 use Rattle.command_lines.specs.declared.line.Line.TheVariants.{Session, Serve, Drill}
 use Rattle.command_lines.specs.declared.line.Refusal.{Refusal}
@@ -84,6 +86,37 @@ line_behind command words =
 abbrev pub line_of : List Text → Option Line
 line_of [] = None
 line_of (command ∷ words) = line_behind command words
+
+abbrev pub agent_by : Text → Text → ℕ → Option Text → AgentLine
+agent_by connect host rounds settings =
+    record {
+      connect = connect;
+      host = host;
+      rounds = rounds;
+      opening = opening_by settings None Automatic;
+    }
+
+abbrev pub agent_of : List Row → Option AgentLine
+agent_of rows =
+    option_and_then (λ connect.
+    option_and_then (λ host.
+    option_and_then (λ rounds. option_map (λ settings. agent_by connect host rounds settings)
+    (optional_value (first_of (codes "settings") rows)))
+    (required_number 1 1000000 (first_of (codes "rounds") rows)))
+    (required_value (first_of (codes "host") rows)))
+    (required_value (first_of (codes "connect") rows))
+
+abbrev pub agent_line : List Text → Option AgentLine
+agent_line words = option_and_then agent_of (rows_read agent_app words)
+
+abbrev pub agent_line_after : Text → List Text → Option AgentLine
+agent_line_after command words =
+    if bytes_eq command (codes "agent") then agent_line words else None
+
+-- what the words after the program's name give, where they are a command line of `agent`
+abbrev pub agent_line_of : List Text → Option AgentLine
+agent_line_of [] = None
+agent_line_of (command ∷ words) = agent_line_after command words
 
 abbrev pub is_line : List Text → Bool
 is_line words = is_some (line_of words)

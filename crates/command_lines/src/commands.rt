@@ -2,7 +2,7 @@
 
 ghost use Rattle.std.specs.Prelude.{◌≡◌, IfOk};
 ghost use Rattle.clap.specs.Simple.{app_of};
-ghost use Rattle.command_lines.specs.Commands.{drill_app, serve_app, session_app};
+ghost use Rattle.command_lines.specs.Commands.{agent_app, drill_app, host_app, serve_app, session_app};
 
 use clap::{Arg, ArgAction, Command};
 use std::alloc::{AllocError, Global};
@@ -49,5 +49,30 @@ pub(crate) fn drill_command<'a>(alloc: Global) -> Result<Command<'a>, AllocError
         .disable_help_flag(true)
         .disable_version_flag(true);
     let command = plain.arg(start)?.arg(size)?.arg(replies)?;
+    Ok(command)
+}
+
+// `agent`, with the server and the host alone.
+fn host_command<'a>(alloc: Global) -> Result<Command<'a>, AllocError>
+    ensures { IfOk result (λ c. app_of c ≡ host_app) }
+{
+    let connect = Arg::new(alloc, "connect").long("connect").required(true);
+    let host = Arg::new(alloc, "host").long("host").required(true);
+    let plain = Command::new(alloc, "agent")
+        .no_binary_name(true)
+        .disable_help_flag(true)
+        .disable_version_flag(true);
+    let command = plain.arg(connect)?.arg(host)?;
+    Ok(command)
+}
+
+/// `agent`, with its options.
+pub(crate) fn agent_command<'a>(alloc: Global) -> Result<Command<'a>, AllocError>
+    ensures { IfOk result (λ c. app_of c ≡ agent_app) }
+{
+    let rounds = Arg::new(alloc, "rounds").long("rounds").required(true);
+    let settings = Arg::new(alloc, "settings").long("settings");
+    let host = host_command(alloc)?;
+    let command = host.arg(rounds)?.arg(settings)?;
     Ok(command)
 }

@@ -14,5 +14,5 @@ mod reader;
 mod values;
 pub mod worked;
 
-pub use line::{Delivery, Line, Opening, Refusal};
-pub use reader::read_line;
+pub use line::{AgentLine, Delivery, Line, Opening, Refusal};
+pub use reader::{read_agent_line, read_line};

@@ -52,6 +52,19 @@ pub enum Line {
     },
 }
 
+/// The command `agent` with what its words say.
+#[derive(Debug, Drop)]
+pub struct AgentLine {
+    /// The address of the server.
+    pub connect: Text,
+    /// The name of the host.
+    pub host: Text,
+    /// How many times the server is asked, from 1 to 1,000,000.
+    pub rounds: u64,
+    /// The settings. No store is opened, and nothing is delivered.
+    pub opening: Opening,
+}
+
 /// Why no command line was read.
 #[derive(Clone, Copy, Debug, PartialEq, Eq, Drop)]
 pub enum Refusal {

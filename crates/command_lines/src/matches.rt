@@ -7,10 +7,10 @@ ghost use Rattle.clap.specs.Faults.{is_simple_and_free};
 ghost use Rattle.clap.specs.Matches.{found_of};
 ghost use Rattle.clap.specs.Simple.{app_of};
 ghost use Rattle.clap.specs.Walk.{first_of, rows_of};
-ghost use Rattle.command_lines.specs.Commands.{drill_app, serve_app, session_app};
+ghost use Rattle.command_lines.specs.Commands.{agent_app, drill_app, serve_app, session_app};
 ghost use Rattle.command_lines.specs.Lines.{AreMatches, AreMatchesOf};
 
-use crate::commands::{drill_command, serve_command, session_command};
+use crate::commands::{agent_command, drill_command, serve_command, session_command};
 use crate::line::Refusal;
 use clap::error::ErrorKind;
 use clap::{ArgMatches, Command};
@@ -74,6 +74,20 @@ pub(crate) fn drill_matches<'a>(
         return Err(Refusal::Wrong);
     }
     let command = drill_command(alloc)?;
+    matches(command, words)
+}
+
+/// What `agent` finds in its words.
+pub(crate) fn agent_matches<'a>(
+    alloc: Global,
+    words: &'a [&'a str],
+) -> Result<ArgMatches<'a>, Refusal>
+    ensures { AreMatchesOf agent_app (map (λ w. w.now) words.entry.now) result }
+{
+    if has_dashes(words) {
+        return Err(Refusal::Wrong);
+    }
+    let command = agent_command(alloc)?;
     matches(command, words)
 }
 

@@ -3,12 +3,14 @@
 ghost use Rattle.std.specs.Prelude.{◌≡◌, IfOk, map};
 ghost use Rattle.clap.specs.Matches.{found_of};
 ghost use Rattle.clap.specs.Walk.{rows_of};
+ghost use Rattle.command_lines.specs.Lines as lines;
 ghost use Rattle.command_lines.specs.Lines.{IsAnswer, drill_line as drill_line_of, drill_of as drill_by, line_behind, line_of, opening_of as opening_by, serve_line as serve_line_of, serve_of as serve_by, session_line as session_line_of, session_of as session_by};
 
-use crate::line::{Line, Opening, Refusal};
-use crate::matches::{drill_matches, serve_matches, session_matches, value_in};
+use crate::line::{AgentLine, Delivery, Line, Opening, Refusal};
+use crate::matches::{agent_matches, drill_matches, serve_matches, session_matches, value_in};
 use crate::values::{
     connections, delivery, drill_size, is_set, optional_value, required_number, required_value,
+    rounds,
 };
 use clap::ArgMatches;
 use net_addr::Text;
@@ -117,4 +119,57 @@ pub fn read_line(alloc: Global, words: &[Text]) -> Result<Line, Refusal>
     };
     let rest = lent(alloc, rest)?;
     line_with(alloc, command.as_str(), rest.as_slice())
+}
+
+fn agent_of(alloc: Global, found: &ArgMatches<'_>) -> Result<AgentLine, Refusal>
+    ensures { IsAnswer result (lines.agent_of (rows_of (found_of found.now))) }
+{
+    let connect = required_value(alloc, value_in(found, "connect"))?;
+    let host = required_value(alloc, value_in(found, "host"))?;
+    let rounds = rounds(value_in(found, "rounds"))?;
+    let settings = optional_value(alloc, value_in(found, "settings"))?;
+    let opening = Opening {
+        settings,
+        store: None,
+        delivery: Delivery::Automatic,
+    };
+    Ok(AgentLine {
+        connect,
+        host,
+        rounds,
+        opening,
+    })
+}
+
+fn agent_line<'a>(alloc: Global, words: &'a [&'a str]) -> Result<AgentLine, Refusal>
+    ensures { IsAnswer result (lines.agent_line (map (λ w. w.now) words.entry.now)) }
+{
+    let found = agent_matches(alloc, words)?;
+    agent_of(alloc, &found)
+}
+
+fn agent_line_with<'a>(
+    alloc: Global,
+    command: &str,
+    words: &'a [&'a str],
+) -> Result<AgentLine, Refusal>
+    ensures { IsAnswer result
+        (lines.agent_line_after command.now (map (λ w. w.now) words.entry.now)) }
+{
+    if command == "agent" {
+        return agent_line(alloc, words);
+    }
+    Err(Refusal::Wrong)
+}
+
+/// The command line of `agent` that the words after the program's name are. `Wrong` comes exactly
+/// where they are none, or where memory runs out. Its cost grows with the words and their lengths.
+pub fn read_agent_line(alloc: Global, words: &[Text]) -> Result<AgentLine, Refusal>
+    ensures { IsAnswer result (lines.agent_line_of words.now) }
+{
+    let Some((command, rest)) = words.split_first() else {
+        return Err(Refusal::Wrong);
+    };
+    let rest = lent(alloc, rest)?;
+    agent_line_with(alloc, command.as_str(), rest.as_slice())
 }

@@ -13,6 +13,8 @@ use std::alloc::Global;
 
 const MOST_CONNECTIONS: u64 = 1_000_000;
 
+const MOST_ROUNDS: u64 = 1_000_000;
+
 const LARGEST_DRILL: u64 = 10_000;
 
 // Whether a value isn't empty and doesn't begin with a hyphen.
@@ -125,6 +127,14 @@ pub(crate) fn connections(given: Option<&str>) -> Result<u64, Refusal>
         (required_within 1 1000000 (option_map (λ s. s.now) given.entry)) }
 {
     required_number(given, 1, MOST_CONNECTIONS)
+}
+
+/// How many times the server is asked, from 1 to 1,000,000.
+pub(crate) fn rounds(given: Option<&str>) -> Result<u64, Refusal>
+    ensures { IsAnswer result
+        (required_within 1 1000000 (option_map (λ s. s.now) given.entry)) }
+{
+    required_number(given, 1, MOST_ROUNDS)
 }
 
 /// How large a drill is, from 1 to 10,000.

@@ -3,7 +3,7 @@
 ghost use Rattle.std.specs.Prelude.{◌≡◌, None, Some, [], codes, false, true, ◌∷◌};
 ghost use Rattle.clap.specs.Faults.{fault_of};
 ghost use Rattle.command_lines.specs.Commands.{drill_app, serve_app, session_app};
-ghost use Rattle.command_lines.specs.Lines.{has_none, line_of, opening_by};
+ghost use Rattle.command_lines.specs.Lines.{agent_by, agent_line_of, has_none, line_of, opening_by};
 ghost use Rattle.command_lines.specs.declared.line.Delivery.TheVariants.{Automatic, Manual};
 ghost use Rattle.command_lines.specs.declared.line.Line.TheVariants.{Drill, Serve, Session};
 
@@ -164,4 +164,32 @@ pub fn refused_by_clap()
         ∷ codes "--replies=1" ∷ [])) ≡ false }
     ensures drill_store { has_none (fault_of drill_app (codes "7" ∷ codes "1" ∷ codes "--store=x"
         ∷ [])) ≡ false }
+{}
+
+/// Words of `agent`, and what they give.
+pub fn agent_lines()
+    ensures joined { agent_line_of (codes "agent" ∷ codes "--connect=a:1" ∷ codes "--host=c1"
+        ∷ codes "--rounds=3" ∷ []) ≡ Some (agent_by (codes "a:1") (codes "c1") 3 None) }
+    ensures apart { agent_line_of (codes "agent" ∷ codes "--rounds" ∷ codes "3" ∷ codes "--host"
+        ∷ codes "c1" ∷ codes "--connect" ∷ codes "a:1" ∷ [])
+        ≡ Some (agent_by (codes "a:1") (codes "c1") 3 None) }
+    ensures settings { agent_line_of (codes "agent" ∷ codes "--connect=a:1"
+        ∷ codes "--settings=F" ∷ codes "--host=c1" ∷ codes "--rounds" ∷ codes "3" ∷ [])
+        ≡ Some (agent_by (codes "a:1") (codes "c1") 3 (Some (codes "F"))) }
+    ensures no_connect { agent_line_of (codes "agent" ∷ codes "--host=c1" ∷ codes "--rounds=3"
+        ∷ []) ≡ None }
+    ensures no_host { agent_line_of (codes "agent" ∷ codes "--connect=a:1" ∷ codes "--rounds=3"
+        ∷ []) ≡ None }
+    ensures no_rounds { agent_line_of (codes "agent" ∷ codes "--connect=a:1" ∷ codes "--host=c1"
+        ∷ []) ≡ None }
+    ensures no_round { agent_line_of (codes "agent" ∷ codes "--connect=a:1" ∷ codes "--host=c1"
+        ∷ codes "--rounds=0" ∷ []) ≡ None }
+    ensures many_rounds { agent_line_of (codes "agent" ∷ codes "--connect=a:1"
+        ∷ codes "--host=c1" ∷ codes "--rounds=1000001" ∷ []) ≡ None }
+    ensures twice { agent_line_of (codes "agent" ∷ codes "--connect=a:1" ∷ codes "--host=c1"
+        ∷ codes "--host=c2" ∷ codes "--rounds=3" ∷ []) ≡ None }
+    ensures further_word { agent_line_of (codes "agent" ∷ codes "--connect=a:1"
+        ∷ codes "--host=c1" ∷ codes "--rounds=3" ∷ codes "x" ∷ []) ≡ None }
+    ensures other_command { agent_line_of (codes "session" ∷ codes "--connect=a:1"
+        ∷ codes "--host=c1" ∷ codes "--rounds=3" ∷ []) ≡ None }
 {}

@@ -8,8 +8,9 @@ use Rattle.dvr_types.specs.DvrFabric.{DvrFate, DvrHost, dvr_fate}
 use Rattle.dvr_types.specs.DvrVerdicts.{dvr_meant, dvr_verdict, plain_hosts}
 use Rattle.dvr_types.specs.declared.verdict.DvrVerdict.{DvrVerdict}
 use Rattle.json_replies.specs.Bodies.{handled_tree}
-use Rattle.json_replies.specs.Frames.{entry_tree, id_tree}
-use Rattle.json_replies.specs.Printed.{fields, list, tree_data}
+use Rattle.json_replies.specs.Frames.{entry_tree}
+use Rattle.json_trees.specs.Words.{id_tree}
+use Rattle.json_trees.specs.Printed.{fields, list, tree_data}
 use Rattle.json_replies.specs.Verdicts.{made_tree, outcome_tree}
 use Rattle.plane_types.specs.Hosts.{Host}
 use Rattle.plane_types.specs.Verdicts.{made_entries, of_nobody, verdict_of_fate}

@@ -10,7 +10,7 @@ use Rattle.dvr_run.specs.declared.status.Status.TheVariants.{BadLine, Budget, Do
 use Rattle.dvr_types.specs.DvrVerdicts.{DvrMeaning, dvr_meanings}
 use Rattle.http_session.specs.Serves.{HasEnded, IsFlushed}
 use Rattle.json_replies.specs.Bodies.{handled_tree}
-use Rattle.json_replies.specs.Printed.{tree_data}
+use Rattle.json_trees.specs.Printed.{tree_data}
 use Rattle.keeper_core.specs.Ends.{SinkTold, SourceTold, has_failed}
 use Rattle.net_addr.specs.Words.{Bytes, Text}
 use Rattle.net_settings.specs.declared.settings.Host.{Host}

@@ -24,7 +24,7 @@ use Rattle.api_policy.specs.Groups.{direction_word, ethertype_word, group_member
 use Rattle.api_policy.specs.Routers.{router_members}
 use Rattle.api_policy.specs.Floatings.{floating_members}
 use Rattle.api_policy.specs.Policies.{action_word, policy_members}
-use Rattle.json_replies.specs.Printed.{fields, tree_data}
+use Rattle.json_trees.specs.Printed.{fields, tree_data}
 use Rattle.json_values.specs.Items.{address_of, card_of, four_of, id_of, prefix_said}
 use Rattle.json_laws.proofs.PrefixBack.{remotes}
 use Rattle.json_laws.proofs.RuleProtocolBack.{protocol_again}

@@ -10,7 +10,7 @@ use Rattle.api_types.specs.Printed.{Tree, trees_of}
 use Rattle.api_types.specs.declared.subnet.Hop.{Hop}
 use Rattle.api_policy.specs.Trees as shown
 use Rattle.api_policy.specs.Trees.{address_word, id_word, route_object, span_object}
-use Rattle.json_replies.specs.Printed.{tree_data, trees_data}
+use Rattle.json_trees.specs.Printed.{tree_data, trees_data}
 use Rattle.json_values.specs.Values.{all_said, applied, kept, list_of, member_of, more, pairwise, values_of}
 use Rattle.json_values.specs.Items.{address_of, exact_of, hop, hop_of, id_of, is_hop, is_span, other_hop, other_id, span, span_of}
 use Rattle.json_values.specs.Grammars.{are_pools, group_ids, host_routes, name_servers, pools, router_routes}

@@ -7,7 +7,7 @@ use Rattle.serde_json.specs.Data.{Members, no_members, put}
 use Rattle.serde_json.specs.Find.{get, get_member}
 use Rattle.serde_json.proofs.Views.{get_member-put, get_member-put_other}
 use Rattle.api_types.specs.Printed.{Tree, NamedTree, branches_of}
-use Rattle.json_replies.specs.Printed.{tree_data, branches_data, fields}
+use Rattle.json_trees.specs.Printed.{tree_data, branches_data, fields}
 use Rattle.json_laws.specs.ReadBack.{named_or, last_named}
 
 next_found : (name k : List ℕ) (t : Tree) (others : Members) (found : Option Tree) (b : Bool) → bytes_eq name k ≡ b → get_member name others ≡ option_map tree_data found

@@ -11,7 +11,7 @@ use Rattle.serde_json.specs.Find.{as_number, as_str, as_u64}
 use Rattle.std.specs.Option.{option_and_then}
 use Rattle.api_policy.specs.Groups as shown
 use Rattle.api_policy.specs.Groups.{protocol_word}
-use Rattle.json_replies.specs.Printed.{tree_data}
+use Rattle.json_trees.specs.Printed.{tree_data}
 use Rattle.json_values.specs.Numbers.{number_in}
 use Rattle.json_values.specs.Six.{or_else}
 use Rattle.json_values.specs.Values.{said_by, whole_of}

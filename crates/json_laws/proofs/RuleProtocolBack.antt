@@ -18,7 +18,7 @@ use Rattle.api_types.specs.declared.group.Ethertype.TheVariants.{Ipv4, Ipv6}
 use Rattle.api_types.specs.declared.group.RuleRow.{RuleRow}
 use Rattle.api_types.proofs.ListLemmas.{some_equal}
 use Rattle.api_types.proofs.NameLemmas.{bytes_same}
-use Rattle.json_replies.specs.Printed.{fields, tree_data}
+use Rattle.json_trees.specs.Printed.{fields, tree_data}
 use Rattle.json_values.specs.Grammars.{ethertype_of, protocol_in, protocol_of}
 use Rattle.json_values.specs.Values.{said_by, whole_of}
 use Rattle.json_laws.proofs.ProtocolBack.{or_is, said_small, word_back}

@@ -6,7 +6,7 @@ use Rattle.serde_json.specs.Data.{Data}
 use Rattle.api_types.specs.Printed.{Tree, NamedTree}
 use Rattle.api_types.specs.declared.form.NetworkType.{NetworkType}
 use Rattle.api_types.specs.declared.form.NetworkType.TheVariants.{Local, Flat, Vlan, Vxlan}
-use Rattle.json_replies.specs.Printed.{tree_data}
+use Rattle.json_trees.specs.Printed.{tree_data}
 
 -- a value that is read, then printed, is read as the same
 abbrev pub IsReadBack : {T : Type 0} → (Data → Option T) → (T → Tree) → Type 0

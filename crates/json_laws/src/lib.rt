@@ -19,7 +19,7 @@ ghost use Rattle.api_policy.specs.Routers.{router_members};
 ghost use Rattle.api_policy.specs.Subnets.{mode_word, subnet_members};
 ghost use Rattle.api_policy.specs.Policies.{action_word, policy_members};
 ghost use Rattle.api_policy.specs.Trees.{address_word, four_word, id_word, list_of, mac_word, prefix_word, route_object, span_object};
-ghost use Rattle.json_replies.specs.Printed.{fields, tree_data};
+ghost use Rattle.json_trees.specs.Printed.{fields, tree_data};
 ghost use Rattle.json_values.specs.Grammars.{action_of, device_owner, direction_of, ethertype_of, group_ids, group_name, host_routes, mode_of, name_servers, network_type_of, pools, port_number, project_name, protocol_of, router_routes, segment_number, short_text, subnet_prefix, target_name};
 ghost use Rattle.json_values.specs.Items.{address_of, card_of, four_of, id_of, prefix_said};
 ghost use Rattle.api_types.specs.RowLists.{RowLists};

@@ -1,3 +1,2 @@
-pub mod PrintedLemmas
 pub mod RowLemmas
 mod StraightLemmas

@@ -4,8 +4,8 @@ use Rattle.serde_json.specs.Written.{compact_text}
 use Rattle.api_types.specs.Printed.{ManyRows, shown_row}
 use Rattle.api_types.specs.declared.answer.Shown.{Shown}
 use Rattle.api_types.specs.declared.kind.Kind.{Kind}
-use Rattle.json_replies.specs.Printed.{tree_data, list, body_text}
-use Rattle.json_replies.specs.Bodies.{only, row_tree, answer_tree}
+use Rattle.json_trees.specs.Printed.{tree_data, list, body_text, only}
+use Rattle.json_replies.specs.Bodies.{row_tree, answer_tree}
 use Rattle.api_types.specs.Titles.{collection_of}
 
 shown_rows : (rows : List Shown) → map (λ s. row_tree (shown_row s)) rows ≡ map row_tree (map shown_row rows)

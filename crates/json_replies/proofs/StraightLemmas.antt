@@ -8,7 +8,7 @@ use Rattle.serde_json.specs.Data as json
 use Rattle.serde_json.specs.Data.{Data, put}
 use Rattle.serde_json.specs.Events.{items_len, members_len}
 use Rattle.api_types.specs.Printed.{Tree, null, truth, number, word, items, object, Trees, no_trees, tree, Branches, no_branches, branch, trees_of, branches_of, NamedTree}
-use Rattle.json_replies.specs.Printed.{tree_data, trees_data, branches_data}
+use Rattle.json_trees.specs.Printed.{tree_data, trees_data, branches_data}
 use Rattle.json_replies.specs.Straight.{straight, straight_items, straight_members, ascends, trees_ascend, branches_ascend, is_above}
 
 and_left : (a b : Bool) → (a && b) ≡ true → a ≡ true

@@ -1,8 +1,8 @@
 -- What each reply prints (OpenStack API reference, Networking API v2.0; the lab's replies are this
 -- server's own).
-use Rattle.std.specs.Prelude.{ℕ, Bool, List, [], ◌∷◌, map, codes, Option, Some, None}
+use Rattle.std.specs.Prelude.{List, [], ◌∷◌, map, codes, Option, Some, None}
 use Rattle.net_addr.specs.Words.{Bytes, Text}
-use Rattle.api_types.specs.Printed.{Tree, truth, number, word, NamedTree, ShownRow, OneRow, ManyRows, NewRow, NoRow, InterfaceRow, reply_of}
+use Rattle.api_types.specs.Printed.{Tree, number, word, ShownRow, OneRow, ManyRows, NewRow, NoRow, InterfaceRow, reply_of}
 use Rattle.api_types.specs.Printed as answered
 use Rattle.api_types.specs.declared.refusal.Refusal.{Refusal}
 use Rattle.neutron_http.specs.Faults.{type_of, message_of}
@@ -13,13 +13,10 @@ use Rattle.plane_types.specs.declared.ask.LabAnswer.TheVariants.{Seen, Told, Hos
 use Rattle.plane_types.specs.declared.ask.Reply.{Reply}
 use Rattle.plane_types.specs.declared.ask.Reply.TheVariants.{Done, LabDone, Refused}
 use Rattle.plane_types.specs.declared.verdict.Verdict.{Verdict}
-use Rattle.json_replies.specs.Printed.{fields, list, or_null, body_text}
+use Rattle.json_trees.specs.Printed.{fields, list, only, or_null, body_text}
+use Rattle.wire_text.specs.Told.{numbered_change_tree, page_tree, version_tree}
 use Rattle.json_replies.specs.Verdicts.{verdict_tree, heard_tree}
 use Rattle.json_replies.specs.Tables.{tables_tree}
-
--- an object with one member
-abbrev pub only : Text → Tree → Tree
-only name t = fields ((name, t) ∷ [])
 
 abbrev pub row_tree : ShownRow → Tree
 row_tree row = fields row.members
@@ -37,18 +34,6 @@ abbrev pub host_tree : HostState → Tree
 host_tree host =
     fields ((codes "held", or_null number host.held) ∷ (codes "name", word host.name) ∷ [])
 
-abbrev pub version_tree : ℕ → ℕ → Tree
-version_tree first last = fields ((codes "first", number first) ∷ (codes "last", number last) ∷ [])
-
--- no ask is answered with a change or a page yet, so their items and rows aren't printed
-abbrev pub change_tree : ℕ → Tree
-change_tree n = fields ((codes "number", number n) ∷ [])
-
-abbrev pub page_tree : ℕ → ℕ → Bool → Tree
-page_tree version n last = fields (
-    (codes "last", truth last) ∷ (codes "number", number n) ∷ (codes "version", number version)
-    ∷ [])
-
 -- a verdict, with the hosts that handled its event
 abbrev pub handled_tree : List Text → Verdict → Tree
 handled_tree hosts verdict =
@@ -60,8 +45,8 @@ lab_tree (Told heard) = only (codes "heard") (heard_tree heard)
 lab_tree (Hosts hosts) = only (codes "hosts") (list (map host_tree hosts))
 lab_tree (Tables tables) = only (codes "tables") (tables_tree tables)
 lab_tree (Version first last) = only (codes "version") (version_tree first last)
-lab_tree (Change n items) = only (codes "change") (change_tree n)
-lab_tree (Page version n last rows) = only (codes "page") (page_tree version n last)
+lab_tree (Change n items) = only (codes "change") (numbered_change_tree n items)
+lab_tree (Page version n last rows) = only (codes "page") (page_tree version n last rows)
 
 -- what a refusal says
 abbrev pub words_tree : Text → Text → Tree

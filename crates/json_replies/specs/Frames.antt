@@ -1,10 +1,6 @@
 -- Frames, keys and tracked entries as they are printed.
-use Rattle.std.specs.Prelude.{ℕ, List, [], ◌∷◌, codes}
-use Rattle.net_addr.specs.Words.{MacAddress, Text}
-use Rattle.net_addr.specs.Spelling.{addr_text, address_text, mac_text, prefix_text}
-use Rattle.net_addr.specs.declared.address.Addr.{Addr}
-use Rattle.net_addr.specs.Prefixes.{Prefix}
-use Rattle.api_types.specs.Ident.{Ident, ident_text}
+use Rattle.std.specs.Prelude.{List, [], ◌∷◌, codes}
+use Rattle.net_addr.specs.Words.{Text}
 use Rattle.api_types.specs.Printed.{Tree, number, word, NamedTree}
 use Rattle.api_types.specs.declared.group.Direction.{Direction}
 use Rattle.api_types.specs.declared.group.Direction.TheVariants.{Ingress, Egress}
@@ -20,23 +16,8 @@ use Rattle.plane_types.specs.declared.frame.KeyPart.TheVariants as part
 use Rattle.plane_types.specs.declared.frame.KeyKind.{KeyKind}
 use Rattle.plane_types.specs.declared.frame.KeyKind.TheVariants.{Tcp, Udp, EchoAsk, EchoReply, Proto}
 use Rattle.plane_types.specs.declared.frame.Key.{Key}
-use Rattle.json_replies.specs.Printed.{fields}
-
-abbrev pub id_tree : Ident → Tree
-id_tree id = word (ident_text id)
-
-abbrev pub address_tree : Addr → Tree
-address_tree address = word (addr_text address)
-
--- an address of version 4, by its number
-abbrev pub four_tree : ℕ → Tree
-four_tree address = word (address_text address)
-
-abbrev pub mac_tree : MacAddress → Tree
-mac_tree mac = word (mac_text mac)
-
-abbrev pub prefix_tree : Prefix → Tree
-prefix_tree prefix = word (prefix_text prefix)
+use Rattle.json_trees.specs.Printed.{fields}
+use Rattle.json_trees.specs.Words.{address_tree, four_tree, id_tree, mac_tree}
 
 abbrev pub direction_tree : Direction → Tree
 direction_tree Ingress = word (codes "ingress")

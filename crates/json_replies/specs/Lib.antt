@@ -1,4 +1,3 @@
-pub mod Printed
 pub mod Frames
 pub mod Verdicts
 pub mod Tables

@@ -26,8 +26,9 @@ use Rattle.plane_types.specs.declared.table.FloatRow.{FloatRow}
 use Rattle.plane_types.specs.declared.table.LeaseRow.{LeaseRow}
 use Rattle.api_types.specs.declared.wire.Wire.{Wire}
 use Rattle.plane_types.specs.declared.lists.TableLists.{TableLists}
-use Rattle.json_replies.specs.Printed.{fields, list, or_null}
-use Rattle.json_replies.specs.Frames.{id_tree, address_tree, four_tree, mac_tree, prefix_tree, direction_tree, ethertype_tree}
+use Rattle.json_trees.specs.Printed.{fields, list, or_null}
+use Rattle.json_replies.specs.Frames.{direction_tree, ethertype_tree}
+use Rattle.json_trees.specs.Words.{id_tree, address_tree, four_tree, mac_tree, prefix_tree}
 use Rattle.json_replies.specs.Verdicts.{hop_tree}
 
 abbrev pub physical_tree : Option Wire → Tree

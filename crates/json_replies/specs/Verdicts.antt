@@ -18,8 +18,9 @@ use Rattle.plane_types.specs.declared.verdict.Toward.TheVariants.{Mac, Address, 
 use Rattle.plane_types.specs.declared.verdict.Made.{Made}
 use Rattle.plane_types.specs.declared.verdict.TrailItem.{TrailItem}
 use Rattle.plane_types.specs.declared.verdict.Verdict.{Verdict}
-use Rattle.json_replies.specs.Printed.{fields, list, or_null}
-use Rattle.json_replies.specs.Frames.{id_tree, address_tree, mac_tree, prefix_tree, frame_tree, entry_tree}
+use Rattle.json_trees.specs.Printed.{fields, list, or_null}
+use Rattle.json_replies.specs.Frames.{frame_tree, entry_tree}
+use Rattle.json_trees.specs.Words.{id_tree, address_tree, mac_tree, prefix_tree}
 
 abbrev pub hop_tree : Hop → Tree
 hop_tree hop =

@@ -3,9 +3,10 @@ ghost use Rattle.std.specs.Prelude.{◌≡◌, ◌∷◌, [], IfOk, OnOk, codes}
 ghost use Rattle.serde_json.specs.Data.{no_members};
 ghost use Rattle.api_types.specs.Printed.{number, word};
 ghost use Rattle.serde_json.specs.View.{members_view};
-ghost use Rattle.json_replies.specs.Printed.{members_data, tree_data};
+ghost use Rattle.json_trees.specs.Printed.{members_data, tree_data};
 ghost use Rattle.plane_types.specs.Ends.{destination, source};
-ghost use Rattle.json_replies.specs.Frames.{address_tree, ask_word as word_of_ask, entry_tree, frame_tree, key_tree, kind_members, mac_tree, packet_word as word_of_packet, part_members};
+ghost use Rattle.json_replies.specs.Frames.{ask_word as word_of_ask, entry_tree, frame_tree, key_tree, kind_members, packet_word as word_of_packet, part_members};
+ghost use Rattle.json_trees.specs.Words.{address_tree, mac_tree};
 
 use crate::printed::Prints;
 use net_addr::{Mac, OutOfMemory};

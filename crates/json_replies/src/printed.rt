@@ -3,7 +3,7 @@ ghost use Rattle.std.specs.Prelude.{◌≡◌, IfOk, map};
 ghost use Rattle.serde_json.specs.Data.{no_members};
 ghost use Rattle.serde_json.specs.View.{view, members_view};
 ghost use Rattle.api_types.specs.Printed.{tree_of, member_of};
-ghost use Rattle.json_replies.specs.Printed.{tree_data, members_data, list, or_null};
+ghost use Rattle.json_trees.specs.Printed.{tree_data, members_data, list, or_null};
 
 use api_types::{Ordered, Printed};
 use net_addr::{OutOfMemory, Seq, Text};

@@ -3,13 +3,14 @@ ghost use Rattle.std.specs.Prelude.{◌≡◌, IfOk, codes};
 ghost use Rattle.serde_json.specs.Written.{compact_text};
 ghost use Rattle.api_types.specs.Printed.{shown_row, reply_of};
 ghost use Rattle.api_types.specs.Titles.{resource_of, collection_of};
-ghost use Rattle.json_replies.specs.Printed.{tree_data, body_text};
-ghost use Rattle.json_replies.specs.Bodies.{only, row_tree, answer_tree, host_tree, version_tree, change_tree, page_tree, lab_tree, words_tree, fault_tree, handled_tree, body_of};
+ghost use Rattle.json_trees.specs.Printed.{only, tree_data, body_text};
+ghost use Rattle.wire_text.specs.Told.{numbered_change_tree, page_tree, version_tree};
+ghost use Rattle.json_replies.specs.Bodies.{row_tree, answer_tree, host_tree, lab_tree, words_tree, fault_tree, handled_tree, body_of};
 
 use crate::frame::put;
 use crate::printed::{Prints, members_of};
 use crate::sending::{Sends, write_shown};
-use api_types::{Answer, Refusal, Shown};
+use api_types::{Answer, Change, PageRows, Refusal, Shown};
 use net_addr::{Bytes, Names, OutOfMemory};
 use neutron_http::{Fault, fault_of};
 use plane_types::{HostState, LabAnswer, Reply, Verdict};
@@ -104,37 +105,41 @@ impl Prints for KeptNumbers {
     }
 }
 
-// The number of a change.
+// A kept change under its number.
 #[derive(Drop)]
-struct ChangeNumber {
+struct NumberedChange<'a> {
     number: u64,
+    items: &'a Change,
 }
 
-impl Prints for ChangeNumber {
-    ghost tree = { λ c. change_tree c.number };
+impl<'a> Prints for NumberedChange<'a> {
+    ghost tree = { λ c. numbered_change_tree c.number c.items.now };
 
     fn value(&self, alloc: Global) -> Result<Value, OutOfMemory> {
         let mut map = Map::new(alloc);
+        wire_text::put(&mut map, alloc, "items", self.items)?;
         put(&mut map, alloc, "number", &self.number)?;
         Ok(Value::Object(map))
     }
 }
 
-// The numbers of a page.
+// A page of the rows at a version.
 #[derive(Drop)]
-struct PageNumbers {
+struct NumberedPage<'a> {
     version: u64,
     number: u64,
     last: bool,
+    rows: &'a PageRows,
 }
 
-impl Prints for PageNumbers {
-    ghost tree = { λ p. page_tree p.version p.number p.last };
+impl<'a> Prints for NumberedPage<'a> {
+    ghost tree = { λ p. page_tree p.version p.number p.last p.rows.now };
 
     fn value(&self, alloc: Global) -> Result<Value, OutOfMemory> {
         let mut map = Map::new(alloc);
         put(&mut map, alloc, "last", &self.last)?;
         put(&mut map, alloc, "number", &self.number)?;
+        wire_text::put(&mut map, alloc, "rows", self.rows)?;
         put(&mut map, alloc, "version", &self.version)?;
         Ok(Value::Object(map))
     }
@@ -147,25 +152,6 @@ fn print_version(alloc: Global, first: u64, last: u64) -> Result<Bytes, OutOfMem
     only(alloc, "version", &KeptNumbers { first, last })
 }
 
-fn print_change(alloc: Global, number: u64) -> Result<Bytes, OutOfMemory>
-    ensures { IfOk result
-        (λ b. b ≡ compact_text (tree_data (only (codes "change") (change_tree number)))) }
-{
-    only(alloc, "change", &ChangeNumber { number })
-}
-
-fn print_page(alloc: Global, version: u64, number: u64, last: bool) -> Result<Bytes, OutOfMemory>
-    ensures { IfOk result
-        (λ b. b ≡ compact_text (tree_data (only (codes "page") (page_tree version number last)))) }
-{
-    let page = PageNumbers {
-        version,
-        number,
-        last,
-    };
-    only(alloc, "page", &page)
-}
-
 // The body of an answer of the lab.
 fn seen(alloc: Global, answer: &LabAnswer) -> Result<Bytes, OutOfMemory>
     ensures { IfOk result (λ b. b ≡ compact_text (tree_data (lab_tree answer.now))) }
@@ -176,13 +162,24 @@ fn seen(alloc: Global, answer: &LabAnswer) -> Result<Bytes, OutOfMemory>
         LabAnswer::Hosts(hosts) => only(alloc, "hosts", hosts),
         LabAnswer::Tables(tables) => only(alloc, "tables", tables),
         LabAnswer::Version { first, last } => print_version(alloc, *first, *last),
-        LabAnswer::Change { number, .. } => print_change(alloc, *number),
+        LabAnswer::Change { number, items } => {
+            let number = *number;
+            only(alloc, "change", &NumberedChange { number, items })
+        }
         LabAnswer::Page {
             version,
             number,
             last,
-            ..
-        } => print_page(alloc, *version, *number, *last),
+            rows,
+        } => {
+            let page = NumberedPage {
+                version: *version,
+                number: *number,
+                last: *last,
+                rows,
+            };
+            only(alloc, "page", &page)
+        }
     }
 }
 

@@ -4,7 +4,7 @@ ghost use Rattle.serde_json.specs.Data.{array, object};
 ghost use Rattle.serde_json.specs.Events.{SendsValue};
 ghost use Rattle.serde_json.specs.Written.{compact_text};
 ghost use Rattle.api_types.specs.Printed.{tree_of, trees_of, branches_of, member_of};
-ghost use Rattle.json_replies.specs.Printed.{tree_data};
+ghost use Rattle.json_trees.specs.Printed.{tree_data};
 ghost use Rattle.json_replies.specs.Straight.{ascends, straight, straight_items, straight_members, trees_ascend};
 
 use crate::ascending::members_ascend;

@@ -1,6 +1,6 @@
 //! The tables of a host as JSON.
 ghost use Rattle.std.specs.Prelude.{◌≡◌, IfOk};
-ghost use Rattle.json_replies.specs.Printed.{or_null};
+ghost use Rattle.json_trees.specs.Printed.{or_null};
 ghost use Rattle.api_types.specs.Printed.{word, number};
 ghost use Rattle.json_replies.specs.Tables.{physical_tree, number_tree, tag_row_tree, pair_tree, tap_tree, filter_tree, set_tree, bridge_key_text, bridge_to_tree, bridge_tree, inward_number_tree, wire_of, inward_tree, neighbour_tree, router_port_tree, router_tree, rank_word, route_tree, float_tree, lease_row_tree, tables_tree};
 

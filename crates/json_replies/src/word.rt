@@ -1,7 +1,8 @@
 //! Truth values, numbers, texts, ids and addresses as JSON.
 ghost use Rattle.std.specs.Prelude.{◌≡◌, IfOk};
 ghost use Rattle.api_types.specs.Printed.{truth, number, word};
-ghost use Rattle.json_replies.specs.Frames.{id_tree, address_tree, four_tree, mac_tree, prefix_tree, direction_tree, ethertype_tree};
+ghost use Rattle.json_replies.specs.Frames.{direction_tree, ethertype_tree};
+ghost use Rattle.json_trees.specs.Words.{id_tree, address_tree, four_tree, mac_tree, prefix_tree};
 
 use crate::printed::Prints;
 use api_types::{Direction, Ethertype, Id};

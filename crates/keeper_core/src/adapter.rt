@@ -41,6 +41,13 @@ impl<R> ReaderSource<R> {
         }
     }
 
+    /// How many reads failed.
+    pub fn faults(&self) -> u64
+        ensures { result ≡ self.now.faults }
+    {
+        self.faults
+    }
+
     // A read, counted where it fails.
     fn read_counted(&mut self, buf: &mut [u8]) -> Result<usize, Failed>
     where
@@ -92,6 +99,13 @@ impl<W> WriterSink<W> {
         ensures { result ≡ record { inner = inner; faults = 0 } }
     {
         WriterSink { inner, faults: 0 }
+    }
+
+    /// How many writes and flushes failed.
+    pub fn faults(&self) -> u64
+        ensures { result ≡ self.now.faults }
+    {
+        self.faults
     }
 
     /// The writer.

@@ -87,9 +87,9 @@ module _ (caller : Caller) (v w : World) (tenant : caller.admin ≡ false) (same
   lab_apart (Restart host) = admin_alike _ _
   lab_apart (Forget host) = admin_alike _ _
   lab_apart Settle = admin_alike _ _
-  lab_apart Version = refl
-  lab_apart (Change number) = refl
-  lab_apart (Page version number) = refl
+  lab_apart Version = admin_alike _ _
+  lab_apart (Change number) = admin_alike _ _
+  lab_apart (Page version number) = admin_alike _ _
 
 -- a call, at states under one and the same settings
 call_apart : (caller : Caller) (v w : World) → caller.admin ≡ false → not (is_empty caller.project) ≡ true → IsConsistent v.history.rows → IsConsistent w.history.rows → v.settings ≡ w.settings

@@ -17,7 +17,7 @@ use Rattle.plane_types.specs.declared.ask.Reply.TheVariants.{LabDone}
 use Rattle.bus_core.specs.History.{change_at}
 use Rattle.world_laws.specs.Steps.{Accept, Deliver, Forget, Resync, Restart, Send, Settle, Step, deliver_kept, step}
 use Rattle.world_laws.specs.World.{World}
-use Rattle.lab_world.specs.Lab.{Answered, Barred, LabOutcome, delivered, event_refusal, for_admins, host_named, lab_outcome, unless_barred, with_host}
+use Rattle.lab_world.specs.Lab.{Answered, Barred, LabOutcome, change_told, delivered, event_refusal, for_admins, host_named, lab_outcome, page_refusal, unless_barred, with_host}
 use Rattle.lab_world.specs.World.{ByLab, IsHandled, MovesBy}
 
 -- the step of the hosts that a call asks for
@@ -53,6 +53,10 @@ delivered_leads : (P : World → Type 0) (w : World) (name : Text) (number : Ver
 delivered_leads P w name number a None leads = tt
 delivered_leads P w name number a (Some c) leads = leads
 
+change_leads : (P : World → Type 0) (w : World) (number : Version) (c : Option (List Item)) → P w → LeadsTo P (change_told w number c)
+change_leads P w number None now = tt
+change_leads P w number (Some c) now = now
+
 pub lab_leads : (P : World → Type 0) (w : World) → P w → (caller : Caller) (c : LabCall) → ((s : Step) → IsAskedBy c s → P (step w s)) → LeadsTo P (lab_outcome w caller c)
 lab_leads P w now caller (call.Frames event) steps = unless_leads P (event_refusal w.history.rows caller event) _ (steps (Send event) refl)
 lab_leads P w now caller (call.Explain event) steps = unless_leads P (event_refusal w.history.rows caller event) _ now
@@ -64,9 +68,9 @@ lab_leads P w now caller (call.Resync name) steps = host_leads P caller name (ho
 lab_leads P w now caller (call.Restart name) steps = host_leads P caller name (host_named w name) _ (λ a. steps (Restart name) refl)
 lab_leads P w now caller (call.Forget name) steps = host_leads P caller name (host_named w name) _ (λ a. steps (Forget name) refl)
 lab_leads P w now caller call.Settle steps = admin_leads P caller _ (steps Settle refl)
-lab_leads P w now caller call.Version steps = tt
-lab_leads P w now caller (call.Change number) steps = tt
-lab_leads P w now caller (call.Page version number) steps = tt
+lab_leads P w now caller call.Version steps = admin_leads P caller _ now
+lab_leads P w now caller (call.Change number) steps = admin_leads P caller _ (change_leads P w number (change_at w.history number) now)
+lab_leads P w now caller (call.Page version number) steps = admin_leads P caller _ (unless_leads P (page_refusal w version number) _ now)
 
 delivery_keeps_rows : (w : World) (name : Text) (number : Version) (c : Option (List Item)) → (deliver_kept w name number c).history.rows ≡ w.history.rows
 delivery_keeps_rows w name number None = refl

@@ -1,30 +1,34 @@
 -- Calls of the lab with their answers, by what is done with the hosts.
-use Rattle.std.proofs.Common.{inl, inr, ◌⊎◌, ◌≡◌, ◌<◌, ℕ, List, Bool, true, None, Some, refl, ap, sym, subst, ◌∙◌, map, slice_get}
+use Rattle.std.proofs.Common.{inl, inr, ◌⊎◌, ◌≡◌, ◌<◌, ℕ, List, [], ◌∷◌, Bool, true, false, not, None, Some, refl, ap, sym, subst, ◌∙◌, map, slice_get}
+use Rattle.std.specs.Prelude.{◌==◌}
+use Rattle.api_types.specs.Refusing.{first_refusal, when}
 use Rattle.api_types.specs.RowLists.{RowLists}
 use Rattle.api_types.specs.declared.call.Caller.{Caller}
 use Rattle.api_types.specs.declared.change.Item.{Item}
+use Rattle.api_types.specs.declared.page.PageRow.{PageRow}
 use Rattle.api_types.specs.declared.refusal.Refusal.{Refusal}
-use Rattle.api_types.specs.declared.refusal.Refusal.TheVariants.{NoHost, NoMessage, OutOfMemory}
+use Rattle.api_types.specs.declared.refusal.Refusal.TheVariants.{NoHost, NoMessage, NoPage, OutOfMemory, VersionMoved}
 use Rattle.net_settings.specs.Settings.{SettingsParts}
 use Rattle.plane_types.specs.Node.{Agent, Node, after_change, after_forget, after_restart, after_resync, agents_of, hearing, host_of, ready_for}
 use Rattle.plane_types.specs.Verdicts.{fabric_verdict}
 use Rattle.plane_types.specs.declared.ask.Heard.{Heard}
 use Rattle.plane_types.specs.declared.ask.HostState.{HostState}
 use Rattle.plane_types.specs.declared.ask.LabAnswer.{LabAnswer}
-use Rattle.plane_types.specs.declared.ask.LabAnswer.TheVariants.{Hosts, Seen, Tables, Told}
+use Rattle.plane_types.specs.declared.ask.LabAnswer.TheVariants.{Change, Hosts, Page, Seen, Tables, Told, Version}
 use Rattle.plane_types.specs.declared.ask.LabCall.{LabCall}
 use Rattle.plane_types.specs.declared.ask.LabCall.TheVariants as call
 use Rattle.plane_types.specs.declared.ask.Reply.TheVariants.{LabDone}
 use Rattle.plane_types.specs.declared.event.Event.{Event}
 use Rattle.plane_types.specs.declared.verdict.Made.{Made}
 use Rattle.plane_types.specs.declared.verdict.Verdict.{Verdict}
+use Rattle.wire_types.specs.Pages.{all_rows, is_last_page, is_page, page}
 use Rattle.bus_core.specs.History.{change_at}
 use Rattle.bus_core.specs.Kept.{IsGone, Kept, change_of, first_of}
 use Rattle.bus_core.proofs.HistoryLaw.{gone_none}
 use Rattle.world_laws.specs.Steps.{Deliver, Forget, Resync, Restart, Send, Settle, Step, add_from, after_settle, at_host, deliver_kept, step}
 use Rattle.world_laws.specs.World.{World}
 use Rattle.world_laws.proofs.SyncLaw.{settle_syncs}
-use Rattle.lab_world.specs.Lab.{Answered, Barred, IsBarred, LabOutcome, delivered, event_refusal, for_admins, host_named, host_state, lab_outcome, stepped, with_host}
+use Rattle.lab_world.specs.Lab.{Answered, Barred, IsBarred, LabOutcome, change_told, delivered, event_refusal, for_admins, host_named, host_state, lab_outcome, page_refusal, page_told, stepped, unless_barred, version_told, with_host}
 use Rattle.lab_world.specs.Hosts.{IsNamedAt, at_place, named_node, settle_each, state_at_version, state_with}
 use Rattle.lab_world.specs.Parts.{AreParts, world_seen}
 use Rattle.lab_world.specs.World.{ByLab, IsHandled}
@@ -133,6 +137,57 @@ module _ (settings : SettingsParts) (rows : RowLists) (version : ℕ) (kept : Ke
   pub tables_seen : (name : List ℕ) (answer : LabAnswer) → caller.admin ≡ true → (n : Node) × (named_node name nodes ≡ Some n) × (answer ≡ Tables n.agent.tables)
       → lab_outcome (world_seen settings rows version kept nodes manual) caller (call.Tables name) ≡ Answered answer (world_seen settings rows version kept nodes manual)
   tables_seen name answer admin (n, is, same) = found caller name (host_named old name) n.agent (λ a. Answered (Tables a.tables) old) admin (some_named name nodes n is) ∙ ap (λ a. Answered a old) (sym same)
+
+  -- ---- what agents in other processes ask
+
+  pub version_seen : (first last : ℕ) → caller.admin ≡ true → first ≡ first_of kept.last kept.changes → last ≡ kept.last
+      → lab_outcome (world_seen settings rows version kept nodes manual) caller call.Version ≡ Answered (Version first last) (world_seen settings rows version kept nodes manual)
+  version_seen first last admin first_is last_is =
+      let is_first : first_of version kept.changes ≡ first = sym (first_is ∙ ap (λ n. first_of n kept.changes) are.numbered) in
+      admitted caller (Answered (version_told old) old) admin ∙ (λ j. Answered (Version (is_first j) (sym (last_is ∙ are.numbered) j)) old)
+
+  pub change_seen : (number : ℕ) (c items : List Item) → caller.admin ≡ true → change_of kept.last kept.changes number ≡ Some c → items ≡ c
+      → lab_outcome (world_seen settings rows version kept nodes manual) caller (call.Change number) ≡ Answered (Change number items) (world_seen settings rows version kept nodes manual)
+  change_seen number c items admin there same =
+      admitted caller (change_told old number (change_at old.history number)) admin
+      ∙ ap (change_told old number) (ap (λ n. change_of n kept.changes number) (sym are.numbered) ∙ there)
+      ∙ ap (λ x. Answered (Change number x) old) (sym same)
+
+  pub change_gone : (number : ℕ) → caller.admin ≡ true → (refusal : Refusal) → (refusal ≡ NoMessage number (first_of kept.last kept.changes) kept.last) × IsGone kept number
+      → lab_outcome (world_seen settings rows version kept nodes manual) caller (call.Change number) ≡ Barred refusal
+  change_gone number admin refusal (same, past) =
+      let by_version : refusal ≡ NoMessage number (first_of version kept.changes) version = same ∙ (λ j. NoMessage number (first_of (are.numbered j) kept.changes) (are.numbered j)) in
+      let gone_now : (number < first_of version kept.changes) ⊎ (version < number) = subst (λ (n : ℕ). (number < first_of n kept.changes) ⊎ (n < number)) are.numbered past in
+      admitted caller (change_told old number (change_at old.history number)) admin
+      ∙ ap (change_told old number) (gone_none old.history number are.world.lead.history.numbered gone_now)
+      ∙ ap Barred (sym by_version)
+
+  -- a page is looked for by its version first
+  page_by : (number v : ℕ) (a b : Bool) → (v == version) ≡ a → is_page number (all_rows rows) ≡ b
+      → page_refusal old v number ≡ first_refusal (when (not a) (VersionMoved v version) ∷ when (not b) (NoPage number) ∷ [])
+  page_by number v a b same there = λ j. first_refusal (when (not (same j)) (VersionMoved v version) ∷ when (not (there j)) (NoPage number) ∷ [])
+
+  abbrev page_answered : ℕ → ℕ → LabOutcome
+  page_answered v number = Answered (page_told old v number) old
+
+  pub page_moved : (v number : ℕ) → caller.admin ≡ true → (v == version) ≡ false → lab_outcome (world_seen settings rows version kept nodes manual) caller (call.Page v number) ≡ Barred (VersionMoved v version)
+  page_moved v number admin moved =
+      admitted caller (unless_barred (page_refusal old v number) (page_answered v number)) admin
+      ∙ ap (λ r. unless_barred r (page_answered v number)) (page_by number v false (is_page number (all_rows rows)) moved refl)
+
+  pub page_missing : (v number : ℕ) → caller.admin ≡ true → (v == version) ≡ true → is_page number (all_rows rows) ≡ false
+      → lab_outcome (world_seen settings rows version kept nodes manual) caller (call.Page v number) ≡ Barred (NoPage number)
+  page_missing v number admin same none =
+      admitted caller (unless_barred (page_refusal old v number) (page_answered v number)) admin
+      ∙ ap (λ r. unless_barred r (page_answered v number)) (page_by number v true false same none)
+
+  pub page_seen : (v number : ℕ) (last : Bool) (shown : List PageRow) → caller.admin ≡ true → (v == version) ≡ true → is_page number (all_rows rows) ≡ true
+      → shown ≡ page number (all_rows rows) → last ≡ is_last_page number (all_rows rows)
+      → lab_outcome (world_seen settings rows version kept nodes manual) caller (call.Page v number) ≡ Answered (Page v number last shown) (world_seen settings rows version kept nodes manual)
+  page_seen v number last shown admin same there shown_is last_is =
+      admitted caller (unless_barred (page_refusal old v number) (page_answered v number)) admin
+      ∙ ap (λ r. unless_barred r (page_answered v number)) (page_by number v true true same there)
+      ∙ (λ j. Answered (Page v number (sym last_is j) (sym shown_is j)) old)
 
   -- ---- frames
 

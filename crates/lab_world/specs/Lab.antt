@@ -1,6 +1,6 @@
 -- What calls of the lab come to: what hosts make of an event, what the rows say of it, the hosts
 -- and their tables, and messages that hosts get or lose. They are for administrators alone.
-use Rattle.std.specs.Prelude.{◌≡◌, ◌⊎◌, ◌∷◌, [], not, List, Option, Some, None, codes, find, is_some, map}
+use Rattle.std.specs.Prelude.{◌≡◌, ◌⊎◌, ◌==◌, ◌∷◌, [], not, ℕ, List, Option, Some, None, codes, find, is_some, map}
 use Rattle.std.specs.Str.{bytes_eq}
 use Rattle.net_addr.specs.Words.{Text, Version}
 use Rattle.api_types.specs.Ident.{ident_text}
@@ -12,12 +12,13 @@ use Rattle.api_types.specs.declared.change.Item.{Item}
 use Rattle.api_types.specs.declared.kind.Kind.TheVariants.{Port as PortKind}
 use Rattle.api_types.specs.declared.refusal.PolicyRule.TheVariants.{AdminOnly}
 use Rattle.api_types.specs.declared.refusal.Refusal.{Refusal}
-use Rattle.api_types.specs.declared.refusal.Refusal.TheVariants.{Forbidden, Invalid, NoHost, NoMessage, NoRoute, OutOfMemory}
+use Rattle.api_types.specs.declared.refusal.Refusal.TheVariants.{Forbidden, Invalid, NoHost, NoMessage, NoPage, OutOfMemory, VersionMoved}
 use Rattle.api_policy.specs.Visibility.{sees_row}
 use Rattle.plane_types.specs.Hosts.{all_entries}
 use Rattle.plane_types.specs.Verdicts.{fabric_verdict, rows_verdict}
 use Rattle.plane_types.specs.declared.ask.HostState.{HostState}
 use Rattle.plane_types.specs.declared.ask.LabAnswer.{LabAnswer}
+use Rattle.plane_types.specs.declared.ask.LabAnswer.TheVariants as answer
 use Rattle.plane_types.specs.declared.ask.LabAnswer.TheVariants.{Hosts, Seen, Tables, Told}
 use Rattle.plane_types.specs.declared.ask.LabCall.{LabCall}
 use Rattle.plane_types.specs.declared.ask.LabCall.TheVariants as call
@@ -26,6 +27,7 @@ use Rattle.plane_types.specs.declared.event.Event.TheVariants.{FromPort, FromWir
 use Rattle.bus_core.specs.History.{change_at, first_kept}
 use Rattle.plane_types.specs.Node.{Agent, hearing}
 use Rattle.world_laws.specs.Steps.{Deliver, Forget, Resync, Restart, Send, Settle, Step, step}
+use Rattle.wire_types.specs.Pages.{all_rows, is_last_page, is_page, page}
 use Rattle.world_laws.specs.World.{World, hosts_of}
 
 -- a call of the lab is refused, or answered, and then the world is this
@@ -79,6 +81,27 @@ delivered w name number a None = Barred (NoMessage number (first_kept w.history)
 delivered w name number a (Some c) =
     Answered (Told (hearing number a.held)) (step w (Deliver name number))
 
+-- the first and the last number that are kept; the last is the current version
+abbrev pub version_told : World → LabAnswer
+version_told w = answer.Version (first_kept w.history) w.history.version
+
+-- a change that is kept is told, and one that isn't is refused as at a host
+abbrev pub change_told : World → Version → Option (List Item) → LabOutcome
+change_told w number None = Barred (NoMessage number (first_kept w.history) w.history.version)
+change_told w number (Some c) = Answered (answer.Change number c) w
+
+-- a page is of the current rows, and of one version: the version is looked at first
+abbrev pub page_refusal : World → Version → ℕ → Option Refusal
+page_refusal w version number = first_refusal (
+    when (not (version == w.history.version)) (VersionMoved version w.history.version)
+    ∷ when (not (is_page number (all_rows w.history.rows))) (NoPage number)
+    ∷ [])
+
+abbrev pub page_told : World → Version → ℕ → LabAnswer
+page_told w version number =
+    let rows = all_rows w.history.rows in
+    answer.Page version number (is_last_page number rows) (page number rows)
+
 abbrev pub lab_outcome : World → Caller → LabCall → LabOutcome
 lab_outcome w caller (call.Frames event) =
     unless_barred (event_refusal w.history.rows caller event)
@@ -100,10 +123,12 @@ lab_outcome w caller (call.Restart name) =
 lab_outcome w caller (call.Forget name) =
     for_admins caller (with_host name (host_named w name) (λ a. stepped w (Forget name)))
 lab_outcome w caller call.Settle = for_admins caller (stepped w Settle)
--- no route leads to the three asks of agents in other processes yet
-lab_outcome w caller call.Version = Barred NoRoute
-lab_outcome w caller (call.Change number) = Barred NoRoute
-lab_outcome w caller (call.Page version number) = Barred NoRoute
+lab_outcome w caller call.Version = for_admins caller (Answered (version_told w) w)
+lab_outcome w caller (call.Change number) =
+    for_admins caller (change_told w number (change_at w.history number))
+lab_outcome w caller (call.Page version number) =
+    for_admins caller
+    (unless_barred (page_refusal w version number) (Answered (page_told w version number) w))
 
 -- the refusal is the outcome's, or memory could not be had
 abbrev pub IsBarred : LabOutcome → Refusal → Type 0

@@ -9,7 +9,8 @@
 //! message lags, and its tables are those of the rows that it has, always. `Hosts` is the list of
 //! the hosts, each an `AgentNode`; frames go over them as a `Fleet`. Calls of the lab deliver
 //! messages, restart hosts, give them the current rows, send frames through the tables, tell what
-//! the rows say of them, and show the tables. Each call is a step of the world of `world_laws`,
+//! the rows say of them, show the tables, and tell the version, the kept changes and the rows to
+//! agents in other processes. Each call is a step of the world of `world_laws`,
 //! whose laws so hold of every list of calls. `tenants_stay_apart` is a law: what a tenant is told
 //! depends on its footing alone.
 #![tactic(auto)]
@@ -22,6 +23,7 @@ mod lab;
 mod laws;
 mod messages;
 mod opening;
+mod told;
 mod world;
 
 pub use hosts::Hosts;

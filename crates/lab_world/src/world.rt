@@ -201,9 +201,9 @@ impl World {
             LabCall::Settle => self.settle(alloc, caller),
             LabCall::Hosts => self.hosts_told(alloc, caller),
             LabCall::Tables(name) => self.tables_told(alloc, caller, name),
-            LabCall::Version => Err(Refusal::NoRoute),
-            LabCall::Change { .. } => Err(Refusal::NoRoute),
-            LabCall::Page { .. } => Err(Refusal::NoRoute),
+            LabCall::Version => self.version_told(caller),
+            LabCall::Change { number } => self.change_told(alloc, caller, *number),
+            LabCall::Page { version, number } => self.page_told(alloc, caller, *version, *number),
         }
     }
 }

@@ -9,7 +9,7 @@ use Rattle.httparse.specs.Grammar.{is_value_byte, trim_ows}
 use Rattle.api_types.specs.declared.kind.Kind.{Kind}
 use Rattle.api_types.specs.declared.kind.Kind.TheVariants.{Project, Network, Subnet, Port, Group, Rule, Router, Floating, Policy}
 use Rattle.neutron_http.specs.declared.route.RoutePath.{RoutePath}
-use Rattle.neutron_http.specs.declared.route.RoutePath.TheVariants.{Rows, Row, AddInterface, RemoveInterface, Frames, Explain, Deliver, Resync, Restart, Forget, Settle, Hosts, Tables}
+use Rattle.neutron_http.specs.declared.route.RoutePath.TheVariants.{Rows, Row, AddInterface, RemoveInterface, Frames, Explain, Deliver, Resync, Restart, Forget, Settle, Hosts, Tables, Version, Change, Page}
 use Rattle.neutron_http.specs.Replies.{IsFieldValue}
 use Rattle.neutron_http.specs.Paths.{path_at}
 use Rattle.neutron_http.specs.Routes.{route_of, routed, Nowhere, allowed_text, is_parameter, parameters_in}
@@ -59,6 +59,9 @@ allowed_value Forget = value (codes "POST") refl refl
 allowed_value Settle = value (codes "POST") refl refl
 allowed_value Hosts = value (codes "GET") refl refl
 allowed_value Tables = value (codes "GET") refl refl
+allowed_value Version = value (codes "GET") refl refl
+allowed_value Change = value (codes "GET") refl refl
+allowed_value Page = value (codes "GET") refl refl
 
 module _ {A : Type 0} (text : A → List ℕ) (names parts : List A) where
   -- the parameters from a place on

@@ -10,7 +10,7 @@ use Rattle.matchit.specs.Seek.{first}
 use Rattle.api_types.specs.declared.kind.Kind.{Kind}
 use Rattle.api_types.specs.declared.kind.Kind.TheVariants.{Project, Network, Subnet, Port, Group, Rule, Router, Floating, Policy}
 use Rattle.neutron_http.specs.declared.route.RoutePath.{RoutePath}
-use Rattle.neutron_http.specs.declared.route.RoutePath.TheVariants.{Rows, Row, AddInterface, RemoveInterface, Frames, Explain, Deliver, Resync, Restart, Forget, Settle, Hosts, Tables}
+use Rattle.neutron_http.specs.declared.route.RoutePath.TheVariants.{Rows, Row, AddInterface, RemoveInterface, Frames, Explain, Deliver, Resync, Restart, Forget, Settle, Hosts, Tables, Version, Change, Page}
 
 -- the text of the path of all rows of a kind (OpenStack API reference, Networking API v2.0);
 -- projects have none
@@ -52,6 +52,9 @@ template_of Forget = codes "/lab/v1/forget"
 template_of Settle = codes "/lab/v1/settle"
 template_of Hosts = codes "/lab/v1/hosts"
 template_of Tables = codes "/lab/v1/hosts/{name}/tables"
+template_of Version = codes "/lab/v1/version"
+template_of Change = codes "/lab/v1/changes/{number}"
+template_of Page = codes "/lab/v1/snapshot/{version}/{page}"
 
 -- the paths, in the order in which the router takes them
 abbrev pub all_paths : List RoutePath
@@ -60,7 +63,8 @@ all_paths =
     ∷ Row Group ∷ Rows Rule ∷ Row Rule
     ∷ Rows Router ∷ Row Router ∷ Rows Floating ∷ Row Floating ∷ Rows Policy ∷ Row Policy
     ∷ AddInterface ∷ RemoveInterface
-    ∷ Frames ∷ Explain ∷ Deliver ∷ Resync ∷ Restart ∷ Forget ∷ Settle ∷ Hosts ∷ Tables ∷ []
+    ∷ Frames ∷ Explain ∷ Deliver ∷ Resync ∷ Restart ∷ Forget ∷ Settle ∷ Hosts ∷ Tables
+    ∷ Version ∷ Change ∷ Page ∷ []
 
 -- the rows of a router with the route of that text
 abbrev pub with_route : {T : Type 0} → Result Scan InsertError → T → RowsOf (RouteOf T)

@@ -9,7 +9,7 @@ use Rattle.neutron_http.specs.declared.route.Method.{Method}
 use Rattle.neutron_http.specs.declared.route.Method.TheVariants.{Delete, Get, Post, Put}
 use Rattle.neutron_http.specs.declared.route.Route.{Route}
 use Rattle.neutron_http.specs.declared.route.RoutePath.{RoutePath}
-use Rattle.neutron_http.specs.declared.route.RoutePath.TheVariants.{Rows, Row, AddInterface, RemoveInterface, Frames, Explain, Deliver, Resync, Restart, Forget, Settle, Hosts, Tables}
+use Rattle.neutron_http.specs.declared.route.RoutePath.TheVariants.{Rows, Row, AddInterface, RemoveInterface, Frames, Explain, Deliver, Resync, Restart, Forget, Settle, Hosts, Tables, Version, Change, Page}
 use Rattle.neutron_http.specs.declared.route.RouteRefusal.{RouteRefusal}
 use Rattle.neutron_http.specs.declared.route.RouteRefusal.TheVariants.{NoRoute, NoMethod, OutOfMemory}
 use Rattle.neutron_http.specs.Paths.{template_of, path_at}
@@ -49,6 +49,9 @@ methods_of Forget = Post ∷ []
 methods_of Settle = Post ∷ []
 methods_of Hosts = Get ∷ []
 methods_of Tables = Get ∷ []
+methods_of Version = Get ∷ []
+methods_of Change = Get ∷ []
+methods_of Page = Get ∷ []
 
 -- the method of that name among some
 abbrev pub method_in : List Method → Text → Option Method

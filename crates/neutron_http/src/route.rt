@@ -38,6 +38,9 @@ pub enum RoutePath {
     Settle,
     Hosts,
     Tables,
+    Version,
+    Change,
+    Page,
 }
 
 /// Where a request leads: its path, its method, and the texts that stand in the path where the
@@ -70,7 +73,7 @@ impl From<OutOfMemory> for RouteRefusal {
     }
 }
 
-const PATHS: [RoutePath; 27] = [
+const PATHS: [RoutePath; 30] = [
     RoutePath::Rows(Kind::Network),
     RoutePath::Row(Kind::Network),
     RoutePath::Rows(Kind::Subnet),
@@ -98,6 +101,9 @@ const PATHS: [RoutePath; 27] = [
     RoutePath::Settle,
     RoutePath::Hosts,
     RoutePath::Tables,
+    RoutePath::Version,
+    RoutePath::Change,
+    RoutePath::Page,
 ];
 
 // The text of the path of all rows of a kind. Projects have none.
@@ -152,6 +158,9 @@ fn template(path: RoutePath) -> &'static str
         RoutePath::Settle => "/lab/v1/settle",
         RoutePath::Hosts => "/lab/v1/hosts",
         RoutePath::Tables => "/lab/v1/hosts/{name}/tables",
+        RoutePath::Version => "/lab/v1/version",
+        RoutePath::Change => "/lab/v1/changes/{number}",
+        RoutePath::Page => "/lab/v1/snapshot/{version}/{page}",
     }
 }
 
@@ -176,7 +185,11 @@ fn methods(path: RoutePath) -> &'static [Method]
         RoutePath::Row(Kind::Rule) => &[Method::Delete, Method::Get],
         RoutePath::Row(_) => &[Method::Delete, Method::Get, Method::Put],
         RoutePath::AddInterface | RoutePath::RemoveInterface => &[Method::Put],
-        RoutePath::Hosts | RoutePath::Tables => &[Method::Get],
+        RoutePath::Hosts
+        | RoutePath::Tables
+        | RoutePath::Version
+        | RoutePath::Change
+        | RoutePath::Page => &[Method::Get],
         _ => &[Method::Post],
     }
 }
@@ -214,7 +227,11 @@ fn allowed(path: RoutePath) -> &'static str
         RoutePath::Row(Kind::Rule) => "DELETE, GET",
         RoutePath::Row(_) => "DELETE, GET, PUT",
         RoutePath::AddInterface | RoutePath::RemoveInterface => "PUT",
-        RoutePath::Hosts | RoutePath::Tables => "GET",
+        RoutePath::Hosts
+        | RoutePath::Tables
+        | RoutePath::Version
+        | RoutePath::Change
+        | RoutePath::Page => "GET",
         _ => "POST",
     }
 }

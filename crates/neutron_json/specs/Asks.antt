@@ -1,6 +1,6 @@
 -- What a request asks, by its route, its query and its body (OpenStack API reference, Networking
 -- API v2.0; the lab is this server's own).
-use Rattle.std.specs.Prelude.{List, [], ◌∷◌, Some, option_map, codes}
+use Rattle.std.specs.Prelude.{ℕ, List, [], ◌∷◌, Option, Some, None, option_map, codes}
 use Rattle.net_addr.specs.Words.{Bytes, Text}
 use Rattle.api_types.specs.declared.call.Call.TheVariants.{List as ListRows, Show, Create as CreateRow, Update as UpdateRow, Delete as DeleteRow, AddInterface, RemoveInterface}
 use Rattle.api_types.specs.declared.call.IdText.{IdText}
@@ -16,19 +16,25 @@ use Rattle.neutron_http.specs.declared.route.RoutePath.TheVariants as path
 use Rattle.plane_types.specs.declared.ask.Ask.{Ask}
 use Rattle.plane_types.specs.declared.ask.Ask.TheVariants.{Api, Lab}
 use Rattle.plane_types.specs.declared.ask.LabCall.{LabCall}
-use Rattle.plane_types.specs.declared.ask.LabCall.TheVariants.{Frames, Explain, Resync, Restart, Forget, Settle, Hosts, Tables}
+use Rattle.plane_types.specs.declared.ask.LabCall.TheVariants.{Frames, Explain, Resync, Restart, Forget, Settle, Hosts, Tables, Version, Change, Page}
 use Rattle.plane_types.specs.declared.event.Event.{Event}
 use Rattle.json_values.specs.Texts.{id_in}
 use Rattle.neutron_json.specs.Tables.{attributes_of, host_attributes, deliver_attributes}
 use Rattle.neutron_json.specs.Forms.{form_of}
 use Rattle.neutron_json.specs.Events.{event_attributes, event_of, host_of, deliver_of}
 use Rattle.neutron_json.specs.Bodies.{Read, Says, NoFrame, BadName, member_read, interface_read}
+use Rattle.neutron_json.specs.PathNumbers.{path_number}
 use Rattle.neutron_json.specs.declared.attribute.Edit.TheVariants.{Create, Update}
 
 -- the first text that stands in the path where the route has a name, or none
 abbrev pub first_text : List Text → Text
 first_text [] = []
 first_text (text ∷ texts) = text
+
+-- the second one
+abbrev pub second_text : List Text → Text
+second_text [] = []
+second_text (text ∷ texts) = first_text texts
 
 -- a text with the id that it spells, if any
 abbrev pub id_text : Text → IdText
@@ -84,6 +90,26 @@ deliver_read body =
 abbrev pub settle_read : Bytes → Read Ask
 settle_read body = member_read Create (codes "settle") (λ d. []) (λ d. Some (Lab Settle)) body
 
+-- what is asked under a number in the path, or its name if it is none
+abbrev pub with_number : Text → (ℕ → Read Ask) → Option ℕ → Read Ask
+with_number name asked None = BadName name
+with_number name asked (Some n) = asked n
+
+abbrev pub change_asked : ℕ → Read Ask
+change_asked n = Says (Lab (Change n))
+
+abbrev pub change_read : List Text → Read Ask
+change_read texts = with_number (codes "number") change_asked (path_number (first_text texts))
+
+abbrev pub page_asked : ℕ → ℕ → Read Ask
+page_asked version n = Says (Lab (Page version n))
+
+abbrev pub page_read : List Text → Read Ask
+page_read texts =
+    with_number (codes "version")
+    (λ version. with_number (codes "page") (page_asked version) (path_number (second_text texts)))
+    (path_number (first_text texts))
+
 abbrev pub adding : IdText → InterfaceBy → Ask
 adding router by = Api (AddInterface router by)
 
@@ -120,4 +146,7 @@ ask_of route query body = elim route.path [
   | path.Settle ↦ settle_read body
   | path.Hosts ↦ Says (Lab Hosts)
   | path.Tables ↦ Says (Lab (Tables (first_text route.parameters)))
+  | path.Version ↦ Says (Lab Version)
+  | path.Change ↦ change_read route.parameters
+  | path.Page ↦ page_read route.parameters
 ]

@@ -16,6 +16,7 @@ use crate::body::{Body, read_interface, read_member};
 use crate::copy::{first_text, query_copy, row_named};
 use crate::event::{deliver_of, event_of, host_of};
 use crate::form::form_of;
+use crate::number::{ask_change, ask_page};
 use crate::table::{
     attributes, deliver_attributes, host_attributes, port_event_attributes, wire_event_attributes,
 };
@@ -283,7 +284,8 @@ fn ask_host(alloc: Global, call: HostCall, body: &[u8]) -> Result<Ask, BodyRefus
 /// otherwise, at creation and in the lab, the first one in byte order that has to be there and is
 /// missing; else `port_id`, where an interface has not exactly one of `port_id` and `subnet_id`.
 /// The cost grows with query and body, and with the square of the length of a list whose items have
-/// to differ.
+/// to differ. A number in a path that isn't one of 1 to 20 digits below 2^64 is `BadAttribute` with its
+/// name, `version` before `page`.
 pub fn read_ask(
     alloc: Global,
     route: &Route,
@@ -306,5 +308,8 @@ pub fn read_ask(
         RoutePath::Settle => read_member(alloc, &Settling, Edit::Create, "settle", body),
         RoutePath::Hosts => Ok(Ask::Lab(LabCall::Hosts)),
         RoutePath::Tables => Ok(Ask::Lab(LabCall::Tables(first_text(alloc, route)?))),
+        RoutePath::Version => Ok(Ask::Lab(LabCall::Version)),
+        RoutePath::Change => ask_change(alloc, route),
+        RoutePath::Page => ask_page(alloc, route),
     }
 }

@@ -1,9 +1,8 @@
-//! The bodies of requests and replies, as JSON (RFC 8259).
+//! The bodies of requests, as JSON (RFC 8259).
 //!
 //! `read_ask` tells what a request asks, by its route, its query and its body: the definition's
-//! very value, or the first thing that is wrong with the body. `write_reply` makes the body of
-//! every reply. It stands on `json_values` for what values say and on `json_replies` for what is
-//! printed, and on `api_types`, `plane_types`, `neutron_http` and `serde_json`.
+//! very value, or the first thing that is wrong with the body. It stands on `json_values` for what
+//! values say, and on `api_types`, `plane_types`, `neutron_http` and `serde_json`.
 #![tactic(auto)]
 
 mod ask;
@@ -13,7 +12,7 @@ mod copy;
 mod event;
 mod form;
 mod frame;
+mod number;
 mod table;
 
 pub use ask::read_ask;
-pub use json_replies::write_reply;

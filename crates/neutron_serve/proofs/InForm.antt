@@ -21,7 +21,8 @@ use Rattle.api_types.specs.Titles.{resource_of}
 use Rattle.neutron_http.specs.Queries.{QueryRead, Asks}
 use Rattle.neutron_http.specs.Queries as queries
 use Rattle.neutron_http.specs.Routes.{Routed, Nowhere, Without, To, route_of}
-use Rattle.neutron_json.specs.Asks.{ask_of, rows_read, row_read, row_named, creation, update, on_event, on_host, mapped, adding, removing}
+use Rattle.neutron_json.specs.Asks.{ask_of, rows_read, row_read, row_named, creation, update, on_event, on_host, mapped, adding, removing, change_asked, first_text, page_asked, second_text, with_number}
+use Rattle.neutron_json.specs.PathNumbers.{path_number}
 use Rattle.neutron_json.specs.Events.{event_of, host_of, deliver_of}
 use Rattle.neutron_json.specs.Attributes.{bad_among, for_creation, for_update, missing_in, or_else}
 use Rattle.neutron_json.specs.Bodies.{Read, Says, NoFrame, BadName, checked, framed, interface_read, json_of}
@@ -151,6 +152,20 @@ row_in_form k Delete name query body ask h = subst if_asked h (plain _ refl tt)
 row_in_form k Put name query body ask h = update_asked k name (object_in (resource_of k) body) ask h
 row_in_form k Post name query body ask h = update_asked k name (object_in (resource_of k) body) ask h
 
+-- a number in a path is a change's, or after a version a page's
+number_in_form : (n : Option ℕ) (ask : Ask) → with_number (codes "number") change_asked n ≡ Says ask → IsAskBody ask
+number_in_form None ask h = absurd cc
+number_in_form (Some n) ask h = subst if_asked h tt
+
+page_in_form : (version : ℕ) (n : Option ℕ) (ask : Ask) → with_number (codes "page") (page_asked version) n ≡ Says ask → IsAskBody ask
+page_in_form version None ask h = absurd cc
+page_in_form version (Some n) ask h = subst if_asked h tt
+
+page_at_version : (version n : Option ℕ) (ask : Ask)
+    → with_number (codes "version") (λ v. with_number (codes "page") (page_asked v) n) version ≡ Says ask → IsAskBody ask
+page_at_version None n ask h = absurd cc
+page_at_version (Some v) n ask h = page_in_form v n ask h
+
 path_in_form : (p : RoutePath) (method : Method) (parameters : List (List ℕ)) (query : Query) (body : List ℕ) (ask : Ask)
     → ask_of (record { path = p; method = method; parameters = parameters }) query body ≡ Says ask → IsAskBody ask
 path_in_form (path.Rows k) method parameters query body ask h = rows_in_form k method query body ask h
@@ -166,6 +181,9 @@ path_in_form path.Forget method parameters query body ask h = plainly_asked (on_
 path_in_form path.Settle method parameters query body ask h = settled_by _ (object_in (codes "settle") body) ask h
 path_in_form path.Hosts method parameters query body ask h = subst if_asked h tt
 path_in_form path.Tables method parameters query body ask h = subst if_asked h tt
+path_in_form path.Version method parameters query body ask h = subst if_asked h tt
+path_in_form path.Change method parameters query body ask h = number_in_form (path_number (first_text parameters)) ask h
+path_in_form path.Page method parameters query body ask h = page_at_version (path_number (first_text parameters)) (path_number (second_text parameters)) ask h
 
 body_in_form : (read : Read Ask) (ask : Ask) → by_body read ≡ Ok ask → read ≡ Says ask
 body_in_form (Says asked) ask h = cc

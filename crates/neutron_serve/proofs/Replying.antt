@@ -19,7 +19,7 @@ use Rattle.api_types.specs.declared.change.Item.{Item}
 use Rattle.plane_types.specs.Node.{Agent}
 use Rattle.world_laws.specs.Steps.{add_from}
 use Rattle.world_laws.specs.World.{World, hosts_of}
-use Rattle.lab_world.specs.Lab.{Barred, LabOutcome, delivered, event_refusal, host_named, lab_outcome, unless_barred, with_host}
+use Rattle.lab_world.specs.Lab.{Barred, LabOutcome, change_told, delivered, event_refusal, host_named, lab_outcome, page_refusal, unless_barred, with_host}
 use Rattle.lab_world.specs.Lab as lab
 use Rattle.lab_world.specs.World.{AskOutcome, ByLab, ByMachine, Handles, IsHandled, IsTold, MovesBy, ask_outcome, is_change, state_of}
 use Rattle.http_session.specs.Told.{Answered, Moves, StoreFailed}
@@ -95,6 +95,10 @@ quiet_delivered : (old : World) (name : List ℕ) (number : ℕ) (a : Agent) (c 
 quiet_delivered old name number a None = tt
 quiet_delivered old name number a (Some c) = λ none. absurd cc
 
+quiet_change : (old : World) (number : ℕ) (c : Option (List Item)) → Quiet old (call.Change number) (change_told old number c)
+quiet_change old number None = tt
+quiet_change old number (Some c) = λ none. refl
+
 quiet_lab : (w : World) (caller : Caller) (c : LabCall) → Quiet w c (lab_outcome w caller c)
 quiet_lab w caller (call.Frames event) =
     quiet_unless w (call.Frames event) (event_refusal w.history.rows caller event) _
@@ -108,9 +112,10 @@ quiet_lab w caller (call.Resync name) = quiet_unless w (call.Resync name) (when 
 quiet_lab w caller (call.Restart name) = quiet_unless w (call.Restart name) (when (not caller.admin) (Forbidden AdminOnly)) _ (quiet_host w (call.Restart name) name (host_named w name) _ (λ a none. absurd cc))
 quiet_lab w caller (call.Forget name) = quiet_unless w (call.Forget name) (when (not caller.admin) (Forbidden AdminOnly)) _ (quiet_host w (call.Forget name) name (host_named w name) _ (λ a none. absurd cc))
 quiet_lab w caller call.Settle = quiet_unless w call.Settle (when (not caller.admin) (Forbidden AdminOnly)) _ (λ none. absurd cc)
-quiet_lab w caller call.Version = tt
-quiet_lab w caller (call.Change number) = tt
-quiet_lab w caller (call.Page version number) = tt
+quiet_lab w caller call.Version = quiet_unless w call.Version (when (not caller.admin) (Forbidden AdminOnly)) _ (λ none. refl)
+quiet_lab w caller (call.Change number) = quiet_unless w (call.Change number) (when (not caller.admin) (Forbidden AdminOnly)) _ (quiet_change w number (change_at w.history number))
+quiet_lab w caller (call.Page version number) =
+    quiet_unless w (call.Page version number) (when (not caller.admin) (Forbidden AdminOnly)) _ (quiet_unless w (call.Page version number) (page_refusal w version number) _ (λ none. refl))
 
 -- ---- what moves the world
 

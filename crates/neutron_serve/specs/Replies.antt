@@ -8,7 +8,7 @@ use Rattle.api_types.specs.Printed.{Reply, OneRow, ManyRows, NewRow, NoRow, Inte
 use Rattle.api_types.specs.declared.refusal.Refusal.{Refusal}
 use Rattle.api_types.specs.declared.refusal.Refusal.TheVariants.{NoMethod}
 use Rattle.json_replies.specs.Bodies.{answer_tree, body_of, fault_tree, lab_tree}
-use Rattle.json_replies.specs.Printed.{body_text}
+use Rattle.json_trees.specs.Printed.{body_text}
 use Rattle.lab_world.specs.Lab.{Answered, Barred}
 use Rattle.lab_world.specs.World.{AskOutcome, ByLab, ByMachine}
 use Rattle.neutron_http.specs.Faults.{code_of}

@@ -5,9 +5,9 @@ ghost use Rattle.neutron_http.specs.Replies.{IsReplyCode};
 ghost use Rattle.neutron_serve.specs.Replies.{allowed_in, answer_code, code_in, reply_written};
 
 use api_types::{Answer, Refusal};
+use json_replies::write_reply;
 use net_addr::{Bytes, Copies, OutOfMemory};
 use neutron_http::{Extra, fault_of, written};
-use neutron_json::write_reply;
 use plane_types::Reply;
 use std::alloc::Global;
 

@@ -11,8 +11,9 @@ use keeper_core::{Desk, DeskRefusal};
 use net_settings::{Settings, default_settings, read_settings};
 use std::alloc::Global;
 
-// The settings of the opening, and the default ones if it names none.
-fn settings_for<D: Desk>(
+/// Asks the desk for the settings of the opening, if it names some; the default ones otherwise.
+/// Nothing else is asked for. Its cost grows with the settings.
+pub fn ask_settings<D: Desk>(
     alloc: Global,
     desk: &mut D,
     opening: &Opening,
@@ -71,7 +72,7 @@ pub fn open_store<D: Desk>(
         openings.IsUnopened why opening.now (D.told desk.old) (D.told desk.new)) }
     ensures later { (D.told desk.old).faults ≤ (D.told desk.new).faults }
 {
-    let settings = settings_for(alloc, desk, opening)?;
+    let settings = ask_settings(alloc, desk, opening)?;
     let store = store_for(alloc, desk, opening)?;
     Ok((settings, store))
 }

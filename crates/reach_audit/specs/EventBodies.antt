@@ -4,9 +4,9 @@ use Rattle.std.specs.Prelude.{ℕ, [], ◌∷◌, codes, Option, Some, None}
 use Rattle.net_addr.specs.Words.{Bytes, Text}
 use Rattle.serde_json.specs.Written.{compact_text}
 use Rattle.api_types.specs.Printed.{NamedTree, Tree, null, number, word}
-use Rattle.json_replies.specs.Bodies.{only}
-use Rattle.json_replies.specs.Frames.{frame_tree, id_tree}
-use Rattle.json_replies.specs.Printed.{fields, or_null, tree_data}
+use Rattle.json_replies.specs.Frames.{frame_tree}
+use Rattle.json_trees.specs.Words.{id_tree}
+use Rattle.json_trees.specs.Printed.{fields, only, or_null, tree_data}
 use Rattle.plane_types.specs.declared.event.Event.{Event}
 use Rattle.plane_types.specs.declared.event.Event.TheVariants.{FromPort, FromWire}
 

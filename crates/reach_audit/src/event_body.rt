@@ -4,8 +4,9 @@ ghost use Rattle.std.specs.Prelude.{◌≡◌, ◌∷◌, [], IfOk, OnOk, codes,
 ghost use Rattle.serde_json.specs.Data.{no_members};
 ghost use Rattle.serde_json.specs.View.{members_view, view};
 ghost use Rattle.api_types.specs.Printed.{number, word};
-ghost use Rattle.json_replies.specs.Frames.{address_tree, ask_word as word_of_ask, frame_tree, mac_tree, packet_word as word_of_packet, part_members};
-ghost use Rattle.json_replies.specs.Printed.{members_data, or_null, tree_data};
+ghost use Rattle.json_replies.specs.Frames.{ask_word as word_of_ask, frame_tree, packet_word as word_of_packet, part_members};
+ghost use Rattle.json_trees.specs.Words.{address_tree, mac_tree};
+ghost use Rattle.json_trees.specs.Printed.{members_data, or_null, tree_data};
 ghost use Rattle.plane_types.specs.Ends.{destination, source};
 ghost use Rattle.reach_audit.specs.EventBodies.{body_tree, event_body, event_tree};
 

@@ -8,12 +8,12 @@ use Rattle.serde_json.specs.Read.{read}
 use Rattle.api_types.specs.Lists.{Each}
 use Rattle.api_types.specs.Printed.{Tree}
 use Rattle.api_types.proofs.ListLemmas.{none_some, some_equal}
-use Rattle.json_replies.specs.Bodies.{only, version_tree}
-use Rattle.json_replies.specs.Printed.{tree_data}
+use Rattle.json_trees.specs.Printed.{only, tree_data}
 use Rattle.wire_types.specs.declared.reply.WireReply.{WireReply}
 use Rattle.wire_types.specs.declared.reply.WireReply.TheVariants.{Change, NoMessage, NoPage, Page, Refused, Version, VersionMoved}
 use Rattle.wire_text.specs.Reading.{HasText, IsReadBack}
 use Rattle.wire_text.specs.Texts.{IsItem, IsPageRow}
+use Rattle.wire_text.specs.Told.{version_tree}
 use Rattle.wire_replies.specs.Faults.{is_fault}
 use Rattle.wire_replies.specs.Kinds.{IsChange, IsOf, IsPage, IsVersion, answer_in}
 use Rattle.wire_replies.specs.ReplyTexts.{IsAnswerText, IsRefused, change_body_tree, fault_tree, page_body_tree}

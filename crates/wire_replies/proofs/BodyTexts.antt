@@ -3,10 +3,10 @@ use Rattle.std.proofs.Common.{◌<◌, ◌^◌, ℕ, List, [], ◌∷◌, codes,
 use Rattle.std.specs.Prelude.{IsUtf8}
 use Rattle.api_types.specs.Lists.{Each}
 use Rattle.api_types.specs.Printed.{Tree, number, truth, word}
-use Rattle.json_replies.specs.Bodies.{only, version_tree}
-use Rattle.json_replies.specs.Printed.{fields, tree_data}
+use Rattle.json_trees.specs.Printed.{fields, only, tree_data}
 use Rattle.wire_text.specs.Reading.{IsReadBack}
 use Rattle.wire_text.specs.Texts.{IsItem, IsPageRow, change_tree, rows_tree}
+use Rattle.wire_text.specs.Told.{version_tree}
 use Rattle.wire_text.proofs.PlainRows.{plain_change, plain_rows, sorted}
 use Rattle.wire_text.proofs.Shallow.{deep_items, deep_page}
 use Rattle.wire_text.proofs.TextBack.{IsPlain, text_back}

@@ -6,8 +6,9 @@ use Rattle.httparse.specs.Grammar.{ReadsResponse, ResponseHead, status_code}
 use Rattle.httparse.specs.Spans.{name_and_value}
 use Rattle.net_addr.specs.Words.{Bytes, Text}
 use Rattle.neutron_http.specs.Replies.{Named, reply_bytes}
+use Rattle.wire_types.specs.Replies.{body_limit}
 use Rattle.wire_types.specs.declared.reply.WireReply.{WireReply}
-use Rattle.wire_replies.specs.ReplyTexts.{IsAllow, Says, body_limit, method_lists}
+use Rattle.wire_replies.specs.ReplyTexts.{IsAllow, Says, method_lists}
 
 abbrev pub is_named : Text → Named → Bool
 is_named name field = bytes_eq field.0 name

@@ -4,32 +4,24 @@ use Rattle.std.specs.List.{list_any}
 use Rattle.std.specs.Str.{bytes_eq}
 use Rattle.net_addr.specs.Words.{Bytes, Text, Version}
 use Rattle.api_types.specs.Lists.{Each}
-use Rattle.api_types.specs.Printed.{Tree, number, truth, word}
+use Rattle.api_types.specs.Printed.{Tree, word}
 use Rattle.api_types.specs.declared.change.Item.{Item}
 use Rattle.api_types.specs.declared.page.PageRow.{PageRow}
-use Rattle.json_replies.specs.Bodies.{only, version_tree}
-use Rattle.json_replies.specs.Printed.{fields}
+use Rattle.json_trees.specs.Printed.{fields, only}
 use Rattle.neutron_http.specs.Replies.{reply_bytes}
+use Rattle.wire_types.specs.Replies.{body_limit}
 use Rattle.wire_types.specs.declared.reply.WireReply.{WireReply}
 use Rattle.wire_types.specs.declared.reply.WireReply.TheVariants as reply
 use Rattle.wire_text.specs.Reading.{HasText}
-use Rattle.wire_text.specs.Texts.{IsItem, IsPageRow, change_tree, rows_tree}
+use Rattle.wire_text.specs.Texts.{IsItem, IsPageRow}
+use Rattle.wire_text.specs.Told.{numbered_change_tree, page_tree, version_tree}
 use Rattle.wire_replies.specs.Faults.{fault_reply, is_fault}
 
--- the most bytes of a body
-abbrev pub body_limit : ℕ
-body_limit = 67108864
-
 abbrev pub change_body_tree : Version → List Item → Tree
-change_body_tree n items =
-    only (codes "change")
-    (fields ((codes "items", change_tree items) ∷ (codes "number", number n) ∷ []))
+change_body_tree n items = only (codes "change") (numbered_change_tree n items)
 
 abbrev pub page_body_tree : Version → ℕ → Bool → List PageRow → Tree
-page_body_tree version n last rows =
-    only (codes "page") (fields (
-    (codes "last", truth last) ∷ (codes "number", number n) ∷ (codes "rows", rows_tree rows)
-    ∷ (codes "version", number version) ∷ []))
+page_body_tree version n last rows = only (codes "page") (page_tree version n last rows)
 
 -- its values are such that their types hold them
 abbrev pub IsWritable : WireReply → Type 0

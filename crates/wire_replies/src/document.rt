@@ -5,9 +5,9 @@ ghost use Rattle.serde_json.specs.Find.{get};
 ghost use Rattle.serde_json.specs.View.{members_view, view};
 ghost use Rattle.api_types.specs.Lists.{Each};
 ghost use Rattle.api_types.specs.Printed.{NamedTree};
-ghost use Rattle.json_replies.specs.Bodies.{only, version_tree};
-ghost use Rattle.json_replies.specs.Printed.{fields, members_data, tree_data};
+ghost use Rattle.json_trees.specs.Printed.{fields, members_data, only, tree_data};
 ghost use Rattle.wire_text.specs.Texts.{IsItem, IsPageRow};
+ghost use Rattle.wire_text.specs.Told.{version_tree};
 ghost use Rattle.wire_replies.specs.ReplyTexts.{change_body_tree, fault_tree, page_body_tree};
 
 use api_types::{Change, PageRows};

@@ -14,10 +14,7 @@ use net_addr::{OutOfMemory, Text};
 use neutron_http::{Extra, written};
 use std::alloc::Global;
 use wire_text::TextRefusal;
-use wire_types::WireReply;
-
-/// The most bytes of a reply's body.
-pub const BODY_LIMIT: usize = 67_108_864;
+use wire_types::{BODY_LIMIT, WireReply};
 
 /// A reply has at most five fields.
 const FIELDS: usize = 8;

@@ -4,7 +4,7 @@ use Rattle.serde_json.specs.Read.{read}
 use Rattle.api_types.specs.Lists.{Each}
 use Rattle.api_types.specs.declared.change.Item.{Item}
 use Rattle.api_types.specs.declared.page.PageRow.{PageRow}
-use Rattle.json_replies.specs.Printed.{tree_data}
+use Rattle.json_trees.specs.Printed.{tree_data}
 use Rattle.wire_text.specs.Texts.{IsItem, IsPageRow, change_text, change_tree, rows_text, rows_tree}
 use Rattle.wire_text.proofs.PlainRows.{plain_change, plain_rows}
 use Rattle.wire_text.proofs.Shallow.{deep_items, deep_page}

@@ -21,8 +21,8 @@ use Rattle.api_types.specs.declared.kind.Row.TheVariants.{Project, Network, Subn
 use Rattle.api_types.specs.declared.network.Segment.{Segment}
 use Rattle.api_types.specs.declared.network.Segment.TheVariants.{Local, Flat, Vlan, Vxlan}
 use Rattle.api_types.proofs.ListLemmas.{and_both}
-use Rattle.json_replies.specs.Printed.{or_null, tree_data, trees_data}
-use Rattle.json_replies.specs.Frames.{address_tree, id_tree, prefix_tree}
+use Rattle.json_trees.specs.Printed.{or_null, tree_data, trees_data}
+use Rattle.json_trees.specs.Words.{address_tree, id_tree, prefix_tree}
 use Rattle.wire_text.specs.Parts.{fixed_tree, gateway_tree, hop_tree, mode_tree, pair_tree, segment_parts, segment_tree, span_tree, target_tree}
 use Rattle.wire_text.specs.RowTrees.{floating_tree, group_tree, network_tree, policy_tree, port_tree, project_tree, router_tree, row_tree, rule_tree, subnet_tree}
 use Rattle.wire_text.specs.Texts.{IsItem, IsPageRow, MayBeRowOf, change_tree, item_tree, page_row_tree, rows_tree}

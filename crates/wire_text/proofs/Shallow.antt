@@ -8,9 +8,9 @@ use Rattle.api_types.specs.declared.kind.Row.{Row}
 use Rattle.api_types.specs.declared.kind.Row.TheVariants.{Project, Network, Subnet, Port, Group, Rule, Router, Floating, Policy}
 use Rattle.api_types.specs.declared.network.Segment.{Segment}
 use Rattle.api_types.specs.declared.network.Segment.TheVariants.{Local, Flat, Vlan, Vxlan}
-use Rattle.json_replies.specs.Printed.{or_null, tree_data, trees_data}
+use Rattle.json_trees.specs.Printed.{or_null, tree_data, trees_data}
 use Rattle.api_types.specs.Printed.{number, word}
-use Rattle.json_replies.specs.Frames.{address_tree, id_tree, prefix_tree}
+use Rattle.json_trees.specs.Words.{address_tree, id_tree, prefix_tree}
 use Rattle.wire_text.specs.Parts.{fixed_tree, gateway_tree, hop_tree, mode_tree, pair_tree, segment_tree, span_tree, target_tree}
 use Rattle.wire_text.specs.RowTrees.{row_tree}
 use Rattle.wire_text.specs.Texts.{change_tree, item_tree, page_row_tree, rows_tree}

@@ -4,4 +4,5 @@ pub mod Parts
 pub mod RowTrees
 pub mod Typed
 pub mod Texts
+pub mod Told
 pub mod Reading

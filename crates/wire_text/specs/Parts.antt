@@ -11,8 +11,8 @@ use Rattle.api_types.specs.declared.port.Fixed.{Fixed}
 use Rattle.api_types.specs.declared.port.Pair.{Pair}
 use Rattle.api_types.specs.declared.router.Gateway.{Gateway}
 use Rattle.api_types.specs.declared.floating.Target.{Target}
-use Rattle.json_replies.specs.Frames.{address_tree, four_tree, id_tree, mac_tree, prefix_tree}
-use Rattle.json_replies.specs.Printed.{fields}
+use Rattle.json_trees.specs.Words.{address_tree, four_tree, id_tree, mac_tree, prefix_tree}
+use Rattle.json_trees.specs.Printed.{fields}
 use Rattle.wire_text.specs.VariantNames.{mode_name}
 
 abbrev pub span_tree : Span → Tree

@@ -4,7 +4,7 @@ use Rattle.serde_json.specs.Read.{read}
 use Rattle.serde_json.specs.Written.{compact_text}
 use Rattle.net_addr.specs.Words.{Bytes}
 use Rattle.api_types.specs.Printed.{Tree, null, truth, number, word, items, object}
-use Rattle.json_replies.specs.Printed.{tree_data}
+use Rattle.json_trees.specs.Printed.{tree_data}
 use Rattle.wire_text.specs.declared.refusal.TextRefusal.{TextRefusal}
 use Rattle.wire_text.specs.declared.refusal.TextRefusal.TheVariants.{BadText, OutOfMemory}
 

@@ -12,8 +12,8 @@ use Rattle.api_types.specs.declared.group.RuleRow.{RuleRow}
 use Rattle.api_types.specs.declared.router.RouterRow.{RouterRow}
 use Rattle.api_types.specs.declared.floating.FloatingRow.{FloatingRow}
 use Rattle.api_types.specs.declared.policy.PolicyRow.{PolicyRow}
-use Rattle.json_replies.specs.Frames.{address_tree, four_tree, id_tree, mac_tree, prefix_tree}
-use Rattle.json_replies.specs.Printed.{fields, list, or_null}
+use Rattle.json_trees.specs.Words.{address_tree, four_tree, id_tree, mac_tree, prefix_tree}
+use Rattle.json_trees.specs.Printed.{fields, list, or_null}
 use Rattle.wire_text.specs.Parts.{fixed_tree, gateway_tree, hop_tree, mode_tree, pair_tree, segment_tree, span_tree, target_tree}
 use Rattle.wire_text.specs.VariantNames.{action_name, direction_name, ethertype_name, vif_name}
 

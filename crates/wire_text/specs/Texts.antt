@@ -9,7 +9,7 @@ use Rattle.api_types.specs.declared.change.Item.{Item}
 use Rattle.api_types.specs.declared.kind.Kind.{Kind}
 use Rattle.api_types.specs.declared.kind.Row.{Row}
 use Rattle.api_types.specs.declared.page.PageRow.{PageRow}
-use Rattle.json_replies.specs.Printed.{fields, list, or_null, tree_data}
+use Rattle.json_trees.specs.Printed.{fields, list, or_null, tree_data}
 use Rattle.wire_types.specs.Pages.{kind_of}
 use Rattle.wire_text.specs.RowTrees.{row_tree}
 use Rattle.wire_text.specs.Typed.{IsTyped}

@@ -3,7 +3,7 @@ ghost use Rattle.std.specs.Prelude.{◌≡◌, IfOk, Option, Some};
 ghost use Rattle.serde_json.specs.Find.{get};
 ghost use Rattle.serde_json.specs.View.{view};
 ghost use Rattle.api_types.specs.declared.kind.Row.{Row};
-ghost use Rattle.json_replies.specs.Printed.{or_null, tree_data};
+ghost use Rattle.json_trees.specs.Printed.{or_null, tree_data};
 ghost use Rattle.wire_text.specs.Reading.{Reads};
 ghost use Rattle.wire_text.specs.RowTrees.{row_tree};
 ghost use Rattle.wire_text.specs.Texts.{IsItem, IsPageRow, IsRowOf, MayBeRowOf, item_tree, page_row_tree};

@@ -2,7 +2,7 @@
 //!
 //! A change, or a page of rows, has exactly one text: JSON (RFC 8259) without spaces, members in
 //! byte order of their names, values as this server prints them. What is written is read back, and
-//! no other text is read. It stands on `wire_types`, `json_replies`, whose trees it cites, and
+//! no other text is read. It stands on `wire_types`, `json_trees`, whose trees it cites, and
 //! `serde_json`.
 #![tactic(auto)]
 

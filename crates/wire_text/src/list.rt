@@ -2,7 +2,7 @@
 ghost use Rattle.std.specs.Prelude.{◌≡◌, IfOk, IfSome, List, map};
 ghost use Rattle.serde_json.specs.View.{view};
 ghost use Rattle.api_types.specs.Lists.{Each};
-ghost use Rattle.json_replies.specs.Printed.{list, or_null, tree_data};
+ghost use Rattle.json_trees.specs.Printed.{list, or_null, tree_data};
 ghost use Rattle.wire_text.specs.Reading.{Reads};
 
 use crate::refusal::TextRefusal;

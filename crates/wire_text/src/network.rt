@@ -4,7 +4,7 @@ ghost use Rattle.serde_json.specs.View.{view};
 ghost use Rattle.net_addr.specs.Words.{Text};
 ghost use Rattle.api_types.specs.Printed.{Tree};
 ghost use Rattle.api_types.specs.declared.network.Segment.TheVariants.{Flat, Vlan, Vxlan};
-ghost use Rattle.json_replies.specs.Printed.{tree_data};
+ghost use Rattle.json_trees.specs.Printed.{tree_data};
 ghost use Rattle.wire_text.specs.Parts.{segment_parts, segment_tree};
 ghost use Rattle.wire_text.specs.Reading.{Reads};
 ghost use Rattle.wire_text.specs.RowTrees.{network_tree};

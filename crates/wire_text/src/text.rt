@@ -5,7 +5,7 @@ ghost use Rattle.serde_json.specs.View.{view};
 ghost use Rattle.serde_json.specs.Written.{compact_text};
 ghost use Rattle.api_types.specs.declared.change.Item.{Item};
 ghost use Rattle.api_types.specs.declared.page.PageRow.{PageRow};
-ghost use Rattle.json_replies.specs.Printed.{tree_data};
+ghost use Rattle.json_trees.specs.Printed.{tree_data};
 ghost use Rattle.wire_text.specs.Reading.{HasText, IsReadBack};
 ghost use Rattle.wire_text.specs.Texts.{IsChangeText, IsRowsText, change_text, rows_text};
 ghost use Rattle.wire_text.specs.declared.refusal.TextRefusal.TheVariants.{BadText};

@@ -2,7 +2,7 @@
 ghost use Rattle.std.specs.Prelude.{◌≡◌, ◌∷◌, [], IfOk, OnOk, Some};
 ghost use Rattle.serde_json.specs.Find.{get};
 ghost use Rattle.serde_json.specs.View.{members_view, view};
-ghost use Rattle.json_replies.specs.Printed.{members_data, tree_data};
+ghost use Rattle.json_trees.specs.Printed.{members_data, tree_data};
 ghost use Rattle.wire_text.specs.Reading.{Reads};
 
 use crate::refusal::TextRefusal;

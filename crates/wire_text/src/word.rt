@@ -5,8 +5,8 @@ ghost use Rattle.net_addr.specs.Words.{Text};
 ghost use Rattle.api_types.specs.Ident.{Ident, ident_text};
 ghost use Rattle.api_types.specs.Printed.{number, truth, word};
 ghost use Rattle.net_addr.specs.Addresses.{IsAddr};
-ghost use Rattle.json_replies.specs.Frames.{address_tree, four_tree, id_tree, mac_tree, prefix_tree};
-ghost use Rattle.json_replies.specs.Printed.{tree_data};
+ghost use Rattle.json_trees.specs.Words.{address_tree, four_tree, id_tree, mac_tree, prefix_tree};
+ghost use Rattle.json_trees.specs.Printed.{tree_data};
 ghost use Rattle.wire_text.specs.Reading.{Reads};
 ghost use Rattle.wire_text.specs.Typed.{IsIdent, IsNet};
 

@@ -1,3 +1,4 @@
 pub mod PageLaw
+mod PagesMadeLemmas
 pub mod ChangeLaw
 pub mod ReplyLaw

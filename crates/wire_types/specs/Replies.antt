@@ -12,6 +12,10 @@ use Rattle.wire_types.specs.declared.ask.WireAsk.TheVariants as ask
 use Rattle.wire_types.specs.declared.reply.WireReply.{WireReply}
 use Rattle.wire_types.specs.declared.reply.WireReply.TheVariants as reply
 
+-- the most bytes of a reply's body
+abbrev pub body_limit : ℕ
+body_limit = 67108864
+
 abbrev pub change_reply : Version → Option (List Item) → WireReply
 change_reply number None = reply.NoMessage
 change_reply number (Some c) = reply.Change number c

@@ -6,11 +6,15 @@
 #![tactic(auto)]
 
 mod ask;
+mod changes;
 mod laws;
+mod pages;
 mod reply;
 mod step;
 
 pub use ask::WireAsk;
+pub use changes::copy_change;
 pub use laws::all_rows_are_read_back;
-pub use reply::WireReply;
+pub use pages::{RowsPage, copy_page};
+pub use reply::{BODY_LIMIT, WireReply};
 pub use step::WireStep;

@@ -2,6 +2,9 @@
 
 use api_types::{Change, PageRows};
 
+/// The most bytes of a reply's body.
+pub const BODY_LIMIT: usize = 67_108_864;
+
 /// What a reply says to an agent. It tells apart only those refusals after which an agent does
 /// something else.
 #[derive(Drop)]

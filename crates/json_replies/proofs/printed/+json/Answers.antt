@@ -6,7 +6,7 @@ use Rattle.serde_json.proofs.Views.{view-Array, view-Object}
 use Rattle.serde_json.specs.declared.value.Value.{the_lemmas as value_lemmas}
 use Rattle.api_types.specs.declared.answer.Printed.{the_lemmas as printed_lemmas}
 use Rattle.api_types.specs.Printed.{tree_of}
-use Rattle.json_replies.proofs.PrintedLemmas.{items_data, members_push}
+use Rattle.json_trees.proofs.PrintedLemmas.{items_data, members_push}
 use Rattle.json_replies.proofs.printed.+json.Goals as goal
 
 pub value_of-returns-in_ok-values_of-in-Items : goal.value_of-returns-in_ok-values_of-in-Items

@@ -2,7 +2,7 @@ use Rattle.std.proofs.Common.{◌≡◌, map, take}
 use Rattle.serde_json.specs.Data.{no_members}
 use Rattle.serde_json.specs.View.{view, members_view}
 use Rattle.api_types.specs.Printed.{tree_of, member_of}
-use Rattle.json_replies.specs.Printed.{tree_data, members_data}
+use Rattle.json_trees.specs.Printed.{tree_data, members_data}
 use Rattle.json_replies.proofs.printed.+json.Given as goal
 
 -- the values so far

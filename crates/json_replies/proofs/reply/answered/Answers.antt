@@ -1,7 +1,7 @@
 use Rattle.std.proofs.Common.{◌∙◌, ap, sym}
 use Rattle.std.proofs.lemmas.Result.{IfOk-weaker}
 use Rattle.api_types.specs.Printed.{reply_of}
-use Rattle.json_replies.specs.Printed.{body_text}
+use Rattle.json_trees.specs.Printed.{body_text}
 use Rattle.json_replies.specs.Bodies.{answer_tree}
 use Rattle.json_replies.proofs.RowLemmas.{many_rows}
 use Rattle.json_replies.proofs.reply.answered.Goals as goal

@@ -1,5 +1,5 @@
 use Rattle.std.proofs.Common.{◌∙◌}
-use Rattle.json_replies.proofs.PrintedLemmas.{written}
+use Rattle.json_trees.proofs.PrintedLemmas.{written}
 use Rattle.json_replies.proofs.reply.text.Goals as goal
 
 pub returns : goal.returns

@@ -1,7 +1,7 @@
 use Rattle.std.proofs.Common.{◌≡◌, ◌∙◌, ap, sym, true, rules}
 use Rattle.serde_json.specs.Written.{has_float, compact_text}
 use Rattle.serde_json.proofs.FreeTexts.{text_of_value}
-use Rattle.json_replies.proofs.PrintedLemmas.{tree_no_float}
+use Rattle.json_trees.proofs.PrintedLemmas.{tree_no_float}
 use Rattle.json_replies.specs.Straight.{ascends, straight}
 use Rattle.json_replies.proofs.StraightLemmas.{straight_data}
 use Rattle.json_replies.proofs.sending.write_shown.Goals as goal

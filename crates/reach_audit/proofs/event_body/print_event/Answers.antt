@@ -1,4 +1,4 @@
-use Rattle.json_replies.proofs.PrintedLemmas.{written}
+use Rattle.json_trees.proofs.PrintedLemmas.{written}
 use Rattle.reach_audit.specs.EventBodies.{body_tree}
 use Rattle.reach_audit.proofs.event_body.print_event.Goals as goal
 

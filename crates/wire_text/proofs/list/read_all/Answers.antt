@@ -2,7 +2,7 @@ use Rattle.std.proofs.Common.{◌<◌, ◌≤◌, ◌+◌, length, arith, subst,
 use Rattle.std.proofs.lemmas.Result.{err_from_is_err_and}
 use Rattle.api_types.specs.Lists.{Each}
 use Rattle.api_types.proofs.ListLemmas.{each-push}
-use Rattle.json_replies.specs.Printed.{tree_data}
+use Rattle.json_trees.specs.Printed.{tree_data}
 use Rattle.wire_text.proofs.ListsRead.{Left, all_read, next_one, one_read}
 use Rattle.wire_text.proofs.list.read_all.Goals as goal
 

@@ -1,7 +1,7 @@
 use Rattle.std.proofs.Common.{◌≡◌, map}
 use Rattle.serde_json.specs.View.{view}
 use Rattle.api_types.specs.Lists.{Each}
-use Rattle.json_replies.specs.Printed.{tree_data}
+use Rattle.json_trees.specs.Printed.{tree_data}
 use Rattle.wire_text.proofs.ListsRead.{Left}
 use Rattle.wire_text.proofs.list.read_all.Given as goal
 

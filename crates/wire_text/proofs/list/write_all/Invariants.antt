@@ -1,6 +1,6 @@
 use Rattle.std.proofs.Common.{◌≡◌, map, take}
 use Rattle.serde_json.specs.View.{view}
-use Rattle.json_replies.specs.Printed.{tree_data}
+use Rattle.json_trees.specs.Printed.{tree_data}
 use Rattle.wire_text.proofs.list.write_all.Given as goal
 
 -- the values so far

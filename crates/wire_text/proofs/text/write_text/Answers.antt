@@ -1,7 +1,7 @@
 use Rattle.std.proofs.Common.{◌∙◌, ap, subst, sym}
 use Rattle.std.specs.Prelude.{IsUtf8}
 use Rattle.std.proofs.lemmas.Str.{IsUtf8-string_bytes}
-use Rattle.json_replies.proofs.PrintedLemmas.{written}
+use Rattle.json_trees.proofs.PrintedLemmas.{written}
 use Rattle.wire_text.proofs.text.write_text.Goals as goal
 
 pub returns-clause-text : goal.returns-clause-text

@@ -3,8 +3,8 @@ use Rattle.serde_json.specs.Data.{array}
 use Rattle.serde_json.specs.View.{items_of}
 use Rattle.serde_json.proofs.Views.{view-Array}
 use Rattle.api_types.specs.Printed.{trees_of}
-use Rattle.json_replies.specs.Printed.{trees_data}
-use Rattle.json_replies.proofs.PrintedLemmas.{items_data}
+use Rattle.json_trees.specs.Printed.{trees_data}
+use Rattle.json_trees.proofs.PrintedLemmas.{items_data}
 use Rattle.json_replies.proofs.printed.AscendingPrints.value.Goals as goal
 
 pub returns : goal.returns

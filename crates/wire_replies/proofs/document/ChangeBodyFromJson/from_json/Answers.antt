@@ -6,7 +6,7 @@ use Rattle.serde_json.specs.View.{view}
 use Rattle.api_types.specs.Printed.{number}
 use Rattle.wire_text.specs.Texts.{change_tree}
 use Rattle.api_types.proofs.ListLemmas.{none_some, some_equal}
-use Rattle.json_replies.specs.Printed.{fields, tree_data}
+use Rattle.json_trees.specs.Printed.{fields, tree_data}
 use Rattle.wire_replies.specs.declared.document.ChangeBody.{ChangeBody}
 use Rattle.wire_replies.proofs.document.ChangeBodyFromJson.from_json.Goals as goal
 

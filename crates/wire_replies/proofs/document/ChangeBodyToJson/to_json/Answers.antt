@@ -2,7 +2,7 @@ use Rattle.std.proofs.Common.{◌∙◌, [], ◌∷◌, ap, codes}
 use Rattle.serde_json.specs.View.{members_view}
 use Rattle.api_types.specs.Printed.{number}
 use Rattle.wire_text.specs.Texts.{change_tree}
-use Rattle.json_replies.specs.Printed.{members_data}
+use Rattle.json_trees.specs.Printed.{members_data}
 use Rattle.wire_replies.proofs.document.ChangeBodyToJson.to_json.Goals as goal
 
 pub returns : goal.returns

@@ -5,7 +5,7 @@ use Rattle.serde_json.specs.Find.{get}
 use Rattle.serde_json.specs.View.{view}
 use Rattle.api_types.specs.Printed.{word}
 use Rattle.api_types.proofs.ListLemmas.{none_some, some_equal}
-use Rattle.json_replies.specs.Printed.{fields, tree_data}
+use Rattle.json_trees.specs.Printed.{fields, tree_data}
 use Rattle.wire_replies.specs.declared.document.FaultBody.{FaultBody}
 use Rattle.wire_replies.proofs.document.FaultBodyFromJson.from_json.Goals as goal
 

@@ -6,7 +6,7 @@ use Rattle.serde_json.specs.View.{view}
 use Rattle.api_types.specs.Printed.{number, truth}
 use Rattle.wire_text.specs.Texts.{rows_tree}
 use Rattle.api_types.proofs.ListLemmas.{none_some, some_equal}
-use Rattle.json_replies.specs.Printed.{fields, tree_data}
+use Rattle.json_trees.specs.Printed.{fields, tree_data}
 use Rattle.wire_replies.specs.declared.document.PageBody.{PageBody}
 use Rattle.wire_replies.proofs.document.PageBodyFromJson.from_json.Goals as goal
 

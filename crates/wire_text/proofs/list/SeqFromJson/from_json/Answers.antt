@@ -4,8 +4,8 @@ use Rattle.serde_json.specs.Find.{as_array}
 use Rattle.serde_json.specs.View.{items_of, items_view, view}
 use Rattle.api_types.specs.Printed.{trees_of}
 use Rattle.api_types.proofs.ListLemmas.{some_equal}
-use Rattle.json_replies.specs.Printed.{tree_data, trees_data}
-use Rattle.json_replies.proofs.PrintedLemmas.{items_data}
+use Rattle.json_trees.specs.Printed.{tree_data, trees_data}
+use Rattle.json_trees.proofs.PrintedLemmas.{items_data}
 use Rattle.wire_text.proofs.list.SeqFromJson.from_json.Goals as goal
 
 items_same : (xs ys : List Data) → items_of xs ≡ items_of ys → xs ≡ ys

@@ -3,7 +3,7 @@ use Rattle.std.proofs.lemmas.Result.{IfOk-weaker}
 use Rattle.serde_json.specs.declared.value.Value.{the_lemmas as value_lemmas}
 use Rattle.api_types.specs.Printed.{null, number, word}
 use Rattle.api_types.specs.declared.network.Segment.{Segment}
-use Rattle.json_replies.specs.Printed.{tree_data}
+use Rattle.json_trees.specs.Printed.{tree_data}
 use Rattle.wire_text.specs.Parts.{segment_tree}
 use Rattle.wire_text.proofs.network.SegmentToJson.to_json.Goals as goal
 

@@ -3,8 +3,8 @@ use Rattle.serde_json.specs.Data.{object}
 use Rattle.serde_json.specs.View.{members_view}
 use Rattle.serde_json.proofs.Views.{view-Object}
 use Rattle.api_types.specs.Printed.{truth, word}
-use Rattle.json_replies.specs.Frames.{id_tree, mac_tree}
-use Rattle.json_replies.specs.Printed.{list, members_data}
+use Rattle.json_trees.specs.Words.{id_tree, mac_tree}
+use Rattle.json_trees.specs.Printed.{list, members_data}
 use Rattle.wire_text.specs.Parts.{fixed_tree, pair_tree}
 use Rattle.wire_text.specs.VariantNames.{vif_name}
 use Rattle.wire_text.proofs.port.PortRowToJson.to_json.Goals as goal

@@ -3,7 +3,7 @@ use Rattle.std.proofs.lemmas.Result.{err_from_is_err_and}
 use Rattle.keeper_core.specs.Desk.{AreNamed}
 use Rattle.openings.specs.Openings.{AreSettings, by_settings}
 use Rattle.openings.proofs.OpeningLemmas.{settings_given, settings_refused, settings_unread, settings_unmade}
-use Rattle.openings.proofs.store.settings_for.Goals as goal
+use Rattle.openings.proofs.store.ask_settings.Goals as goal
 
 pub returns-in_err-default_settings-clause-err : goal.returns-in_err-default_settings-clause-err
 returns-in_err-default_settings-clause-err g c =

@@ -7,7 +7,7 @@ use Rattle.serde_json.specs.Data.{Data, put}
 use Rattle.serde_json.specs.View.{items_of}
 use Rattle.serde_json.specs.Written.{has_float, items_have_float, members_have_float, compact_text}
 use Rattle.api_types.specs.Printed.{Tree, null, truth, number, word, items, object, Trees, no_trees, tree, Branches, no_branches, branch, trees_of, NamedTree}
-use Rattle.json_replies.specs.Printed.{tree_data, trees_data, branches_data, members_data}
+use Rattle.json_trees.specs.Printed.{tree_data, trees_data, branches_data, members_data}
 
 -- items one by one
 pub items_data : {A : Type 0} → (f : A → Tree) (xs : List A) → trees_data (trees_of (map f xs)) ≡ items_of (map (λ x. tree_data (f x)) xs)

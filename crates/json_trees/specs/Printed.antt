@@ -1,6 +1,6 @@
 -- Printed values as JSON (RFC 8259). The members of an object stand in byte order of their names.
-use Rattle.std.specs.Prelude.{List, [], Option, Some, None}
-use Rattle.net_addr.specs.Words.{Bytes}
+use Rattle.std.specs.Prelude.{List, [], ◌∷◌, Option, Some, None}
+use Rattle.net_addr.specs.Words.{Bytes, Text}
 use Rattle.serde_json.specs.Data as json
 use Rattle.serde_json.specs.Data.{Data, put}
 use Rattle.serde_json.specs.Written.{compact_text}
@@ -32,6 +32,10 @@ members_data ms others = branches_data (branches_of ms) others
 -- an object with these members
 abbrev pub fields : List NamedTree → Tree
 fields ms = object (branches_of ms)
+
+-- an object with one member
+abbrev pub only : Text → Tree → Tree
+only name t = fields ((name, t) ∷ [])
 
 abbrev pub list : List Tree → Tree
 list ts = items (trees_of ts)
