@@ -12,6 +12,7 @@ OPTIONS = {
     "drill": {},
     "dvr": STORED,
     "audit": {"--wanted": "FILE", **STORED},
+    "agent": {"--connect": "ADDRESS", "--host": "NAME", "--rounds": "N", "--settings": "FILE"},
 }
 REQUIRED = {
     "session": (),
@@ -19,6 +20,7 @@ REQUIRED = {
     "drill": (),
     "dvr": (),
     "audit": ("--wanted",),
+    "agent": ("--connect", "--host", "--rounds"),
 }
 USAGES = {
     "session": "neutron session [--settings FILE] [--store FILE] [--delivery auto|manual]",
@@ -27,6 +29,7 @@ USAGES = {
     "drill": "neutron drill START SIZE [--replies]",
     "dvr": "neutron dvr [--settings FILE] [--store FILE]",
     "audit": "neutron audit --wanted FILE [--settings FILE] [--store FILE]",
+    "agent": "neutron agent --connect ADDRESS --host NAME --rounds N [--settings FILE]",
     "--prove": "neutron --prove",
 }
 SAYS = {
@@ -35,9 +38,15 @@ SAYS = {
     "drill": "answers requests that it makes, and writes counts (START to 2^64 - 1, SIZE to 10000)",
     "dvr": "answers events, one a line, by hosts that route between networks themselves",
     "audit": "says for each table of a file of who is to reach whom whether it holds",
+    "agent": "asks a server N times, 1 to 1000000, as the agents of a host do",
     "--prove": "proves and builds the program",
 }
-NUMBERS = {"--connections": (1, 1000000), "START": (0, 2**64 - 1), "SIZE": (1, 10000)}
+NUMBERS = {
+    "--connections": (1, 1000000),
+    "--rounds": (1, 1000000),
+    "START": (0, 2**64 - 1),
+    "SIZE": (1, 10000),
+}
 
 
 class Wrong(Exception):

@@ -19,6 +19,8 @@ MEANS = {
     3: "a write to standard output failed: its reader is gone, or the disk is full",
     4: "out of memory; what was answered 2xx is stored",
     8: "standard input has more than 2^40 bytes",
+    9: "a reply was none of a server",
+    10: "the rows of a reply do not fit what is held, or the settings are others than the server's",
     11: "the line after those that were answered is no event of the rows (docs/API.md)",
     13: "what is wanted doesn't hold where a line begins with fail (docs/AUDIT.md)",
 }

@@ -1,5 +1,5 @@
 //! The program `neutron`: its words, standard input and standard output go to the command that they
-//! name, with the desk of the system.
+//! name, with the desk and the links of the system.
 #![tactic(auto)]
 
 use keeper_core::{ReaderSource, WriterSink};
@@ -7,6 +7,7 @@ use neutron_command::command;
 use neutron_serve::{unread_status, words};
 use std::process::ExitCode;
 use system_desk::{SystemDesk, SystemSink, SystemSource};
+use system_link::SystemLink;
 
 fn main(rt: HostRuntime) -> ExitCode {
     let alloc = rt.alloc();
@@ -17,6 +18,8 @@ fn main(rt: HostRuntime) -> ExitCode {
     let mut input = SystemSource::Input(ReaderSource::make(rt.stdin()));
     let mut output = SystemSink::Output(WriterSink::make(rt.stdout()));
     let mut desk = SystemDesk::make(rt);
-    let status = command(alloc, words.as_slice(), &mut desk, &mut input, &mut output);
+    let mut link = SystemLink::make(rt);
+    let words = words.as_slice();
+    let status = command(alloc, words, &mut desk, &mut link, &mut input, &mut output);
     ExitCode::from(status)
 }

@@ -11,6 +11,8 @@ pub(crate) enum Named {
     Dvr,
     /// A file of who is wanted to reach whom, held against a store.
     Audit,
+    /// A host's agents, which follow a server.
+    Agent,
     /// All else, of which the server runs or refuses each.
     Server,
 }
@@ -34,6 +36,8 @@ impl Named {
             Named::Dvr
         } else if is_first("audit", words) {
             Named::Audit
+        } else if is_first("agent", words) {
+            Named::Agent
         } else {
             Named::Server
         }

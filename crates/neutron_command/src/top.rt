@@ -3,10 +3,11 @@ ghost use Rattle.std.specs.Prelude.{◌≡◌, false, true};
 ghost use Rattle.keeper_core.specs.Counts.{RoseBy};
 ghost use Rattle.keeper_core.specs.Desk.{IsNoneOut};
 ghost use Rattle.neutron_command.specs.Commands as commands;
-ghost use Rattle.neutron_serve.specs.Runs as runs;
 ghost use Rattle.openings.specs.Openings.{DeskRose};
 
 use crate::named::Named;
+use agent_links::Link;
+use agent_run::run_agent;
 use dvr_run::run_dvr;
 use keeper_core::Desk;
 use net_addr::Text;
@@ -16,26 +17,30 @@ use std::alloc::Global;
 
 /// Runs the command that the arguments after the program's name give: `dvr`, which answers the events
 /// of `input` by a store at hosts that route by copies of routers; `audit`, which holds a file of who
-/// is wanted to reach whom against a store; or a command of the server, as `run` does.
+/// is wanted to reach whom against a store; `agent`, which follows a server over links; or a command
+/// of the server, as `run` does.
 ///
-/// The status is that of `run_dvr`, `run_audit` or `run`: 0 if all is well, 1 exactly if the arguments
-/// are no command line, 2 if a read of `input` failed, 3 if a write or a flush of `output` failed, 4
-/// if memory ran out, 5 exactly if the bytes of the settings are none, 6 exactly if the rows of the
-/// store aren't consistent, 7 if the desk or the store failed, 8 if 2^40 bytes were read, 11 exactly
-/// if a line of `dvr` is no event of the rows, 12 exactly if the wanted file is none, or names what
-/// the rows haven't, and 13 exactly if all was written and something that is wanted doesn't hold.
-/// What each command asks, reads and writes is said at its call.
-pub fn command<D: Desk>(
+/// The status is that of `run_dvr`, `run_audit`, `run_agent` or `run`: 0 if all is well, 1 exactly if
+/// the arguments are no command line, 2 if a read of `input` failed, 3 if a write or a flush of
+/// `output` failed, 4 if memory ran out, 5 exactly if the bytes of the settings are none, 6 exactly if
+/// the rows of the store aren't consistent, 7 if the desk or the store failed, 8 if 2^40 bytes were
+/// read, 9 and 10 exactly if a reply to an agent was none of a server or its rows couldn't be taken,
+/// 11 exactly if a line of `dvr` is no event of the rows, 12 exactly if the wanted file is none, or
+/// names what the rows haven't, and 13 exactly if all was written and something that is wanted doesn't
+/// hold. What each command asks, reads and writes is said at its call.
+pub fn command<D: Desk, L: Link>(
     alloc: Global,
     words: &[Text],
     desk: &mut D,
+    link: &mut L,
     input: &mut D::In,
     output: &mut D::Out,
 ) -> u8
     requires { IsNoneOut (D.told desk.old) }
-    ensures runs { commands.Runs D.told D.In.told D.Out.told words.now
-        (commands.named_by words.now) result (runs.outside desk.old input.old output.old)
-        (runs.outside desk.new input.new output.new) }
+    ensures runs { commands.Runs D.told D.In.told D.Out.told L.told L.In.told L.Out.told words.now
+        (commands.named_by words.now) result
+        (commands.ends desk.old link.old input.old output.old)
+        (commands.ends desk.new link.new input.new output.new) }
     ensures wrong_words { result ≡ 1
         → commands.is_line words.now (commands.named_by words.now) ≡ false }
     ensures read_fault { result ≡ 2
@@ -55,6 +60,7 @@ pub fn command<D: Desk>(
     match Named::of(words) {
         Named::Dvr => run_dvr(alloc, words, desk, input, output),
         Named::Audit => run_audit(alloc, words, desk, output),
+        Named::Agent => run_agent(alloc, words, desk, link, output),
         Named::Server => run(alloc, words, desk, input, output),
     }
 }

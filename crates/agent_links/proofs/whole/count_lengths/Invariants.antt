@@ -1,0 +1,11 @@
+use Rattle.std.proofs.Common.{◌≡◌, ◌≤◌, take, length, codes}
+use Rattle.std.specs.Prelude.{map}
+use Rattle.httparse.specs.Spans.{header_bytes}
+use Rattle.http_heads.specs.Fields.{values}
+use Rattle.agent_links.proofs.whole.count_lengths.Given as goal
+
+abbrev pub invariant-loop-field : goal.invariant-loop-field
+invariant-loop-field l = record {
+  found : l.found ≡ length (values (codes "content-length") (map (header_bytes l.bytes) (take l.field-index l.fields)));
+  few : l.found ≤ l.field-index;
+}

@@ -1,0 +1,4 @@
+mod HearLemmas
+mod PhaseLemmas
+mod SaidLemmas
+mod SnapshotLemmas

@@ -1,0 +1,3 @@
+pub mod HostAgents
+pub mod Phases
+pub mod Snapshots
