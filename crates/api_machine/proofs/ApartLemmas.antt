@@ -98,10 +98,3 @@ then_alike None None view alike f g same = refl
 then_alike None (Some y) view alike f g same = none_some (view y) _ alike
 then_alike (Some x) None view alike f g same = none_some (view x) _ (sym alike)
 then_alike (Some x) (Some y) view alike f g same = same x y refl refl (some_equal (view x) (view y) alike)
-
--- the same of the very same row
-pub then_same : {X Y : Type 0} (o p : Option X) → o ≡ p → (f g : X → Option Y) → ((x : X) → o ≡ Some x → p ≡ Some x → f x ≡ g x) → option_and_then f o ≡ option_and_then g p
-then_same None None alike f g same = refl
-then_same None (Some y) alike f g same = none_some y _ alike
-then_same (Some x) None alike f g same = none_some x _ (sym alike)
-then_same (Some x) (Some y) alike f g same = same x refl (sym alike) ∙ ap g (some_equal x y alike)

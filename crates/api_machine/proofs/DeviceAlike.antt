@@ -1,6 +1,6 @@
 -- What a tenant is told of the router or the floating address that a service's port names: only one row has an id with that text, and
 -- it is told where it is the tenant's own.
-use Rattle.std.proofs.Common.{◌≡◌, ℕ, ◌<◌, ◌≤◌, zero, suc, List, [], ◌∷◌, Bool, true, false, cond, Option, Some, None, length, slice_get, refl, ap, sym, ◌∙◌, arith}
+use Rattle.std.proofs.Common.{◌≡◌, ℕ, ◌<◌, ◌≤◌, zero, suc, List, [], ◌∷◌, Bool, true, false, cond, Option, Some, None, length, slice_get, refl, ap, sym, ◌∙◌, arith, map}
 use Rattle.std.proofs.lemmas.Bool.Decides.{nat_tests}
 use Rattle.std.proofs.lemmas.Option.{slice_get_within}
 use Rattle.std.specs.Prelude.{◌&&◌, ◌==◌, count_by, filter, find, nat_le, option_map, if◌then◌else◌}
@@ -8,7 +8,7 @@ use Rattle.std.specs.Option.{option_or}
 use Rattle.api_policy.specs.Seen.{own_rows}
 use Rattle.api_policy.specs.Uses.{named_by_device, named_floating, named_router, told_user}
 use Rattle.api_policy.specs.Visibility.{is_own}
-use Rattle.api_machine.specs.Footing.{footing}
+use Rattle.api_machine.specs.Footing.{blank_router, footing}
 use Rattle.call_parts.specs.State.{State}
 use Rattle.api_types.specs.Consistent.{IsConsistent}
 use Rattle.api_types.specs.Consistent.Numbered.{AreNumbered, is_drawn}
@@ -26,9 +26,9 @@ use Rattle.net_settings.specs.Settings.{SettingsParts}
 use Rattle.api_types.proofs.IdTexts.{one-text}
 use Rattle.api_types.proofs.ListLemmas.{and_both, any-at, at-any, at_filter, false_true, none-counted, none_some, one_row, some_equal}
 use Rattle.api_types.proofs.NameLemmas.{by_test, bytes_same, ident_itself}
-use Rattle.api_machine.proofs.ListLemmas.{find_here}
+use Rattle.api_machine.proofs.ListLemmas.{find-map, find_here}
 use Rattle.api_machine.proofs.ApartLemmas.{stands_there}
-use Rattle.api_machine.proofs.OwnAlike.{floatings_alike, routers_alike}
+use Rattle.api_machine.proofs.OwnAlike.{floatings_alike, map-then, routers_alike}
 
 -- an id that a project drew has a text of its own
 drawable : (rows : RowLists) → AreNumbered rows → (i : Ident) → is_drawn rows.projects i ≡ true → IsDrawable i
@@ -170,5 +170,13 @@ module _ (rows : RowLists) (caller : Caller) (c : IsConsistent rows) (device : L
 module _ (settings : SettingsParts) (caller : Caller) (tenant : caller.admin ≡ false) (s t : State) (c : IsConsistent s.rows) (d : IsConsistent t.rows) (same : footing settings s caller ≡ footing settings t caller) where
   pub device_alike : (device : List ℕ) → told_user s.rows caller (named_by_device s.rows device) ≡ told_user t.rows caller (named_by_device t.rows device)
   device_alike device = device_told s.rows caller c device
-      ∙ ((λ j. option_or (named_router (routers_alike settings caller tenant s t same j) device) (named_floating (floatings_alike settings caller tenant s t same j) device))
+      ∙ ((λ j. option_or (routers j) (named_floating (floatings_alike settings caller tenant s t same j) device))
       ∙ sym (device_told t.rows caller d device))
+    where
+      blank_named : (rs : List RouterRow) → named_router rs device ≡ named_router (map blank_router rs) device
+      blank_named rs = sym (ap (option_map (λ (r : RouterRow). (Router, r.id))) (find-map (λ (r : RouterRow). device_is device r.id) blank_router rs)
+          ∙ map-then blank_router (λ (r : RouterRow). (Router, r.id)) (find (λ (r : RouterRow). device_is device r.id) rs))
+
+      routers : named_router (own_rows (λ (r : RouterRow). r.project) caller s.rows.routers) device ≡ named_router (own_rows (λ (r : RouterRow). r.project) caller t.rows.routers) device
+      routers = blank_named (own_rows (λ (r : RouterRow). r.project) caller s.rows.routers)
+          ∙ (ap (λ rs. named_router rs device) (routers_alike settings caller tenant s t same) ∙ sym (blank_named (own_rows (λ (r : RouterRow). r.project) caller t.rows.routers)))

@@ -1,6 +1,6 @@
 -- A tenant is told the same of floating addresses that it makes, changes and takes out, wherever its footing is the same.
 use Rattle.std.proofs.Common.{◌≡◌, ℕ, ◌+◌, List, [], ◌∷◌, Bool, true, false, Option, Some, None, slice_get, refl, ap, sym, ◌∙◌, not, subst}
-use Rattle.std.specs.Prelude.{◌&&◌, ◌||◌, ◌==◌, codes, find, is_none, is_some, option_and_then, option_map, if◌then◌else◌}
+use Rattle.std.specs.Prelude.{◌&&◌, ◌||◌, ◌==◌, codes, find, is_none, option_and_then, option_map, if◌then◌else◌}
 use Rattle.std.specs.List.{list_any}
 use Rattle.std.specs.Str.{bytes_eq}
 use Rattle.net_addr.specs.Addresses.{number}
@@ -21,11 +21,11 @@ use Rattle.api_types.specs.RouterWays.{interfaces_of}
 use Rattle.plan_floatings.specs.FloatingRules.{bad_address, bad_aim, bad_outside, subnet_with}
 use Rattle.api_policy.specs.Seen.{floating_seen, network_seen, own_rows}
 use Rattle.api_types.specs.Owners.{is_service, device_is, holds_in, is_gateway, is_interface, is_port_of}
-use Rattle.api_policy.specs.Uses.{aim_in_use, used_aim}
+use Rattle.api_policy.specs.Uses.{aim_in_use, told_user, used_aim}
 use Rattle.api_policy.specs.Visibility.{is_own}
 use Rattle.api_policy.specs.Floatings.{floating_members}
 use Rattle.api_policy.specs.Shown.{shown_as}
-use Rattle.api_machine.specs.Footing.{Near, blank, footing, is_near}
+use Rattle.api_machine.specs.Footing.{Near, blank, blank_port, blank_router, footing, is_near}
 use Rattle.api_types.specs.Given.{are_unlike, is_for_other, is_given, owner_of, value_of}
 use Rattle.api_types.specs.Refusing.{at_name, first_refusal, needing, not_found, answer_alone, unless, when}
 use Rattle.call_parts.specs.State.{State, drawing_at, is_last}
@@ -58,15 +58,15 @@ use Rattle.api_types.specs.declared.subnet.SubnetRow.{SubnetRow}
 use Rattle.net_settings.specs.Settings.{SettingsParts}
 use Rattle.api_types.proofs.ListLemmas.{and_both, any-filter, at_filter, both_and, false_true, none_some, or_none, some_equal}
 use Rattle.api_types.proofs.NameLemmas.{by_test, bytes_same, not_false}
-use Rattle.api_machine.proofs.FootingLemmas.{named_alike, named_near, near_alike, near_same, not_admin, owner_own}
-use Rattle.api_machine.proofs.ListLemmas.{find-filter, or_left, or_right}
-use Rattle.api_machine.proofs.ApartLemmas.{first_same, head_none, needing_same, none_at, then_same, unless_same}
+use Rattle.api_machine.proofs.FootingLemmas.{named_alike, named_near, near_alike, near_same, needing_by, not_admin, owner_own}
+use Rattle.api_machine.proofs.ListLemmas.{any-map, find-filter, find_pairs, or_left, or_right}
+use Rattle.api_machine.proofs.ApartLemmas.{first_same, head_none, needing_same, none_at, then_alike, unless_same}
 use Rattle.api_machine.proofs.FoundTold.{find-then}
 use Rattle.api_machine.proofs.NearAlike.{chosen_alike, free_mac_same, then_named}
 use Rattle.api_machine.proofs.OwnAlike.{admin_passes, floatings_alike, own_here, quota_own, routers_alike, when_false}
 use Rattle.api_machine.proofs.PortCallsApart.{port_found, port_here}
-use Rattle.api_machine.proofs.ReachAlike.{find-each, floating_user_alike, port_project, target_there}
-use Rattle.api_machine.proofs.RouterCallsApart.{if_own, unless_found_alike}
+use Rattle.api_machine.proofs.ReachAlike.{floating_user_alike, port_project, target_there}
+use Rattle.api_machine.proofs.RouterCallsApart.{if_own, some_view, unless_found_alike}
 use Rattle.api_machine.proofs.ServedAlike.{interfaces_alike}
 
 -- an aim is at the port from which it was made
@@ -84,9 +84,28 @@ aim_own project address p h = not_false (bytes_eq p.project project) (or_none (n
     (when_false (not (bytes_eq p.project project) || is_service p.owner) (Invalid (codes "port_id")) (head_none (when (not (bytes_eq p.project project) || is_service p.owner) (Invalid (codes "port_id")))
     (when (is_none (fixed_for address p.fixed)) (Invalid (codes "fixed_ip_address")) ∷ []) h))).0
 
+-- an aim at a port without its host and binding
+abbrev blank_aim : Aim → Aim
+blank_aim a = record { port = blank_port a.port; fixed = a.fixed }
+
+aim_view : (address : Option ℕ) (o p : Option PortRow) → option_map blank_port o ≡ option_map blank_port p → option_map blank_aim (option_and_then (aim_at address) o) ≡ option_map blank_aim (option_and_then (aim_at address) p)
+aim_view address None None alike = refl
+aim_view address None (Some q) alike = none_some (blank_port q) _ alike
+aim_view address (Some p) None alike = none_some (blank_port p) _ (sym alike)
+aim_view address (Some p) (Some q) alike = aim_blank p ∙ (ap (aim_at address) (some_equal (blank_port p) (blank_port q) alike) ∙ sym (aim_blank q))
+  where
+    aim_blank : (r : PortRow) → option_map blank_aim (aim_at address r) ≡ aim_at address (blank_port r)
+    aim_blank r = by (fixed_for address r.fixed)
+      where
+        by : (x : Option Fixed) → option_map blank_aim (option_map (λ (f : Fixed). record { port = r; fixed = f }) x) ≡ option_map (λ (f : Fixed). record { port = blank_port r; fixed = f }) x
+        by None = refl
+        by (Some x) = refl
+
 -- a router has an interface on a subnet where one of its interfaces is there
-interface_on : (ports : List PortRow) (r : RouterRow) (subnet : Ident)
-    → has_interface ports r.id subnet ≡ list_any (λ (q : PortRow). is_interface q.owner && (device_is q.device r.id && holds_in subnet q)) (interfaces_of ports r)
+abbrev is_leg_on : Ident → RouterRow → PortRow → Bool
+is_leg_on subnet r q = is_interface q.owner && (device_is q.device r.id && holds_in subnet q)
+
+interface_on : (ports : List PortRow) (r : RouterRow) (subnet : Ident) → has_interface ports r.id subnet ≡ list_any (is_leg_on subnet r) (interfaces_of ports r)
 interface_on ports r subnet = sym (any-filter (λ (q : PortRow). is_interface q.owner && is_port_of r q) (λ (q : PortRow). is_interface q.owner && (device_is q.device r.id && holds_in subnet q)) ports
     (λ k q at other. by_test (is_interface q.owner && (device_is q.device r.id && holds_in subnet q)) (is_interface q.owner && (device_is q.device r.id && holds_in subnet q) ≡ false)
     (λ is. let both = and_both (is_interface q.owner) (device_is q.device r.id && holds_in subnet q) is in
@@ -96,11 +115,16 @@ interface_on ports r subnet = sym (any-filter (λ (q : PortRow). is_interface q.
 module _ (settings : SettingsParts) (caller : Caller) (tenant : caller.admin ≡ false) (s t : State) (c : IsConsistent s.rows) (d : IsConsistent t.rows) (same : footing settings s caller ≡ footing settings t caller) where
   -- the port that is meant
 
-  asked_alike : (form : FloatingForm) → port_asked s.rows caller form ≡ port_asked t.rows caller form
+  asked_alike : (form : FloatingForm) → option_map blank_port (port_asked s.rows caller form) ≡ option_map blank_port (port_asked t.rows caller form)
   asked_alike form = port_found settings caller tenant s t c d same (value_of form.port_id)
 
-  aim_alike : (form : FloatingForm) → aim_asked s.rows caller form ≡ aim_asked t.rows caller form
-  aim_alike form = ap (option_and_then (aim_at (value_of form.fixed_ip_address))) (asked_alike form)
+  aim_alike : (form : FloatingForm) → option_map blank_aim (aim_asked s.rows caller form) ≡ option_map blank_aim (aim_asked t.rows caller form)
+  aim_alike form = aim_view (value_of form.fixed_ip_address) (port_asked s.rows caller form) (port_asked t.rows caller form) (asked_alike form)
+
+  bad_alike : (form : FloatingForm) (project : List ℕ)
+      → option_and_then (bad_aim project (value_of form.fixed_ip_address)) (port_asked s.rows caller form) ≡ option_and_then (bad_aim project (value_of form.fixed_ip_address)) (port_asked t.rows caller form)
+  bad_alike form project = then_alike (port_asked s.rows caller form) (port_asked t.rows caller form) blank_port (asked_alike form) (bad_aim project (value_of form.fixed_ip_address)) (bad_aim project (value_of form.fixed_ip_address))
+      (λ p q _ _ one. ap (bad_aim project (value_of form.fixed_ip_address)) one)
 
   -- the port's project is the caller's, where the rules pass
   aim_mine : (form : FloatingForm) (project : List ℕ) → project ≡ caller.project → (aim : Aim) → aim_asked s.rows caller form ≡ Some aim
@@ -119,55 +143,75 @@ module _ (settings : SettingsParts) (caller : Caller) (tenant : caller.admin ≡
   abbrev refusal_of : Aim → Option (Kind × Ident) → Refusal
   refusal_of aim user = InUse FloatingIpPortAlreadyAssociated PortKind aim.port.id user
 
-  use_alike : (form : FloatingForm) (network : Ident) (aim : Aim) → aim_asked s.rows caller form ≡ Some aim → bytes_eq aim.port.project caller.project ≡ true
-      → aim_in_use s.rows caller s.rows.floatings network aim ≡ aim_in_use t.rows caller t.rows.floatings network aim
-  use_alike form network aim found mine =
-      let here = port_here settings caller tenant s t c d same s (value_of form.port_id) aim.port (aim_port (value_of form.fixed_ip_address) (port_asked s.rows caller form) aim found) in
-      let there = port_here settings caller tenant s t c d same t (value_of form.port_id) aim.port (aim_port (value_of form.fixed_ip_address) (port_asked t.rows caller form) aim (sym (aim_alike form) ∙ found)) in
-      floating_user_alike settings caller tenant s t c d same (refusal_of aim) (stands_for network aim.port.id (number aim.fixed.address)) (stands_for network aim.port.id (number aim.fixed.address))
-      (stands_own s c here.0 aim.port here.1 mine network (number aim.fixed.address)) (stands_own t d there.0 aim.port there.1 mine network (number aim.fixed.address)) (λ i f at. refl)
+  -- the floating addresses that are the aim's, and the aim's refusals
+  abbrev stands_at : Ident → Aim → FloatingRow → Bool
+  stands_at network aim = stands_for network aim.port.id (number aim.fixed.address)
 
-  -- the same of all floating addresses but one
-  other_alike : (form : FloatingForm) (network i : Ident) (aim : Aim) → aim_asked s.rows caller form ≡ Some aim → bytes_eq aim.port.project caller.project ≡ true
-      → aim_in_use s.rows caller (gone_from (λ (g : FloatingRow). g.id) i s.rows.floatings) network aim ≡ aim_in_use t.rows caller (gone_from (λ (g : FloatingRow). g.id) i t.rows.floatings) network aim
-  other_alike form network i aim found mine =
-      let here = port_here settings caller tenant s t c d same s (value_of form.port_id) aim.port (aim_port (value_of form.fixed_ip_address) (port_asked s.rows caller form) aim found) in
-      let there = port_here settings caller tenant s t c d same t (value_of form.port_id) aim.port (aim_port (value_of form.fixed_ip_address) (port_asked t.rows caller form) aim (sym (aim_alike form) ∙ found)) in
-      ap (option_map (used_aim s.rows caller aim)) (sym (find-then other (stands_for network aim.port.id (number aim.fixed.address)) s.rows.floatings))
-      ∙ (floating_user_alike settings caller tenant s t c d same (refusal_of aim) (λ f. other f && stands_for network aim.port.id (number aim.fixed.address) f) (λ f. other f && stands_for network aim.port.id (number aim.fixed.address) f)
-      (λ k f at is. stands_own s c here.0 aim.port here.1 mine network (number aim.fixed.address) k f at (and_both (other f) (stands_for network aim.port.id (number aim.fixed.address) f) is).1)
-      (λ k f at is. stands_own t d there.0 aim.port there.1 mine network (number aim.fixed.address) k f at (and_both (other f) (stands_for network aim.port.id (number aim.fixed.address) f) is).1) (λ k f at. refl)
-      ∙ ap (option_map (used_aim t.rows caller aim)) (find-then other (stands_for network aim.port.id (number aim.fixed.address)) t.rows.floatings))
-    where
-      other : FloatingRow → Bool
-      other g = not (ident_eq i g.id)
+  abbrev refused_by : Aim → FloatingRow → Refusal
+  refused_by aim f = refusal_of aim (told_user t.rows caller (Some (FloatingKind, f.id)))
+
+  -- an aim in each state, at ports that may differ in host and binding
+  module _ (form : FloatingForm) (aim other : Aim) (found : aim_asked s.rows caller form ≡ Some aim) (also : aim_asked t.rows caller form ≡ Some other) (one : blank_aim aim ≡ blank_aim other) (mine : bytes_eq aim.port.project caller.project ≡ true) where
+    own_s : (network : Ident) → Each (λ (f : FloatingRow). stands_at network aim f ≡ true → is_own caller f.project ≡ true) s.rows.floatings
+    own_s network = let here = port_here settings caller tenant s t c d same s (value_of form.port_id) aim.port (aim_port (value_of form.fixed_ip_address) (port_asked s.rows caller form) aim found) in
+        stands_own s c here.0 aim.port here.1 mine network (number aim.fixed.address)
+
+    own_t : (network : Ident) → Each (λ (f : FloatingRow). stands_at network other f ≡ true → is_own caller f.project ≡ true) t.rows.floatings
+    own_t network = let there = port_here settings caller tenant s t c d same t (value_of form.port_id) other.port (aim_port (value_of form.fixed_ip_address) (port_asked t.rows caller form) other also) in
+        stands_own t d there.0 other.port there.1 (sym (ap (λ (a : Aim). bytes_eq a.port.project caller.project) one) ∙ mine) network (number other.fixed.address)
+
+    use_alike : (network : Ident) → aim_in_use s.rows caller s.rows.floatings network aim ≡ aim_in_use t.rows caller t.rows.floatings network other
+    use_alike network =
+        floating_user_alike settings caller tenant s t c d same (refusal_of aim) (stands_at network aim) (stands_at network other) (own_s network) (own_t network) (λ i f at. λ j. stands_at network (one j) f)
+        ∙ (λ j. option_map (refused_by (one j)) (find (stands_at network other) t.rows.floatings))
+
+    -- the same of all floating addresses but one
+    other_alike : (network i : Ident) → aim_in_use s.rows caller (gone_from (λ (g : FloatingRow). g.id) i s.rows.floatings) network aim ≡ aim_in_use t.rows caller (gone_from (λ (g : FloatingRow). g.id) i t.rows.floatings) network other
+    other_alike network i =
+        ap (option_map (used_aim s.rows caller aim)) (sym (find-then rest (stands_at network aim) s.rows.floatings))
+        ∙ (floating_user_alike settings caller tenant s t c d same (refusal_of aim) (λ f. rest f && stands_at network aim f) (λ f. rest f && stands_at network other f)
+        (λ k f at is. own_s network k f at (and_both (rest f) (stands_at network aim f) is).1)
+        (λ k f at is. own_t network k f at (and_both (rest f) (stands_at network other f) is).1) (λ k f at. λ j. rest f && stands_at network (one j) f)
+        ∙ ((λ j. option_map (refused_by (one j)) (find (λ f. rest f && stands_at network other f) t.rows.floatings))
+        ∙ ap (option_map (used_aim t.rows caller other)) (find-then rest (stands_at network other) t.rows.floatings)))
+      where
+        rest : FloatingRow → Bool
+        rest g = not (ident_eq i g.id)
 
   -- the router that joins the port's subnet to the network
 
-  joins_alike : (network subnet : Ident) → router_for s.rows caller.project network subnet ≡ router_for t.rows caller.project network subnet
-  joins_alike network subnet = among s ∙ (find-each (joins_to s.rows caller.project network subnet) (joins_to t.rows caller.project network subnet) (owned_routers s)
-      (λ k r at. let here = at_filter (λ (q : RouterRow). is_own caller q.project) s.rows.routers k r at in
-      let there = at_filter (λ (q : RouterRow). is_own caller q.project) t.rows.routers k r (ap (λ rows. slice_get rows k) (sym routers) ∙ at) in
-      let legs = interfaces_alike settings caller s t c d same here.0 there.0 r here.1 there.1 (sym (ap (λ b. b || bytes_eq r.project caller.project) tenant) ∙ here.2) in
-      let joined = interface_on s.rows.ports r subnet ∙ (ap (list_any (λ (q : PortRow). is_interface q.owner && (device_is q.device r.id && holds_in subnet q))) legs ∙ sym (interface_on t.rows.ports r subnet)) in
-      (λ j. bytes_eq r.project caller.project && is_some_so (λ (g : Gateway). ident_eq network g.network) r.gateway && joined j))
-      ∙ (ap (find (joins_to t.rows caller.project network subnet)) routers ∙ sym (among t)))
+  joins_alike : (network subnet : Ident) → option_map blank_router (router_for s.rows caller.project network subnet) ≡ option_map blank_router (router_for t.rows caller.project network subnet)
+  joins_alike network subnet = ap (option_map blank_router) (among s) ∙ (find_pairs blank_router (joins_to s.rows caller.project network subnet) (joins_to t.rows caller.project network subnet) (owned_routers s) (owned_routers t)
+      (routers_alike settings caller tenant s t same)
+      (λ k r o at_r at_o one. let here = at_filter (λ (q : RouterRow). is_own caller q.project) s.rows.routers k r at_r in
+      let there = at_filter (λ (q : RouterRow). is_own caller q.project) t.rows.routers k o at_o in
+      let legs = interfaces_alike settings caller s t c d same here.0 there.0 r o here.1 there.1 (sym (ap (λ b. b || bytes_eq r.project caller.project) tenant) ∙ here.2) one in
+      let joined = interface_on s.rows.ports r subnet ∙ (sym (any-map (is_leg_on subnet r) blank_port (interfaces_of s.rows.ports r))
+      ∙ ((λ j. list_any (is_leg_on subnet (one j)) (legs j))
+      ∙ (any-map (is_leg_on subnet o) blank_port (interfaces_of t.rows.ports o) ∙ sym (interface_on t.rows.ports o subnet)))) in
+      (λ j. bytes_eq (one j).project caller.project && is_some_so (λ (g : Gateway). ident_eq network g.network) (one j).gateway && joined j))
+      ∙ sym (ap (option_map blank_router) (among t)))
     where
       owned_routers : State → List RouterRow
       owned_routers state = own_rows (λ (q : RouterRow). q.project) caller state.rows.routers
-
-      routers : owned_routers s ≡ owned_routers t
-      routers = routers_alike settings caller tenant s t same
 
       among : (state : State) → router_for state.rows caller.project network subnet ≡ find (joins_to state.rows caller.project network subnet) (owned_routers state)
       among state = sym (find-filter (λ (q : RouterRow). is_own caller q.project) (joins_to state.rows caller.project network subnet) state.rows.routers
           (λ k r at is. or_right caller.admin _ (and_both (bytes_eq r.project caller.project) (is_some_so (λ (g : Gateway). ident_eq network g.network) r.gateway)
           (and_both (bytes_eq r.project caller.project && is_some_so (λ (g : Gateway). ident_eq network g.network) r.gateway) (has_interface state.rows.ports r.id subnet) is).0).0))
 
-  target_alike : (network : Ident) (o : Option Aim) (f g : Option Target → Outcome) → ((x : Option Target) → answer_alone (f x) ≡ answer_alone (g x)) → answer_alone (with_target s.rows caller.project network o f) ≡ answer_alone (with_target t.rows caller.project network o g)
-  target_alike network None f g here = here None
-  target_alike network (Some aim) f g here = needing_same (NoGateway network aim.fixed.subnet) (router_for s.rows caller.project network aim.fixed.subnet) (router_for t.rows caller.project network aim.fixed.subnet)
-      (λ r. f (Some (target_by aim r))) (λ r. g (Some (target_by aim r))) (joins_alike network aim.fixed.subnet) (λ r _ _. here (Some (target_by aim r)))
+  target_alike : (network : Ident) (o p : Option Aim) → option_map blank_aim o ≡ option_map blank_aim p → (f g : Option Target → Outcome) → ((x : Option Target) → answer_alone (f x) ≡ answer_alone (g x))
+      → answer_alone (with_target s.rows caller.project network o f) ≡ answer_alone (with_target t.rows caller.project network p g)
+  target_alike network None None alike f g here = here None
+  target_alike network None (Some b) alike f g here = none_some (blank_aim b) _ alike
+  target_alike network (Some a) None alike f g here = none_some (blank_aim a) _ (sym alike)
+  target_alike network (Some a) (Some b) alike f g here =
+      let one = some_equal (blank_aim a) (blank_aim b) alike in
+      needing_by (NoGateway network a.fixed.subnet) (router_for s.rows caller.project network a.fixed.subnet) (router_for t.rows caller.project network b.fixed.subnet)
+      (λ r. f (Some (target_by a r))) (λ r. g (Some (target_by b r))) blank_router
+      (joins_alike network a.fixed.subnet ∙ ap (λ (x : Aim). option_map blank_router (router_for t.rows caller.project network x.fixed.subnet)) one)
+      (λ r w _ _ router. here (Some (target_by a r)) ∙ (λ j. answer_alone (g (Some (target_by (one j) (router j))))))
+      ∙ (λ j. answer_alone (needing (NoGateway network (one j).fixed.subnet) (router_for t.rows caller.project network b.fixed.subnet) (λ r. g (Some (target_by b r)))))
 
   -- making a floating address
 
@@ -195,7 +239,7 @@ module _ (settings : SettingsParts) (caller : Caller) (tenant : caller.admin ≡
       name = value_of form.floating_network_id
 
       aimed : option_and_then (bad_aim owner (value_of form.fixed_ip_address)) (port_asked s.rows caller form) ≡ option_and_then (bad_aim owner (value_of form.fixed_ip_address)) (port_asked t.rows caller form)
-      aimed = ap (option_and_then (bad_aim owner (value_of form.fixed_ip_address))) (asked_alike form)
+      aimed = bad_alike form owner
 
       address : option_and_then (bad_address s.rows (value_of form.floating_ip_address)) (network_seen s.rows caller name) ≡ option_and_then (bad_address t.rows (value_of form.floating_ip_address)) (network_seen t.rows caller name)
       address = then_named settings caller tenant s t same name (bad_address s.rows (value_of form.floating_ip_address)) (bad_address t.rows (value_of form.floating_ip_address))
@@ -215,10 +259,10 @@ module _ (settings : SettingsParts) (caller : Caller) (tenant : caller.admin ≡
       → creation_refusal s.rows caller form n ≡ creation_refusal t.rows caller form m
   creation_same form owner n m near alike mine aimed =
       first_same (found s) (found t) (admin ∷ behind s n) (admin ∷ behind t m)
-      (unless_found_alike PortKind (value_of form.port_id) (port_asked s.rows caller form) (port_asked t.rows caller form) (ap is_some (asked_alike form)))
+      (unless_found_alike PortKind (value_of form.port_id) (port_asked s.rows caller form) (port_asked t.rows caller form) (some_view blank_port (port_asked s.rows caller form) (port_asked t.rows caller form) (asked_alike form)))
       (λ _ _. first_same admin admin (behind s n) (behind t m) refl
-      (λ passes _. let used = then_same (aim_asked s.rows caller form) (aim_asked t.rows caller form) (aim_alike form) (aim_in_use s.rows caller s.rows.floatings n.id) (aim_in_use t.rows caller t.rows.floatings m.id)
-      (λ aim found_s found_t. use_alike form n.id aim found_s (aim_mine form owner (mine passes) aim found_s aimed) ∙ ap (λ z. aim_in_use t.rows caller t.rows.floatings z.id aim) alike) in
+      (λ passes _. let used = then_alike (aim_asked s.rows caller form) (aim_asked t.rows caller form) blank_aim (aim_alike form) (aim_in_use s.rows caller s.rows.floatings n.id) (aim_in_use t.rows caller t.rows.floatings m.id)
+      (λ aim other found_s found_t one. use_alike form aim other found_s found_t one (aim_mine form owner (mine passes) aim found_s aimed) n.id ∙ ap (λ (z : NetworkRow). aim_in_use t.rows caller t.rows.floatings z.id other) alike) in
       let held = held_alike n m near alike (value_of form.floating_ip_address) in
       (λ j. first_refusal (used j ∷ held j ∷ []))))
     where
@@ -259,8 +303,8 @@ module _ (settings : SettingsParts) (caller : Caller) (tenant : caller.admin ≡
       unless_same (creation_refusal s.rows caller form n) (creation_refusal t.rows caller form m) (led s owner n) (led t owner m)
       (creation_same form owner n m near alike mine (none_at (body_refusals s) body 4 (option_and_then (bad_aim owner (value_of form.fixed_ip_address)) (port_asked s.rows caller form)) refl))
       (λ passes _. subst (λ project. answer_alone (led s project n) ≡ answer_alone (led t project m)) (sym (mine (none_at (refusals s n) passes 1 admin refl)))
-      (target_alike n.id (aim_asked s.rows caller form) (floating_with settings s caller form caller.project n) (floating_with settings t caller form caller.project m) (with_alike form n m near alike)
-      ∙ (λ j. answer_alone (with_target t.rows caller.project (alike j).id (aim_alike form j) (floating_with settings t caller form caller.project m)))))))
+      (target_alike n.id (aim_asked s.rows caller form) (aim_asked t.rows caller form) (aim_alike form) (floating_with settings s caller form caller.project n) (floating_with settings t caller form caller.project m) (with_alike form n m near alike)
+      ∙ (λ j. answer_alone (with_target t.rows caller.project (alike j).id (aim_asked t.rows caller form) (floating_with settings t caller form caller.project m)))))))
     where
       name : Option Ident
       name = value_of form.floating_network_id
@@ -305,11 +349,11 @@ module _ (settings : SettingsParts) (caller : Caller) (tenant : caller.admin ≡
   floating_found name = ap (at_name (λ (f : FloatingRow). f.id) name) (floatings_alike settings caller tenant s t same)
 
   update_same : (form : FloatingForm) (f : FloatingRow) → f.project ≡ caller.project → update_refusal s caller form f ≡ update_refusal t caller form f
-  update_same form f mine = first_same (aimed s) (aimed t) (behind s) (behind t) (ap (option_and_then (bad_aim f.project (value_of form.fixed_ip_address))) (asked_alike form))
-      (λ passes _. let used = then_same (aim_asked s.rows caller form) (aim_asked t.rows caller form) (aim_alike form)
+  update_same form f mine = first_same (aimed s) (aimed t) (behind s) (behind t) (bad_alike form f.project)
+      (λ passes _. let used = then_alike (aim_asked s.rows caller form) (aim_asked t.rows caller form) blank_aim (aim_alike form)
       (aim_in_use s.rows caller (gone_from (λ (g : FloatingRow). g.id) f.id s.rows.floatings) f.network) (aim_in_use t.rows caller (gone_from (λ (g : FloatingRow). g.id) f.id t.rows.floatings) f.network)
-      (λ aim found_s found_t. other_alike form f.network f.id aim found_s (aim_mine form f.project mine aim found_s passes)) in
-      let found = unless_found_alike PortKind (value_of form.port_id) (port_asked s.rows caller form) (port_asked t.rows caller form) (ap is_some (asked_alike form)) in
+      (λ aim other found_s found_t one. other_alike form aim other found_s found_t one (aim_mine form f.project mine aim found_s passes) f.network f.id) in
+      let found = unless_found_alike PortKind (value_of form.port_id) (port_asked s.rows caller form) (port_asked t.rows caller form) (some_view blank_port (port_asked s.rows caller form) (port_asked t.rows caller form) (asked_alike form)) in
       (λ j. first_refusal (found j ∷ owner_only caller f.project ∷ used j ∷ [])))
     where
       aimed : State → Option Refusal
@@ -324,9 +368,8 @@ module _ (settings : SettingsParts) (caller : Caller) (tenant : caller.admin ≡
   changed_alike : (form : FloatingForm) (f : FloatingRow) → f.project ≡ caller.project → answer_alone (floating_changed s caller form f) ≡ answer_alone (floating_changed t caller form f)
   changed_alike form f mine = unless_same (update_refusal s caller form f) (update_refusal t caller form f) (led s f.project) (led t f.project) (update_same form f mine)
       (λ _ _. subst (λ project. answer_alone (led s project) ≡ answer_alone (led t project)) (sym mine)
-      (target_alike f.network (aim_asked s.rows caller form) (replaced s) (replaced t)
-      (λ target. unless_same (when (is_last s) CountersSpent) (when (is_last t) CountersSpent) (put s target) (put t target) (λ j. when (same j).is_last CountersSpent) (λ _ _. refl))
-      ∙ (λ j. answer_alone (with_target t.rows caller.project f.network (aim_alike form j) (replaced t)))))
+      (target_alike f.network (aim_asked s.rows caller form) (aim_asked t.rows caller form) (aim_alike form) (replaced s) (replaced t)
+      (λ target. unless_same (when (is_last s) CountersSpent) (when (is_last t) CountersSpent) (put s target) (put t target) (λ j. when (same j).is_last CountersSpent) (λ _ _. refl))))
     where
       put : State → Option Target → Outcome
       put state target = accepted state.rows (Put (Floating (changed_floating form f target)) ∷ []) (λ after. OneRow (floating_shown after caller (changed_floating form f target) []))

@@ -1,8 +1,11 @@
 -- What a footing tells: near networks, seen rows, and outcomes that are told alike.
-use Rattle.std.proofs.Common.{◌≡◌, ℕ, List, ◌∷◌, Bool, true, false, Option, Some, None, slice_get, refl, ap, sym, ◌∙◌, map, not}
+use Rattle.std.proofs.Common.{◌≡◌, ℕ, List, ◌∷◌, Bool, true, false, Option, Some, None, slice_get, refl, ap, sym, ◌∙◌, arith, map, not}
 use Rattle.std.specs.Prelude.{◌&&◌, ◌||◌, filter, is_some, option_map}
 use Rattle.std.specs.Str.{bytes_eq}
+use Rattle.api_types.specs.Consistent.{IsConsistent}
+use Rattle.api_types.specs.Consistent.Carried.{is_bound}
 use Rattle.api_types.specs.Ident.{Ident}
+use Rattle.api_types.specs.Lists.{stands_so}
 use Rattle.api_types.specs.Outcome.{Outcome}
 use Rattle.api_types.specs.RowLists.{RowLists}
 use Rattle.api_types.specs.Table.{ident_eq}
@@ -16,12 +19,13 @@ use Rattle.api_types.specs.declared.subnet.SubnetRow.{SubnetRow}
 use Rattle.net_settings.specs.Settings.{SettingsParts}
 use Rattle.api_policy.specs.Visibility.{owns_network, seen_networks, seen_ports, seen_subnets, sees_network, sees_port, sees_subnet}
 use Rattle.api_policy.specs.Networks.{subnets_of}
-use Rattle.api_machine.specs.Footing.{blank, footing, guard, is_close, is_near, near_of}
+use Rattle.api_machine.specs.Footing.{blank, blank_port, footing, guard, is_close, is_near, near_of}
 use Rattle.api_types.specs.Given.{is_for_other, is_other, owner_of, value_or}
 use Rattle.api_types.specs.Refusing.{at_name, first_refusal, needing, answer_alone, unless, when}
 use Rattle.call_parts.specs.State.{State}
 use Rattle.api_types.proofs.ListLemmas.{and_both, any-filter_kept, at-any, at_filter, both_and, false_true, none_some, or_none, some_equal}
-use Rattle.api_types.proofs.NameLemmas.{bytes_same, ident_itself, not_false}
+use Rattle.api_types.proofs.NameLemmas.{bytes_same, count-filter, ident_itself, not_false}
+use Rattle.api_machine.proofs.ApartLemmas.{stands_there}
 use Rattle.api_machine.proofs.ListLemmas.{filter-both, name-map, name_here, or_cases, or_left, or_right}
 
 abbrev pub network_id : NetworkRow → Ident
@@ -112,6 +116,12 @@ module _ (rows : RowLists) (caller : Caller) where
       (λ owned. or_left _ _ (any-filter_kept (sees_network rows caller) (λ (n : NetworkRow). ident_eq p.network n.id && bytes_eq n.project caller.project) (λ (n : NetworkRow). ident_eq p.network n.id) rows.networks
       (λ m n at_n h. let both = and_both (ident_eq p.network n.id) (bytes_eq n.project caller.project) h in (or_left _ _ (or_right caller.admin _ both.1), both.0)) owned))
 
+  -- the ports that are seen tell of each of them whether it is bound
+  pub bound_here : IsConsistent rows → (k : ℕ) (p : PortRow) → slice_get (seen_ports rows caller) k ≡ Some p
+      → stands_so port_id p.id (λ (q : PortRow). is_bound q.vif) (seen_ports rows caller) ≡ is_bound p.vif
+  bound_here c k p at = stands_there port_id (λ (q : PortRow). is_bound q.vif) (seen_ports rows caller)
+      (λ i. count-filter (sees_port rows caller) (λ (q : PortRow). ident_eq i q.id) rows.ports 1 (omega (arith, c.numbered.ids i))) k p at
+
   -- the subnets of a network that are printed are among those that the caller sees
   pub subnets_seen : (i : Ident) → subnets_of rows caller i ≡ map (λ (r : SubnetRow). r.id) (filter (λ (r : SubnetRow). ident_eq i r.network) (seen_subnets rows caller))
   subnets_seen i = ap (map (λ (r : SubnetRow). r.id)) (filter-both (λ (r : SubnetRow). ident_eq i r.network) (sees_subnet rows caller) rows.subnets)
@@ -133,6 +143,20 @@ module _ (settings : SettingsParts) (caller : Caller) (s t : State) (same : foot
   named_same name = sym (name-map blank network_id network_id (λ r. refl) name (seen_networks s.rows caller))
       ∙ (ap (λ f. at_name network_id name f.networks) same
       ∙ name-map blank network_id network_id (λ r. refl) name (seen_networks t.rows caller))
+
+  -- the same ports are seen, but for their hosts and bindings, and the same of them are bound
+  pub ports_same : (name : Option Ident)
+      → option_map blank_port (at_name port_id name (seen_ports s.rows caller)) ≡ option_map blank_port (at_name port_id name (seen_ports t.rows caller))
+  ports_same name = sym (name-map blank_port port_id port_id (λ r. refl) name (seen_ports s.rows caller))
+      ∙ (ap (λ f. at_name port_id name f.ports) same
+      ∙ name-map blank_port port_id port_id (λ r. refl) name (seen_ports t.rows caller))
+
+  pub bound_same : IsConsistent s.rows → IsConsistent t.rows → (k l : ℕ) (p q : PortRow) → slice_get (seen_ports s.rows caller) k ≡ Some p → slice_get (seen_ports t.rows caller) l ≡ Some q
+      → blank_port p ≡ blank_port q → is_bound p.vif ≡ is_bound q.vif
+  bound_same c d k l p q at_s at_t alike = sym (bound_here s.rows caller c k p at_s)
+      ∙ (ap (λ f. f.bound p.id) same
+      ∙ (ap (λ (x : PortRow). stands_so port_id x.id (λ (r : PortRow). is_bound r.vif) (seen_ports t.rows caller)) alike
+      ∙ bound_here t.rows caller d l q at_t))
 
   -- what goes on with a named network is told alike, where it is so for two networks that differ in their number alone
   pub named_alike : (refusal : Refusal) (name : Option Ident) (f g : NetworkRow → Outcome)

@@ -1,5 +1,5 @@
--- Rows that are found by what is told of them, in two states: where two lists tell the same, and the caller's own rows are the same,
--- the same is told of the row that is found, and it is the same row where it is the caller's own.
+-- Rows that are found by what is told of them, in two states: where two lists tell the same, and the caller's own rows look the same,
+-- the same is told of the row that is found, and it looks the same where it is the caller's own.
 use Rattle.std.proofs.Common.{◌≡◌, List, [], ◌∷◌, Bool, true, false, cond, Option, Some, None, refl, ap, sym, map}
 use Rattle.std.specs.Prelude.{◌&&◌, ◌||◌, filter, find, option_map, if◌then◌else◌}
 use Rattle.std.specs.List.{list_any}
@@ -33,21 +33,24 @@ found_there {R} test (x ∷ xs) h = by (test x) h (λ g. found_there test xs g)
     by true e rest = (x, refl)
     by false e rest = rest e
 
--- what is told of a row, and the row where it is the caller's own
-abbrev pub told_of : {R V : Type 0} → (V → Bool) → (R → V) → R → V × Option R
-told_of own view r = (view r, if own (view r) then Some r else None)
+-- what is told of a row, and how it looks where it is the caller's own
+abbrev pub told_of : {R V L : Type 0} → (R → L) → (V → Bool) → (R → V) → R → V × Option L
+told_of look own view r = (view r, if own (view r) then Some (look r) else None)
 
-module _ {R V : Type 0} (f g : R → V) (own : V → Bool) (test : V → Bool) where
-  heads : (x y : R) (xs ys : List R) (o p : Bool) → own (f x) ≡ o → own (g y) ≡ p → o ≡ p
-      → cond o (x ∷ filter (λ r. own (f r)) xs) (filter (λ r. own (f r)) xs) ≡ cond p (y ∷ filter (λ r. own (g r)) ys) (filter (λ r. own (g r)) ys)
-      → (filter (λ r. own (f r)) xs ≡ filter (λ r. own (g r)) ys) × ((if o then Some x else None) ≡ (if p then Some y else None))
-  heads x y xs ys true true a b e h = (cons_tail x y (filter (λ r. own (f r)) xs) (filter (λ r. own (g r)) ys) h, ap Some (cons_head x y (filter (λ r. own (f r)) xs) (filter (λ r. own (g r)) ys) h))
-  heads x y xs ys false false a b e h = (h, refl)
-  heads x y xs ys true false a b e h = false_true _ (sym e)
-  heads x y xs ys false true a b e h = false_true _ e
+module _ {R V L : Type 0} (look : R → L) (f g : R → V) (own : V → Bool) (test : V → Bool) where
+  abbrev own_by : (R → V) → List R → List R
+  own_by view xs = filter (λ r. own (view r)) xs
 
-  pub found_told : (xs ys : List R) → map f xs ≡ map g ys → filter (λ r. own (f r)) xs ≡ filter (λ r. own (g r)) ys
-      → option_map (told_of own f) (find (λ r. test (f r)) xs) ≡ option_map (told_of own g) (find (λ r. test (g r)) ys)
+  heads : (x y : R) (xs ys : List R) (o p : Bool) → o ≡ p
+      → map look (cond o (x ∷ own_by f xs) (own_by f xs)) ≡ map look (cond p (y ∷ own_by g ys) (own_by g ys))
+      → (map look (own_by f xs) ≡ map look (own_by g ys)) × ((if o then Some (look x) else None) ≡ (if p then Some (look y) else None))
+  heads x y xs ys true true e h = (cons_tail (look x) (look y) (map look (own_by f xs)) (map look (own_by g ys)) h, ap Some (cons_head (look x) (look y) (map look (own_by f xs)) (map look (own_by g ys)) h))
+  heads x y xs ys false false e h = (h, refl)
+  heads x y xs ys true false e h = false_true _ (sym e)
+  heads x y xs ys false true e h = false_true _ e
+
+  pub found_told : (xs ys : List R) → map f xs ≡ map g ys → map look (own_by f xs) ≡ map look (own_by g ys)
+      → option_map (told_of look own f) (find (λ r. test (f r)) xs) ≡ option_map (told_of look own g) (find (λ r. test (g r)) ys)
   found_told [] [] m h = refl
   found_told [] (y ∷ ys) m h = nil_cons _ (g y) (map g ys) m
   found_told (x ∷ xs) [] m h = nil_cons _ (f x) (map f xs) (sym m)
@@ -56,11 +59,11 @@ module _ {R V : Type 0} (f g : R → V) (own : V → Bool) (test : V → Bool) w
       same : f x ≡ g y
       same = cons_head (f x) (g y) (map f xs) (map g ys) m
 
-      both : (filter (λ r. own (f r)) xs ≡ filter (λ r. own (g r)) ys) × ((if own (f x) then Some x else None) ≡ (if own (g y) then Some y else None))
-      both = heads x y xs ys (own (f x)) (own (g y)) refl refl (ap own same) h
+      both : (map look (own_by f xs) ≡ map look (own_by g ys)) × ((if own (f x) then Some (look x) else None) ≡ (if own (g y) then Some (look y) else None))
+      both = heads x y xs ys (own (f x)) (own (g y)) (ap own same) h
 
-      by : (t u : Bool) → t ≡ u → option_map (told_of own f) (find (λ r. test (f r)) xs) ≡ option_map (told_of own g) (find (λ r. test (g r)) ys)
-          → option_map (told_of own f) (cond t (Some x) (find (λ r. test (f r)) xs)) ≡ option_map (told_of own g) (cond u (Some y) (find (λ r. test (g r)) ys))
+      by : (t u : Bool) → t ≡ u → option_map (told_of look own f) (find (λ r. test (f r)) xs) ≡ option_map (told_of look own g) (find (λ r. test (g r)) ys)
+          → option_map (told_of look own f) (cond t (Some x) (find (λ r. test (f r)) xs)) ≡ option_map (told_of look own g) (cond u (Some y) (find (λ r. test (g r)) ys))
       by true true e rest = λ j. Some (same j, both.1 j)
       by false false e rest = rest
       by true false e rest = false_true _ (sym e)

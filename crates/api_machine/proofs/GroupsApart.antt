@@ -50,7 +50,7 @@ use Rattle.api_machine.proofs.DrawnAlike.{counts_of, drawn_ids}
 use Rattle.api_machine.proofs.FootingLemmas.{owner_own, rest_none}
 use Rattle.api_machine.proofs.ListLemmas.{filter-none, find-filter, or_left, or_right}
 use Rattle.api_machine.proofs.ApartLemmas.{filter-kept, first_same, head_none, needing_same, unless_same}
-use Rattle.api_machine.proofs.OwnAlike.{admin_passes, drawn_alike, groups_alike, own_here, quota_own, rules_alike, seen_user, users_seen}
+use Rattle.api_machine.proofs.OwnAlike.{admin_passes, drawn_alike, groups_alike, own_here, quota_own, rules_alike, seen_user, users_told}
 
 abbrev pub group_id : GroupRow → Ident
 group_id g = g.id
@@ -211,9 +211,9 @@ module _ (settings : SettingsParts) (caller : Caller) (tenant : caller.admin ≡
   used_same c d name g found_s found_t =
       let here = own_here caller tenant group_id (λ (r : GroupRow). r.project) name s.rows.groups g found_s in
       let there = own_here caller tenant group_id (λ (r : GroupRow). r.project) name t.rows.groups g found_t in
-      users_seen s.rows caller c SecurityGroupInUse GroupKind g.id (is_group_user g.id) (group_users s.rows caller c here.0 g here.1 here.2)
+      users_told s.rows caller c SecurityGroupInUse GroupKind g.id (is_group_user g.id) (λ p. refl) (group_users s.rows caller c here.0 g here.1 here.2)
       ∙ (ap (λ f. option_map (seen_user SecurityGroupInUse GroupKind g.id) (find (is_group_user g.id) f.ports)) same
-      ∙ sym (users_seen t.rows caller d SecurityGroupInUse GroupKind g.id (is_group_user g.id) (group_users t.rows caller d there.0 g there.1 there.2)))
+      ∙ sym (users_told t.rows caller d SecurityGroupInUse GroupKind g.id (is_group_user g.id) (λ p. refl) (group_users t.rows caller d there.0 g there.1 there.2)))
 
   pub group_deleted_apart : IsConsistent s.rows → IsConsistent t.rows → (name : IdText) → answer_alone (group_deleted s caller name) ≡ answer_alone (group_deleted t caller name)
   group_deleted_apart c d name = needing_same (not_found GroupKind name.text) (group_seen s.rows caller name.id) (group_seen t.rows caller name.id)

@@ -1,11 +1,11 @@
 -- What a tenant's footing tells of a network that its project holds: its owner, the policies on it, and by what its ports are there.
-use Rattle.std.proofs.Common.{◌≡◌, ℕ, List, Bool, true, false, Option, Some, None, refl, ap, sym, ◌∙◌, not}
+use Rattle.std.proofs.Common.{◌≡◌, ℕ, List, Bool, true, false, Option, Some, None, refl, ap, sym, ◌∙◌, map, not}
 use Rattle.std.specs.Prelude.{◌&&◌, ◌||◌, filter, find, option_map, if◌then◌else◌}
 use Rattle.std.specs.Str.{bytes_eq}
 use Rattle.api_policy.specs.PolicyNeeds.{policy_user}
 use Rattle.api_policy.specs.Uses.{used_by_port}
 use Rattle.api_policy.specs.Visibility.{owns_network, seen_ports, sees_port, sees_row}
-use Rattle.api_machine.specs.Footing.{Held, footing, held_of, is_held_by}
+use Rattle.api_machine.specs.Footing.{Held, blank_port, footing, held_of, is_held_by}
 use Rattle.api_policy.specs.Served.{HeldPort, held_port}
 use Rattle.call_parts.specs.State.{State}
 use Rattle.api_types.specs.Consistent.{IsConsistent}
@@ -29,10 +29,10 @@ use Rattle.net_settings.specs.Settings.{SettingsParts}
 use Rattle.api_types.proofs.ListLemmas.{any-filter, at_filter, some_equal}
 use Rattle.api_types.proofs.NameLemmas.{first_fails, ident_same}
 use Rattle.api_machine.proofs.FootingLemmas.{guard_same, network_id}
-use Rattle.api_machine.proofs.ListLemmas.{filter-both, filter-each, filter-then, find_here}
+use Rattle.api_machine.proofs.ListLemmas.{filter-both, filter-each, filter-map, filter-then, find_here}
 use Rattle.api_machine.proofs.ApartLemmas.{option_each}
 use Rattle.api_machine.proofs.FoundTold.{find-then, found_told, told_of}
-use Rattle.api_machine.proofs.OwnAlike.{owns_alike, sees_there}
+use Rattle.api_machine.proofs.OwnAlike.{map-then, owns_alike, sees_there}
 
 -- the policies on a network
 abbrev pub policies_on : Ident → List PolicyRow → List PolicyRow
@@ -68,7 +68,7 @@ user_on rows policies n = find-then (λ (p : PortRow). ident_eq n.id p.network) 
 
 -- what is told of a port that is found, by whether the caller owns the network
 abbrev pub user_told : List ℕ → Bool → RowLists → PortRow → HeldPort × Option PortRow
-user_told project owns rows p = told_of (is_seen_by project owns) (held_port rows) p
+user_told project owns rows p = told_of blank_port (is_seen_by project owns) (held_port rows) p
 
 abbrev pub told_use : UseRule → Kind → Ident → HeldPort × Option PortRow → Refusal
 told_use rule kind i told = InUse rule kind i (option_map (λ (p : PortRow). (PortKind, p.id)) told.1)
@@ -83,6 +83,9 @@ module _ (rows : RowLists) (caller : Caller) (tenant : caller.admin ≡ false) (
       (λ k p at. seen_on p (at_filter (λ (q : PortRow). ident_eq i q.network) rows.ports k p at).2)
       ∙ (sym (filter-both (sees_port rows caller) (λ (p : PortRow). ident_eq i p.network) rows.ports) ∙ filter-then (sees_port rows caller) (λ (p : PortRow). ident_eq i p.network) rows.ports)
 
+  blank_at : map blank_port (filter (λ p. is_seen_by caller.project (owns_network rows caller.project i) (held_port rows p)) (ports_at i rows.ports)) ≡ ports_at i (map blank_port (seen_ports rows caller))
+  blank_at = ap (map blank_port) seen_at ∙ sym (filter-map (λ (p : PortRow). ident_eq i p.network) blank_port (seen_ports rows caller))
+
   -- a user that is found on the network is told where the caller sees it
   pub use_told : (rule : UseRule) (kind : Kind) (j : Ident) (test : PortRow → Bool)
       → option_map (used_by_port rows caller rule kind j) (find test (ports_at i rows.ports))
@@ -92,15 +95,11 @@ module _ (rows : RowLists) (caller : Caller) (tenant : caller.admin ≡ false) (
       let there = at_filter (λ (q : PortRow). ident_eq i q.network) rows.ports here.0 p here.1 in
       told_by p (sees_row rows caller PortKind p.id) (is_seen_by caller.project (owns_network rows caller.project i) (held_port rows p)) (sees_there rows caller c there.0 p there.1 ∙ sym (seen_on p there.2)))
     where
-      told_by : (p : PortRow) (a b : Bool) → a ≡ b → InUse rule kind j (if a then Some (PortKind, p.id) else None) ≡ InUse rule kind j (option_map (λ (p : PortRow). (PortKind, p.id)) (if b then Some p else None))
+      told_by : (p : PortRow) (a b : Bool) → a ≡ b → InUse rule kind j (if a then Some (PortKind, p.id) else None) ≡ InUse rule kind j (option_map (λ (p : PortRow). (PortKind, p.id)) (if b then Some (blank_port p) else None))
       told_by p true true e = refl
       told_by p false false e = refl
       told_by p true false e = cc
       told_by p false true e = cc
-
-map-then : {X Y Z : Type 0} (f : X → Y) (g : Y → Z) (o : Option X) → option_map (λ x. g (f x)) o ≡ option_map g (option_map f o)
-map-then f g None = refl
-map-then f g (Some x) = refl
 
 module _ (settings : SettingsParts) (caller : Caller) (tenant : caller.admin ≡ false) (s t : State) (c : IsConsistent s.rows) (d : IsConsistent t.rows) (same : footing settings s caller ≡ footing settings t caller) where
   pub held_alike : (i : Ident) → is_held_by s.rows caller.project i ≡ true → held_of s.rows i ≡ held_of t.rows i
@@ -115,10 +114,10 @@ module _ (settings : SettingsParts) (caller : Caller) (tenant : caller.admin ≡
       → option_map (user_told caller.project (owns_network s.rows caller.project i) s.rows) (user_by s.rows i permits project)
       ≡ option_map (user_told caller.project (owns_network t.rows caller.project i) t.rows) (user_by t.rows i permits project)
   user_by_alike i held permits project =
-      found_told (held_port s.rows) (held_port t.rows) (is_seen_by caller.project (owns_network s.rows caller.project i)) (lacks permits project) (ports_at i s.rows.ports) (ports_at i t.rows.ports)
+      found_told blank_port (held_port s.rows) (held_port t.rows) (is_seen_by caller.project (owns_network s.rows caller.project i)) (lacks permits project) (ports_at i s.rows.ports) (ports_at i t.rows.ports)
       (ap (λ (h : Held). h.ports) (held_alike i held))
-      (seen_at s.rows caller tenant c i ∙ (ap (λ f. ports_at i f.ports) same
-      ∙ (sym (seen_at t.rows caller tenant d i) ∙ (λ j. filter (λ p. is_seen_by caller.project (sym owns j) (held_port t.rows p)) (ports_at i t.rows.ports)))))
+      (blank_at s.rows caller tenant c i ∙ (ap (λ f. ports_at i f.ports) same
+      ∙ (sym (blank_at t.rows caller tenant d i) ∙ (λ j. map blank_port (filter (λ p. is_seen_by caller.project (sym owns j) (held_port t.rows p)) (ports_at i t.rows.ports))))))
       ∙ (λ j. option_map (user_told caller.project (owns j) t.rows) (user_by t.rows i permits project))
     where
       owns : owns_network s.rows caller.project i ≡ owns_network t.rows caller.project i
@@ -147,5 +146,5 @@ module _ (settings : SettingsParts) (caller : Caller) (tenant : caller.admin ≡
       told_at state e r policies =
           ap (option_map (used_by_port state.rows caller rule kind i)) (user_on state.rows policies r)
           ∙ (use_told state.rows caller tenant e r.id rule kind i (λ p. lacks (permits_on r.id (policies_on r.id policies)) r.project (held_port state.rows p))
-          ∙ (map-then (user_told caller.project (owns_network state.rows caller.project r.id) state.rows) (told_use rule kind i) (user_by state.rows r.id (permits_on r.id (policies_on r.id policies)) r.project)
+          ∙ (sym (map-then (user_told caller.project (owns_network state.rows caller.project r.id) state.rows) (told_use rule kind i) (user_by state.rows r.id (permits_on r.id (policies_on r.id policies)) r.project))
           ∙ ap (λ o. option_map (told_use rule kind i) (option_map (user_told caller.project (owns_network state.rows caller.project r.id) state.rows) o)) (sym (user_on state.rows policies r))))

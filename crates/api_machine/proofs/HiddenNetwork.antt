@@ -4,10 +4,11 @@ use Rattle.std.specs.Prelude.{◌&&◌, ◌||◌, filter, find, is_some, nat_le,
 use Rattle.std.specs.List.{list_any}
 use Rattle.std.specs.Str.{bytes_eq}
 use Rattle.api_types.specs.Consistent.{IsConsistent}
+use Rattle.api_types.specs.Consistent.Carried.{is_bound}
 use Rattle.api_types.specs.Consistent.Numbered.{times_in}
 use Rattle.api_types.specs.Consistent.Segments.{most_networks}
 use Rattle.api_types.specs.Ident.{Ident}
-use Rattle.api_types.specs.Lists.{Each, stands}
+use Rattle.api_types.specs.Lists.{Each, stands, stands_so}
 use Rattle.api_types.specs.RowLists.{RowLists}
 use Rattle.api_types.specs.Sharing.{grants, is_granted}
 use Rattle.api_types.specs.Table.{ident_eq, row_of}
@@ -20,7 +21,7 @@ use Rattle.api_types.specs.declared.port.PortRow.{PortRow}
 use Rattle.net_settings.specs.Settings.{SettingsParts}
 use Rattle.row_laws.specs.NewRows.{with_network}
 use Rattle.api_policy.specs.Visibility.{is_own, owns_network, seen_networks, seen_ports, seen_subnets, sees_network, sees_port, sees_subnet, uses_network}
-use Rattle.api_machine.specs.Footing.{blank, footing, guard, held_of, is_close, is_held_by, is_near, near_of}
+use Rattle.api_machine.specs.Footing.{blank, blank_port, footing, guard, held_of, is_close, is_held_by, is_near, near_of}
 use Rattle.api_ml2.specs.Numbers.{least_free}
 use Rattle.call_parts.specs.State.{State}
 use Rattle.api_types.proofs.ListLemmas.{any-filter_none, any-none, any-push, none-any, none-counted, or_false}
@@ -112,7 +113,8 @@ module _ (caller : Caller) (tenant : caller.admin ≡ false) (rows : RowLists) (
       λ j. record (footing settings state caller) {
         networks = map blank (networks_still j);
         subnets = subnets_still j;
-        ports = ports_still j;
+        ports = map blank_port (ports_still j);
+        bound = λ i. stands_so (λ (p : PortRow). p.id) i (λ p. is_bound p.vif) (ports_still j);
         near = λ i. near_still i j;
         held = λ i. held_still i j;
         has_number = number j;

@@ -5,9 +5,10 @@ use Rattle.std.specs.List.{list_any}
 use Rattle.std.specs.Option.{option_or}
 use Rattle.std.specs.Str.{bytes_eq}
 use Rattle.net_addr.specs.Addresses.{addr_eq}
+use Rattle.api_types.specs.Consistent.Carried.{is_bound}
 use Rattle.api_types.specs.Consistent.HeldOnce.{has_mac}
 use Rattle.api_types.specs.Ident.{Ident}
-use Rattle.api_types.specs.Lists.{Each, stands}
+use Rattle.api_types.specs.Lists.{Each, stands, stands_so}
 use Rattle.api_types.specs.Owners.{is_port_of}
 use Rattle.api_types.specs.RowLists.{RowLists}
 use Rattle.api_types.specs.Sharing.{everyone, grants, is_action, is_granted}
@@ -26,9 +27,9 @@ use Rattle.api_types.specs.declared.router.RouterRow.{RouterRow}
 use Rattle.api_types.specs.declared.subnet.SubnetRow.{SubnetRow}
 use Rattle.net_settings.specs.Settings.{SettingsParts}
 use Rattle.row_laws.specs.NewRows.{with_floating, with_group, with_policy, with_port, with_router, with_rule, with_subnet}
-use Rattle.api_policy.specs.Visibility.{owns_network, seen_networks, seen_subnets, sees_network, sees_port, sees_subnet, uses_network}
+use Rattle.api_policy.specs.Visibility.{owns_network, seen_networks, seen_ports, seen_subnets, sees_network, sees_port, sees_subnet, uses_network}
 use Rattle.api_policy.specs.Networks.{is_open, permits_all}
-use Rattle.api_machine.specs.Footing.{blank, footing, guard, held_of, is_close, is_held_by, is_near, is_of_router, near_of}
+use Rattle.api_machine.specs.Footing.{blank, blank_port, blank_router, footing, guard, held_of, is_close, is_held_by, is_near, is_of_router, near_of}
 use Rattle.api_policy.specs.Served.{held_port}
 use Rattle.call_parts.specs.State.{State}
 use Rattle.api_types.proofs.ListLemmas.{and_both, any-filter_kept, at_filter, or_none}
@@ -53,8 +54,8 @@ module _ (settings : SettingsParts) (caller : Caller) (tenant : caller.admin ≡
   pub hidden_router : (r : RouterRow) → bytes_eq r.project caller.project ≡ false → Each (λ p. is_port_of r p ≡ false) rows.ports
       → footing settings (at (with_router rows r) version) caller ≡ footing settings (at rows version) caller
   hidden_router r others unnamed = λ j. record (footing settings (at rows version) caller) {
-    routers = filter-push (λ (q : RouterRow). bytes_eq q.project caller.project) rows.routers r others j;
-    served_ports = filter (λ p. routed p j) rows.ports;
+    routers = map blank_router (filter-push (λ (q : RouterRow). bytes_eq q.project caller.project) rows.routers r others j);
+    served_ports = map blank_port (filter (λ p. routed p j) rows.ports);
     near = λ i. guard (stands (λ (n : NetworkRow). n.id) i (seen_networks rows caller) || list_any (λ p. ident_eq i p.network && (bytes_eq p.project caller.project || routed p j)) rows.ports) (near_of rows caller.project i);
     held = λ i. guard (is_held_by rows caller.project i) (record (held_of rows i) { ports = ports i j });
   }
@@ -114,8 +115,9 @@ module _ (settings : SettingsParts) (caller : Caller) (tenant : caller.admin ≡
   pub hidden_port : (p : PortRow) → is_close rows caller.project p ≡ false → is_near rows caller p.network ≡ false → is_held_by rows caller.project p.network ≡ false
       → footing settings (at (with_port rows p) version) caller ≡ footing settings (at rows version) caller
   hidden_port p far unseen unheld = λ j. record (footing settings (at rows version) caller) {
-    ports = filter-push (sees_port rows caller) rows.ports p (λ k. (tenant k || close.0 k) || unowned.0 k) j;
-    served_ports = filter-push (is_of_router rows.routers caller.project) rows.ports p close.1 j;
+    ports = map blank_port (ports j);
+    bound = λ i. stands_so (λ (q : PortRow). q.id) i (λ q. is_bound q.vif) (ports j);
+    served_ports = map blank_port (filter-push (is_of_router rows.routers caller.project) rows.ports p close.1 j);
     near = λ i. near i j;
     held = λ i. held i j;
   }
@@ -125,6 +127,9 @@ module _ (settings : SettingsParts) (caller : Caller) (tenant : caller.admin ≡
 
       unowned : (owns_network rows caller.project p.network ≡ false) × (list_any (λ (l : PolicyRow). ident_eq p.network l.object && bytes_eq l.project caller.project) rows.policies ≡ false)
       unowned = or_none (owns_network rows caller.project p.network) (list_any (λ (l : PolicyRow). ident_eq p.network l.object && bytes_eq l.project caller.project) rows.policies) unheld
+
+      ports : seen_ports (with_port rows p) caller ≡ seen_ports rows caller
+      ports = filter-push (sees_port rows caller) rows.ports p (λ k. (tenant k || close.0 k) || unowned.0 k)
 
       unlike : (test : Ident → Bool) (i o : Ident) → test i ≡ true → test o ≡ false → ident_eq i o ≡ false
       unlike test i o mine not = by_test (ident_eq i o) (ident_eq i o ≡ false)

@@ -24,6 +24,7 @@ mod GatewayStays
 mod GivenLemmas
 mod GroupsApart
 mod HeldAlike
+mod HiddenHosts
 mod HiddenNetwork
 mod HiddenRows
 mod HiddenUntold

@@ -2,8 +2,10 @@
 use Rattle.std.proofs.Common.{◌≡◌, suc, ◌≤◌, List, [], ◌∷◌, Bool, true, false, cond, Option, Some, None, refl, ap, sym, ◌∙◌, arith, map, not}
 use Rattle.std.specs.Prelude.{◌&&◌, filter, if◌then◌else◌}
 use Rattle.api_types.specs.Consistent.{IsConsistent}
+use Rattle.api_types.specs.Consistent.Carried.{is_bound}
 use Rattle.api_types.specs.Ident.{Ident}
 use Rattle.api_types.specs.Lists.{Each, is_some_so, stands, stands_so, times}
+use Rattle.api_types.specs.Live.{is_live}
 use Rattle.api_types.specs.Outcome.{Told}
 use Rattle.api_types.specs.Printed.{ManyRows, NamedTree, ShownRow}
 use Rattle.api_types.specs.RowLists.{RowLists}
@@ -23,14 +25,14 @@ use Rattle.api_policy.specs.Listed.{behind, behind_id, behind_marker, cut, has_m
 use Rattle.api_policy.specs.Networks.{network_members}
 use Rattle.api_policy.specs.Ports.{port_members}
 use Rattle.api_policy.specs.Shown.{shown_as}
-use Rattle.api_machine.specs.Footing.{Near, blank, footing, is_near}
+use Rattle.api_machine.specs.Footing.{Near, blank, blank_port, footing, is_near}
 use Rattle.api_machine.specs.Reads.{marker_text, rows_listed}
 use Rattle.api_types.specs.Refusing.{not_found, answer_alone, unless, when}
 use Rattle.call_parts.specs.State.{State}
 use Rattle.api_types.proofs.ListLemmas.{and_both, any-at, none_some, one_row}
-use Rattle.api_machine.proofs.FootingLemmas.{near_same, network_id, port_id, port_near, seen_near, subnets_same, unless_alike}
+use Rattle.api_machine.proofs.FootingLemmas.{bound_here, near_same, network_id, port_id, port_near, seen_near, subnets_same, unless_alike}
 use Rattle.api_machine.proofs.ListLemmas.{any-map, any-then, at_map, filter-map, filter-then, map-each, map-twice}
-use Rattle.api_machine.proofs.ShownAlike.{network_printed, port_members_alike}
+use Rattle.api_machine.proofs.ShownAlike.{is_up, live_by, network_printed, port_printed, up_at}
 
 -- the rows behind one
 
@@ -89,7 +91,7 @@ marker-filter {A} keep id_of xs once m seen = by m.id seen
         let y : A = r.1 in let both = and_both (ident_eq i (id_of y)) (keep y) r.3 in
         ap keep (one_row (λ y. ident_eq i (id_of y)) xs (once i) k r.0 x y at r.2 same both.0) ∙ both.1)
 
-pub marker-each : {A : Type 0} (P : A → Type 0) (id_of : A → Ident) (marker : Option IdText) (xs : List A) → Each P xs → Each P (behind_marker id_of marker xs)
+marker-each : {A : Type 0} (P : A → Type 0) (id_of : A → Ident) (marker : Option IdText) (xs : List A) → Each P xs → Each P (behind_marker id_of marker xs)
 marker-each P id_of None xs e = e
 marker-each P id_of (Some m) xs e = by m.id
   where
@@ -121,6 +123,17 @@ cards_blank : (rows : RowLists) (caller : Caller) (q : Query) (xs : List Network
 cards_blank rows caller q xs = cards_printed (λ n. network_members rows caller (blank n)) NetworkKind false q xs
     ∙ ap (cards_of NetworkKind false q) (sym (map-twice blank (network_members rows caller) xs))
 
+-- nor any port's host or binding, but whether it is bound
+abbrev told_port : RowLists → (Ident → Bool) → PortRow → List NamedTree
+told_port rows bound p = port_printed p (p.up && bound p.id && is_up (up_at p.network rows.networks))
+
+cards_port : (rows : RowLists) (bound : Ident → Bool) (q : Query) (xs : List PortRow) → Each (λ (p : PortRow). bound p.id ≡ is_bound p.vif) xs
+    → cards (port_members rows) PortKind false q xs ≡ cards_of PortKind false q (map (told_port rows bound) (map blank_port xs))
+cards_port rows bound q xs e = cards_printed (λ (p : PortRow). port_printed (blank_port p) (is_live rows p)) PortKind false q xs
+    ∙ ap (cards_of PortKind false q) (map-each (λ (p : PortRow). port_printed (blank_port p) (is_live rows p)) (λ p. told_port rows bound (blank_port p)) xs
+    (λ k p at. ap (port_printed (blank_port p)) (live_by rows p ∙ (λ j. p.up && sym (e k p at) j && is_up (up_at p.network rows.networks))))
+    ∙ sym (map-twice blank_port (told_port rows bound) xs))
+
 when_none : (b : Bool) (refusal : Refusal) → when (not b) refusal ≡ None → b ≡ true
 when_none true refusal h = refl
 when_none false refusal h = none_some refusal _ (sym h)
@@ -144,11 +157,18 @@ module _ (rows : RowLists) (caller : Caller) (c : IsConsistent rows) where
       ∙ (cards_blank rows caller q (behind_marker network_id q.marker (seen_networks rows caller))
       ∙ ap (λ xs. cards_of NetworkKind false q (map (network_members rows caller) xs)) (sym (marker-map blank network_id network_id (λ r. refl) q.marker (seen_networks rows caller)))))))
 
-  ports_told : (q : Query) → has_marker rows caller PortKind q.marker ≡ true
-      → listed rows caller PortKind q ≡ cut q.limit (cards_of PortKind caller.admin q (map (port_members rows) (behind_marker port_id q.marker (seen_ports rows caller))))
-  ports_told q h = ap (cut q.limit) (seen_cards (sees_port rows caller) (port_members rows) PortKind caller.admin q (behind_marker port_id q.marker rows.ports)
-      ∙ (ap (cards (port_members rows) PortKind caller.admin q) (ports_behind q.marker h)
-      ∙ cards_printed (port_members rows) PortKind caller.admin q (behind_marker port_id q.marker (seen_ports rows caller))))
+  -- whether a port that is seen is bound
+  abbrev bound_seen : Ident → Bool
+  bound_seen i = stands_so port_id i (λ (p : PortRow). is_bound p.vif) (seen_ports rows caller)
+
+  ports_told : caller.admin ≡ false → (q : Query) → has_marker rows caller PortKind q.marker ≡ true
+      → listed rows caller PortKind q ≡ cut q.limit (cards_of PortKind false q (map (told_port rows bound_seen) (behind_marker port_id q.marker (map blank_port (seen_ports rows caller)))))
+  ports_told tenant q h = ap (cut q.limit) (ap (λ b. listed_of (sees_port rows caller) (port_members rows) PortKind b q (behind_marker port_id q.marker rows.ports)) tenant
+      ∙ (seen_cards (sees_port rows caller) (port_members rows) PortKind false q (behind_marker port_id q.marker rows.ports)
+      ∙ (ap (cards (port_members rows) PortKind false q) (ports_behind q.marker h)
+      ∙ (cards_port rows bound_seen q (behind_marker port_id q.marker (seen_ports rows caller))
+      (marker-each (λ (p : PortRow). bound_seen p.id ≡ is_bound p.vif) port_id q.marker (seen_ports rows caller) (bound_here rows caller c))
+      ∙ ap (λ xs. cards_of PortKind false q (map (told_port rows bound_seen) xs)) (sym (marker-map blank_port port_id port_id (λ r. refl) q.marker (seen_ports rows caller)))))))
 
 module _ (settings : SettingsParts) (caller : Caller) (tenant : caller.admin ≡ false) (s t : State) (c : IsConsistent s.rows) (d : IsConsistent t.rows) (same : footing settings s caller ≡ footing settings t caller) where
   -- markers
@@ -158,8 +178,9 @@ module _ (settings : SettingsParts) (caller : Caller) (tenant : caller.admin ≡
   seen_network state i = any-then (λ (r : NetworkRow). ident_eq i r.id) (sees_network state.rows caller) state.rows.networks
       ∙ sym (any-map (λ (r : NetworkRow). ident_eq i r.id) blank (seen_networks state.rows caller))
 
-  seen_port : (state : State) (i : Ident) → stands_so port_id i (sees_port state.rows caller) state.rows.ports ≡ stands port_id i (seen_ports state.rows caller)
+  seen_port : (state : State) (i : Ident) → stands_so port_id i (sees_port state.rows caller) state.rows.ports ≡ stands port_id i (map blank_port (seen_ports state.rows caller))
   seen_port state i = any-then (λ (r : PortRow). ident_eq i r.id) (sees_port state.rows caller) state.rows.ports
+      ∙ sym (any-map (λ (r : PortRow). ident_eq i r.id) blank_port (seen_ports state.rows caller))
 
   network_marker_same : (marker : Option IdText) → has_marker s.rows caller NetworkKind marker ≡ has_marker t.rows caller NetworkKind marker
   network_marker_same None = refl
@@ -178,8 +199,18 @@ module _ (settings : SettingsParts) (caller : Caller) (tenant : caller.admin ≡
       let told_near = near_same settings caller s t same n.id near in
       λ j. network_printed n (told_near j).external_to_all (told_near j).shared_to_all (subnets_same settings caller s t same n.id j)
 
-  port_members_same : Each (λ p. port_members s.rows p ≡ port_members t.rows p) (seen_ports s.rows caller)
-  port_members_same k p at = port_members_alike s.rows t.rows p p refl (ap (λ (x : Near). x.up) (near_same settings caller s t same p.network (port_near s.rows caller tenant k p at)))
+  abbrev told_s : PortRow → List NamedTree
+  told_s = told_port s.rows (bound_seen s.rows caller c)
+
+  abbrev told_t : PortRow → List NamedTree
+  told_t = told_port t.rows (bound_seen t.rows caller d)
+
+  told_same : Each (λ p. told_s p ≡ told_t p) (map blank_port (seen_ports s.rows caller))
+  told_same k p at =
+      let from = at_map blank_port (seen_ports s.rows caller) k p at in
+      let near : is_near s.rows caller p.network ≡ true = ap (λ (x : PortRow). is_near s.rows caller x.network) (sym from.2) ∙ port_near s.rows caller tenant k from.0 from.1 in
+      let up : up_at p.network s.rows.networks ≡ up_at p.network t.rows.networks = ap (λ (x : Near). x.up) (near_same settings caller s t same p.network near) in
+      λ j. port_printed p (p.up && (same j).bound p.id && is_up (up j))
 
   networks_same : (q : Query) → has_marker s.rows caller NetworkKind q.marker ≡ true → has_marker t.rows caller NetworkKind q.marker ≡ true → listed s.rows caller NetworkKind q ≡ listed t.rows caller NetworkKind q
   networks_same q h l = networks_told s.rows caller c tenant q h
@@ -189,11 +220,11 @@ module _ (settings : SettingsParts) (caller : Caller) (tenant : caller.admin ≡
       ∙ sym (networks_told t.rows caller d tenant q l))
 
   ports_same : (q : Query) → has_marker s.rows caller PortKind q.marker ≡ true → has_marker t.rows caller PortKind q.marker ≡ true → listed s.rows caller PortKind q ≡ listed t.rows caller PortKind q
-  ports_same q h l = ports_told s.rows caller c q h
-      ∙ (ap (λ xs. cut q.limit (cards_of PortKind caller.admin q xs)) (map-each (port_members s.rows) (port_members t.rows)
-      (behind_marker port_id q.marker (seen_ports s.rows caller)) (marker-each (λ p. port_members s.rows p ≡ port_members t.rows p) port_id q.marker (seen_ports s.rows caller) port_members_same)
-      ∙ ap (λ f. map (port_members t.rows) (behind_marker port_id q.marker f.ports)) same)
-      ∙ sym (ports_told t.rows caller d q l))
+  ports_same q h l = ports_told s.rows caller c tenant q h
+      ∙ (ap (λ xs. cut q.limit (cards_of PortKind false q xs)) (map-each told_s told_t
+      (behind_marker port_id q.marker (map blank_port (seen_ports s.rows caller))) (marker-each (λ p. told_s p ≡ told_t p) port_id q.marker (map blank_port (seen_ports s.rows caller)) told_same)
+      ∙ ap (λ f. map told_t (behind_marker port_id q.marker f.ports)) same)
+      ∙ sym (ports_told t.rows caller d tenant q l))
 
   -- where the marker is the same to both, and so is what is listed behind it
   listed_alike : (kind : Kind) (q : Query) → has_marker s.rows caller kind q.marker ≡ has_marker t.rows caller kind q.marker

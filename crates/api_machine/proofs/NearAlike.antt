@@ -1,6 +1,6 @@
 -- What a tenant's footing tells of a network that is near: its subnets, and which addresses and MAC addresses are held on it.
-use Rattle.std.proofs.Common.{◌≡◌, ℕ, ◌^◌, List, Bool, true, false, Option, Some, None, slice_get, refl, ap, sym, ◌∙◌, arith, not}
-use Rattle.std.specs.Prelude.{◌&&◌, ◌||◌, find, is_none, option_and_then}
+use Rattle.std.proofs.Common.{◌≡◌, ℕ, ◌^◌, List, map, Bool, true, false, Option, Some, None, slice_get, refl, ap, sym, ◌∙◌, arith, not}
+use Rattle.std.specs.Prelude.{◌&&◌, ◌||◌, find, is_none, option_and_then, option_map}
 use Rattle.std.specs.Str.{bytes_eq}
 use Rattle.net_addr.specs.Prefixes.{eui}
 use Rattle.net_addr.specs.declared.address.Addr.{Addr}
@@ -12,7 +12,7 @@ use Rattle.api_ipam.specs.MacChoice.{expected_mac, first_mac, free_mac, mac_for,
 use Rattle.api_policy.specs.Permits.{network_owner}
 use Rattle.api_policy.specs.Seen.{network_seen}
 use Rattle.api_policy.specs.Visibility.{owns_network, seen_ports, sees_port}
-use Rattle.api_machine.specs.Footing.{blank, footing}
+use Rattle.api_machine.specs.Footing.{blank, blank_port, footing}
 use Rattle.api_types.specs.Refusing.{needing, answer_alone, when}
 use Rattle.call_parts.specs.State.{State, drawing_at}
 use Rattle.api_types.specs.Consistent.{IsConsistent}
@@ -36,13 +36,19 @@ use Rattle.api_types.specs.declared.refusal.Refusal.TheVariants.{CountersSpent, 
 use Rattle.api_types.specs.declared.refusal.Refusal.{Refusal}
 use Rattle.api_types.specs.declared.subnet.SubnetRow.{SubnetRow}
 use Rattle.net_settings.specs.Settings.{SettingsParts}
-use Rattle.api_types.proofs.ListLemmas.{and_both, any-at}
+use Rattle.api_types.proofs.ListLemmas.{and_both, any-at, none_some, some_equal}
 use Rattle.api_types.proofs.NameLemmas.{all-at, ident_same}
 use Rattle.api_machine.proofs.DrawnAlike.{counts_of}
 use Rattle.api_machine.proofs.FootingLemmas.{named_same, network_id}
-use Rattle.api_machine.proofs.ListLemmas.{find-filter}
+use Rattle.api_machine.proofs.ListLemmas.{find-filter, find-map}
 use Rattle.api_machine.proofs.ApartLemmas.{needing_same, stands_there, then_alike}
 use Rattle.api_machine.proofs.OwnAlike.{drawn_alike, owned_port, owns_alike}
+
+none_view : {X V : Type 0} (view : X → V) (o p : Option X) → option_map view o ≡ option_map view p → is_none o ≡ is_none p
+none_view view None None h = refl
+none_view view None (Some y) h = none_some (view y) _ h
+none_view view (Some x) None h = none_some (view x) _ (sym h)
+none_view view (Some x) (Some y) h = refl
 
 -- two lists of ports hold the same on a network
 module _ (ports others : List PortRow) (i : Ident) (macs : is_mac_held ports i ≡ is_mac_held others i) where
@@ -58,21 +64,23 @@ module _ (ports others : List PortRow) (i : Ident) (macs : is_mac_held ports i �
   mac_for_same Null = free_mac_same
   mac_for_same (Is mac) = refl
 
-  dhcp_mac_same : (o : Option PortRow) → dhcp_mac ports i o ≡ dhcp_mac others i o
-  dhcp_mac_same None = ap expected_mac free_mac_same
-  dhcp_mac_same (Some p) = refl
+  dhcp_mac_same : (o p : Option PortRow) → option_map blank_port o ≡ option_map blank_port p → dhcp_mac ports i o ≡ dhcp_mac others i p
+  dhcp_mac_same None None alike = ap expected_mac free_mac_same
+  dhcp_mac_same None (Some q) alike = none_some (blank_port q) _ alike
+  dhcp_mac_same (Some p) None alike = none_some (blank_port p) _ (sym alike)
+  dhcp_mac_same (Some p) (Some q) alike = ap (λ (x : PortRow). x.mac) (some_equal (blank_port p) (blank_port q) alike)
 
-  module _ (addresses : is_address_held ports i ≡ is_address_held others i) (dhcp : dhcp_port_on ports i ≡ dhcp_port_on others i) where
+  module _ (addresses : is_address_held ports i ≡ is_address_held others i) (dhcp : option_map blank_port (dhcp_port_on ports i) ≡ option_map blank_port (dhcp_port_on others i)) where
     served_same : (s : SubnetRow) (eui : Bool) → served_address ports i s eui ≡ served_address others i s eui
     served_same s false = ap (λ (held : Addr → Bool). least_free_address (λ x. not (held x)) s.pools) addresses
-    served_same s true = ap (λ mac. Some (eui s.prefix mac)) (dhcp_mac_same (dhcp_port_on ports i) ∙ ap (dhcp_mac others i) dhcp)
+    served_same s true = ap (λ mac. Some (eui s.prefix mac)) (dhcp_mac_same (dhcp_port_on ports i) (dhcp_port_on others i) dhcp)
 
     pub dhcp_address_same : (begins : Bool) (s : SubnetRow) → dhcp_address ports i begins s ≡ dhcp_address others i begins s
     dhcp_address_same false s = refl
     dhcp_address_same true s = served_same s (is_eui s)
 
     pub makes_same : (begins : Bool) → makes_dhcp_port ports i begins ≡ makes_dhcp_port others i begins
-    makes_same begins = ap (λ o. begins && is_none o) dhcp
+    makes_same begins = ap (λ b. begins && b) (none_view blank_port (dhcp_port_on ports i) (dhcp_port_on others i) dhcp)
 
 -- a port with an address in a subnet is on the subnet's network
 pub holder_on : (rows : RowLists) → IsConsistent rows → (k : ℕ) (r : SubnetRow) → slice_get rows.subnets k ≡ Some r → (l : ℕ) (p : PortRow) → slice_get rows.ports l ≡ Some p → holds_in r.id p ≡ true
@@ -89,12 +97,14 @@ owns_is rows c k n at project = stands_there network_id (λ (m : NetworkRow). by
 
 module _ (settings : SettingsParts) (caller : Caller) (tenant : caller.admin ≡ false) (s t : State) (same : footing settings s caller ≡ footing settings t caller) where
   -- the DHCP port of a network that the caller owns
-  pub dhcp_alike : (i : Ident) → owns_network s.rows caller.project i ≡ true → owns_network t.rows caller.project i ≡ true → dhcp_port_on s.rows.ports i ≡ dhcp_port_on t.rows.ports i
+  pub dhcp_alike : (i : Ident) → owns_network s.rows caller.project i ≡ true → owns_network t.rows caller.project i ≡ true
+      → option_map blank_port (dhcp_port_on s.rows.ports i) ≡ option_map blank_port (dhcp_port_on t.rows.ports i)
   dhcp_alike i owns owns' = seen_dhcp s owns ∙ (ap (λ f. find (is_dhcp_of i) f.ports) same ∙ sym (seen_dhcp t owns'))
     where
-      seen_dhcp : (state : State) → owns_network state.rows caller.project i ≡ true → dhcp_port_on state.rows.ports i ≡ find (is_dhcp_of i) (seen_ports state.rows caller)
-      seen_dhcp state own = sym (find-filter (sees_port state.rows caller) (is_dhcp_of i) state.rows.ports
-          (λ k p at is. owned_port state.rows caller i own p (and_both (ident_eq i p.network) (is_dhcp p.owner) is).0))
+      seen_dhcp : (state : State) → owns_network state.rows caller.project i ≡ true → option_map blank_port (dhcp_port_on state.rows.ports i) ≡ find (is_dhcp_of i) (map blank_port (seen_ports state.rows caller))
+      seen_dhcp state own = ap (option_map blank_port) (sym (find-filter (sees_port state.rows caller) (is_dhcp_of i) state.rows.ports
+          (λ k p at is. owned_port state.rows caller i own p (and_both (ident_eq i p.network) (is_dhcp p.owner) is).0)))
+          ∙ sym (find-map (is_dhcp_of i) blank_port (seen_ports state.rows caller))
 
   pub network_owner_alike : (i : Ident) (needed : Bool) → network_owner s.rows caller needed i ≡ network_owner t.rows caller needed i
   network_owner_alike i needed = ap (λ owns. when (needed && not (caller.admin || owns)) (Forbidden NetworkOwner)) (owns_alike settings caller tenant s t same i)

@@ -52,7 +52,7 @@ use Rattle.api_machine.proofs.FootingLemmas.{named_alike, named_near, near_alike
 use Rattle.api_machine.proofs.NetworksApart.{subnets_kept}
 use Rattle.api_machine.proofs.ShownAlike.{network_shown_alike}
 use Rattle.api_machine.proofs.ApartLemmas.{absent, first_behind, first_same, heads_none, none_at, unless_same}
-use Rattle.api_machine.proofs.OwnAlike.{admin_passes, drawn_alike, owner_passes, quota_own, seen_user, users_seen}
+use Rattle.api_machine.proofs.OwnAlike.{admin_passes, drawn_alike, owner_passes, quota_own, seen_user, users_told}
 use Rattle.api_policy.specs.Reserved.{network_for_admin}
 
 -- the least number is found in one list, or looked for number by number
@@ -268,9 +268,9 @@ module _ (settings : SettingsParts) (caller : Caller) (tenant : caller.admin ≡
   used_alike : (k l : ℕ) (n m : NetworkRow) → slice_get s.rows.networks k ≡ Some n → slice_get t.rows.networks l ≡ Some m → blank n ≡ blank m → bytes_eq n.project caller.project ≡ true
       → network_in_use s.rows caller n.id ≡ network_in_use t.rows caller m.id
   used_alike k l n m at_n at_m alike own =
-      users_seen s.rows caller c NetworkInUse NetworkKind n.id (is_network_user n.id) (users s k n at_n own)
+      users_told s.rows caller c NetworkInUse NetworkKind n.id (is_network_user n.id) (λ p. refl) (users s k n at_n own)
       ∙ ((λ j. option_map (seen_user NetworkInUse NetworkKind (alike j).id) (find (is_network_user (alike j).id) (same j).ports))
-      ∙ sym (users_seen t.rows caller d NetworkInUse NetworkKind m.id (is_network_user m.id) (users t l m at_m (sym (ap (λ x. bytes_eq x.project caller.project) alike) ∙ own))))
+      ∙ sym (users_told t.rows caller d NetworkInUse NetworkKind m.id (is_network_user m.id) (λ p. refl) (users t l m at_m (sym (ap (λ x. bytes_eq x.project caller.project) alike) ∙ own))))
     where
       users : (state : State) (i : ℕ) (r : NetworkRow) → slice_get state.rows.networks i ≡ Some r → bytes_eq r.project caller.project ≡ true → Each (λ p. is_network_user r.id p ≡ true → sees_port state.rows caller p ≡ true) state.rows.ports
       users state i r at mine o p at_p uses = own_sees_port state.rows caller i r at mine p (ident_sym r.id p.network (and_both (ident_eq r.id p.network) (not (is_dhcp p.owner)) uses).0)

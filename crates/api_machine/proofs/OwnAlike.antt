@@ -10,7 +10,7 @@ use Rattle.api_policy.specs.Quotas.{limit_of, over_limit, over_quota, owned_coun
 use Rattle.api_policy.specs.Seen.{own_rows}
 use Rattle.api_policy.specs.Uses.{used_by_port}
 use Rattle.api_policy.specs.Visibility.{is_own, owns_network, seen_networks, seen_ports, sees_network, sees_port, sees_row, sees_subnet}
-use Rattle.api_machine.specs.Footing.{blank, footing, owned}
+use Rattle.api_machine.specs.Footing.{blank, blank_port, blank_router, footing, owned}
 use Rattle.api_types.specs.Refusing.{at_name, needing, answer_alone, when}
 use Rattle.call_parts.specs.State.{State, drawing_at}
 use Rattle.api_types.specs.Consistent.{IsConsistent}
@@ -29,12 +29,13 @@ use Rattle.api_types.specs.declared.refusal.Refusal.TheVariants.{CountersSpent, 
 use Rattle.api_types.specs.declared.refusal.PolicyRule.TheVariants.{AdminOnly, NetworkOwner, OwnerOnly}
 use Rattle.api_types.specs.declared.refusal.Refusal.{Refusal}
 use Rattle.api_types.specs.declared.refusal.UseRule.{UseRule}
+use Rattle.api_types.specs.declared.router.RouterRow.{RouterRow}
 use Rattle.net_settings.specs.Settings.{SettingsParts}
 use Rattle.api_types.proofs.ListLemmas.{at_filter, none_some}
 use Rattle.api_types.proofs.NameLemmas.{ident_same}
 use Rattle.api_machine.proofs.FootingLemmas.{needing_by, port_id}
 use Rattle.api_machine.proofs.DrawnAlike.{counts_of, counts_same}
-use Rattle.api_machine.proofs.ListLemmas.{any-map, any-then, filter-map, find-filter, find_here, name_here, or_left, or_right}
+use Rattle.api_machine.proofs.ListLemmas.{any-map, any-then, filter-map, find-filter, find-map, find_here, name-map, name_here, or_left, or_right}
 use Rattle.api_machine.proofs.ApartLemmas.{filter-kept, option_each, stands_there}
 
 -- a tenant's own rows
@@ -51,16 +52,24 @@ module _ (caller : Caller) (tenant : caller.admin ≡ false) where
       let kept = at_filter (λ r. is_own caller (project_of r)) xs here.0 x here.1 in
       (kept.0, kept.1, sym (ap (λ b. b || bytes_eq (project_of x) caller.project) tenant) ∙ kept.2)
 
+abbrev pub router_id : RouterRow → Ident
+router_id r = r.id
+
 -- a port that uses a row of the caller's, where all that do are seen
 
 abbrev pub seen_user : UseRule → Kind → Ident → PortRow → Refusal
 seen_user rule kind i p = InUse rule kind i (Some (PortKind, p.id))
 
+-- views, one after the other
+pub map-then : {X Y Z : Type 0} (f : X → Y) (g : Y → Z) (o : Option X) → option_map g (option_map f o) ≡ option_map (λ x. g (f x)) o
+map-then f g None = refl
+map-then f g (Some x) = refl
+
 module _ (rows : RowLists) (caller : Caller) (c : IsConsistent rows) where
   pub sees_there : (k : ℕ) (p : PortRow) → slice_get rows.ports k ≡ Some p → sees_row rows caller PortKind p.id ≡ sees_port rows caller p
   sees_there k p at = stands_there port_id (sees_port rows caller) rows.ports (λ i. omega (arith, c.numbered.ids i)) k p at
 
-  pub users_seen : (rule : UseRule) (kind : Kind) (i : Ident) (test : PortRow → Bool) → Each (λ p. test p ≡ true → sees_port rows caller p ≡ true) rows.ports
+  users_seen : (rule : UseRule) (kind : Kind) (i : Ident) (test : PortRow → Bool) → Each (λ p. test p ≡ true → sees_port rows caller p ≡ true) rows.ports
       → option_map (used_by_port rows caller rule kind i) (find test rows.ports) ≡ option_map (seen_user rule kind i) (find test (seen_ports rows caller))
   users_seen rule kind i test seen =
       ap (option_map (used_by_port rows caller rule kind i)) (sym (find-filter (sees_port rows caller) test rows.ports seen))
@@ -68,6 +77,15 @@ module _ (rows : RowLists) (caller : Caller) (c : IsConsistent rows) where
       (λ p found. let here = find_here test (seen_ports rows caller) p found in
       let there = at_filter (sees_port rows caller) rows.ports here.0 p here.1 in
       ap (λ (b : Bool). InUse rule kind i (if b then Some (PortKind, p.id) else None)) (sees_there there.0 p there.1 ∙ there.2))
+
+  -- and found by a test that looks at neither hosts nor bindings
+  pub users_told : (rule : UseRule) (kind : Kind) (i : Ident) (test : PortRow → Bool) → ((p : PortRow) → test (blank_port p) ≡ test p) → Each (λ p. test p ≡ true → sees_port rows caller p ≡ true) rows.ports
+      → option_map (used_by_port rows caller rule kind i) (find test rows.ports) ≡ option_map (seen_user rule kind i) (find test (map blank_port (seen_ports rows caller)))
+  users_told rule kind i test blind seen =
+      users_seen rule kind i test seen
+      ∙ ((λ j. option_map (seen_user rule kind i) (find (λ p. sym (blind p) j) (seen_ports rows caller)))
+      ∙ (sym (map-then blank_port (seen_user rule kind i) (find (λ p. test (blank_port p)) (seen_ports rows caller)))
+      ∙ sym (ap (option_map (seen_user rule kind i)) (find-map test blank_port (seen_ports rows caller)))))
 
 -- two states with one footing
 
@@ -78,8 +96,16 @@ module _ (settings : SettingsParts) (caller : Caller) (tenant : caller.admin ≡
   pub rules_alike : own_rows (λ r. r.project) caller s.rows.rules ≡ own_rows (λ r. r.project) caller t.rows.rules
   rules_alike = own_owned caller tenant (λ r. r.project) s.rows.rules ∙ (ap (λ f. f.rules) same ∙ sym (own_owned caller tenant (λ r. r.project) t.rows.rules))
 
-  pub routers_alike : own_rows (λ r. r.project) caller s.rows.routers ≡ own_rows (λ r. r.project) caller t.rows.routers
-  routers_alike = own_owned caller tenant (λ r. r.project) s.rows.routers ∙ (ap (λ f. f.routers) same ∙ sym (own_owned caller tenant (λ r. r.project) t.rows.routers))
+  pub routers_alike : map blank_router (own_rows (λ r. r.project) caller s.rows.routers) ≡ map blank_router (own_rows (λ r. r.project) caller t.rows.routers)
+  routers_alike = ap (map blank_router) (own_owned caller tenant (λ r. r.project) s.rows.routers)
+      ∙ (ap (λ f. f.routers) same ∙ sym (ap (map blank_router) (own_owned caller tenant (λ r. r.project) t.rows.routers)))
+
+  -- a router of the caller's is found in both states, or in none
+  pub routers_found : (name : Option Ident)
+      → option_map blank_router (at_name router_id name (own_rows (λ r. r.project) caller s.rows.routers)) ≡ option_map blank_router (at_name router_id name (own_rows (λ r. r.project) caller t.rows.routers))
+  routers_found name = sym (name-map blank_router router_id router_id (λ r. refl) name (own_rows (λ r. r.project) caller s.rows.routers))
+      ∙ (ap (at_name router_id name) routers_alike
+      ∙ name-map blank_router router_id router_id (λ r. refl) name (own_rows (λ r. r.project) caller t.rows.routers))
 
   pub floatings_alike : own_rows (λ r. r.project) caller s.rows.floatings ≡ own_rows (λ r. r.project) caller t.rows.floatings
   floatings_alike = own_owned caller tenant (λ r. r.project) s.rows.floatings ∙ (ap (λ f. f.floatings) same ∙ sym (own_owned caller tenant (λ r. r.project) t.rows.floatings))
@@ -126,15 +152,26 @@ module _ (settings : SettingsParts) (caller : Caller) (tenant : caller.admin ≡
       own : NetworkRow → Bool
       own n = bytes_eq n.project caller.project
 
+  ports_counted : (rows : RowLists) → owned_count (λ (p : PortRow). p.project) caller.project rows.ports ≡ count_by (λ (p : PortRow). bytes_eq p.project caller.project) (map blank_port (seen_ports rows caller))
+  ports_counted rows = sym (length-filter own rows.ports)
+      ∙ (ap length (sym (filter-kept (sees_port rows caller) own rows.ports (λ k p at mine. or_left _ _ (or_right caller.admin _ mine))))
+      ∙ (length-filter own (seen_ports rows caller) ∙ sym (count-map own blank_port (seen_ports rows caller))))
+    where
+      own : PortRow → Bool
+      own p = bytes_eq p.project caller.project
+
+  routers_counted : (rows : RowLists) → owned_count (λ (r : RouterRow). r.project) caller.project rows.routers ≡ length (map blank_router (owned (λ (r : RouterRow). r.project) caller.project rows.routers))
+  routers_counted rows = sym (length-filter (λ (r : RouterRow). bytes_eq r.project caller.project) rows.routers)
+      ∙ sym (length-map (owned (λ (r : RouterRow). r.project) caller.project rows.routers) blank_router)
+
   used_alike : (kind : Kind) → used_of s.rows caller.project kind ≡ used_of t.rows caller.project kind
   used_alike NetworkKind = networks_counted s.rows ∙ (ap (λ f. count_by (λ (n : NetworkRow). bytes_eq n.project caller.project) f.networks) same ∙ sym (networks_counted t.rows))
   used_alike SubnetKind = counted_seen (λ r. r.project) (sees_subnet s.rows caller) (sees_subnet t.rows caller) s.rows.subnets t.rows.subnets
       (λ r mine. or_left _ _ (or_right caller.admin _ mine)) (λ r mine. or_left _ _ (or_right caller.admin _ mine)) (ap (λ f. f.subnets) same)
-  used_alike PortKind = counted_seen (λ r. r.project) (sees_port s.rows caller) (sees_port t.rows caller) s.rows.ports t.rows.ports
-      (λ r mine. or_left _ _ (or_right caller.admin _ mine)) (λ r mine. or_left _ _ (or_right caller.admin _ mine)) (ap (λ f. f.ports) same)
+  used_alike PortKind = ports_counted s.rows ∙ (ap (λ f. count_by (λ (p : PortRow). bytes_eq p.project caller.project) f.ports) same ∙ sym (ports_counted t.rows))
   used_alike GroupKind = counted (λ r. r.project) s.rows.groups t.rows.groups (ap (λ f. f.groups) same)
   used_alike RuleKind = counted (λ r. r.project) s.rows.rules t.rows.rules (ap (λ f. f.rules) same)
-  used_alike RouterKind = counted (λ r. r.project) s.rows.routers t.rows.routers (ap (λ f. f.routers) same)
+  used_alike RouterKind = routers_counted s.rows ∙ (ap (λ f. length f.routers) same ∙ sym (routers_counted t.rows))
   used_alike FloatingKind = counted (λ r. r.project) s.rows.floatings t.rows.floatings (ap (λ f. f.floatings) same)
   used_alike PolicyKind = counted (λ r. r.project) s.rows.policies t.rows.policies (ap (λ f. f.policies) same)
   used_alike ProjectKind = refl

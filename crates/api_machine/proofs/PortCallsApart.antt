@@ -1,11 +1,11 @@
 -- A tenant is told the same of ports that it makes, changes and takes out, wherever its footing is the same.
 use Rattle.std.proofs.Common.{◌≡◌, ℕ, ◌+◌, List, [], ◌∷◌, Bool, true, false, Option, Some, None, slice_get, refl, ap, sym, ◌∙◌, arith, map, not, subst}
-use Rattle.std.specs.Prelude.{◌&&◌, ◌||◌, ◌==◌, codes, filter, is_some}
+use Rattle.std.specs.Prelude.{◌&&◌, ◌||◌, ◌==◌, codes, filter, is_some, option_map}
 use Rattle.std.specs.List.{list_all}
 use Rattle.std.specs.Str.{bytes_eq}
 use Rattle.call_parts.specs.BodyNames.{text_of, unless_all}
 use Rattle.call_parts.specs.Edits.{Put, accepted, edited, made}
-use Rattle.api_ipam.specs.FixedChoice.{are_placed, first_addresses, first_known, named_subnets, next_addresses, next_known, old_renewed}
+use Rattle.api_ipam.specs.FixedChoice.{addresses_of, all_filled, are_placed, asked_places, first_addresses, first_known, known_addresses, named_subnets, next_addresses, next_known, old_renewed}
 use Rattle.api_types.specs.HeldAddresses.{is_address_held, is_held_by_other, is_mac_held, is_mac_of_other, is_own_address, subnets_on}
 use Rattle.call_parts.specs.Leaving.{disassociated, disassociations, loses_target}
 use Rattle.api_ipam.specs.MacChoice.{expected_mac, mac_for}
@@ -18,13 +18,13 @@ use Rattle.api_policy.specs.Seen.{network_seen, port_seen}
 use Rattle.api_types.specs.Owners.{is_service}
 use Rattle.api_policy.specs.Uses.{service_in_use}
 use Rattle.api_policy.specs.Visibility.{seen_ports, sees_port, uses_network}
-use Rattle.api_policy.specs.Shown.{shown_as}
 use Rattle.api_ml2.specs.Binding.{bound}
-use Rattle.api_machine.specs.Footing.{Near, blank, footing, is_near, near_of}
+use Rattle.api_machine.specs.Footing.{Near, blank, blank_port, footing, is_near, near_of}
 use Rattle.api_types.specs.Given.{are_unlike, is_for_other, is_given, owner_of, value_of, value_or}
 use Rattle.api_types.specs.Refusing.{at_name, first_refusal, needing, not_found, answer_alone, unless, when}
 use Rattle.call_parts.specs.State.{State, drawing_at, is_last}
 use Rattle.api_types.specs.Consistent.{IsConsistent}
+use Rattle.api_types.specs.Consistent.Carried.{is_bound}
 use Rattle.api_types.specs.Ident.{Ident}
 use Rattle.api_types.specs.Lists.{is_empty, is_some_so}
 use Rattle.api_types.specs.Outcome.{Outcome, Told}
@@ -37,6 +37,7 @@ use Rattle.api_types.specs.declared.call.Caller.{Caller}
 use Rattle.api_types.specs.declared.call.IdText.{IdText}
 use Rattle.api_types.specs.declared.floating.FloatingRow.{FloatingRow}
 use Rattle.api_types.specs.declared.form.Given.TheVariants.{Absent, Is, Null}
+use Rattle.api_types.specs.declared.form.FixedAsked.{FixedAsked}
 use Rattle.api_types.specs.declared.form.Given.{Given}
 use Rattle.api_types.specs.declared.form.PortForm.{PortForm}
 use Rattle.api_types.specs.declared.group.GroupRow.{GroupRow}
@@ -50,15 +51,17 @@ use Rattle.api_types.specs.declared.refusal.PolicyRule.TheVariants.{NetworkAcces
 use Rattle.api_types.specs.declared.refusal.Refusal.TheVariants.{CountersSpent, Forbidden, InUse, Invalid, PoolsSpent}
 use Rattle.api_types.specs.declared.refusal.Refusal.{Refusal}
 use Rattle.api_types.specs.declared.refusal.UseRule.TheVariants.{ServicePortInUse}
+use Rattle.api_types.specs.declared.subnet.SubnetRow.{SubnetRow}
+use Rattle.net_addr.specs.declared.address.Addr.{Addr}
 use Rattle.net_settings.specs.Settings.{SettingsParts}
 use Rattle.row_laws.specs.Drawn.{IsDrawing}
 use Rattle.row_laws.specs.NewRows.{with_port}
 use Rattle.api_types.proofs.ListLemmas.{at_filter, or_none}
 use Rattle.api_machine.proofs.DrawnAlike.{counts_of, drawn_one, groups_of, groups_same}
-use Rattle.api_machine.proofs.FootingLemmas.{named_alike, named_near, near_alike, near_same, needing_alike, network_id, owner_own, port_id, port_near, seen_here}
+use Rattle.api_machine.proofs.FootingLemmas.{bound_same, named_alike, named_near, near_alike, near_same, needing_alike, needing_by, network_id, owner_own, port_id, port_near, ports_same, seen_here}
 use Rattle.api_machine.proofs.ListLemmas.{name_here}
 use Rattle.api_machine.proofs.PortsApart.{bound_nowhere, default_own, unhosted}
-use Rattle.api_machine.proofs.ShownAlike.{port_members_alike, up_at}
+use Rattle.api_machine.proofs.ShownAlike.{port_shown_alike, up_at}
 use Rattle.api_machine.proofs.ApartLemmas.{absent, first_same, needing_same, none_at, stands_there, unless_same}
 use Rattle.api_machine.proofs.DeviceAlike.{device_alike}
 use Rattle.api_machine.proofs.FoundTold.{found_there}
@@ -96,6 +99,19 @@ at_first_own name true Absent groups = ap ids_of (default_own name groups)
 at_first_own name false Absent groups = refl
 at_first_own name true Null groups = ap ids_of (default_own name groups)
 at_first_own name false Null groups = refl
+
+-- the addresses of a port that is changed don't tell its host or binding
+known_alike : (p o : PortRow) → blank_port p ≡ blank_port o → (subnets others : List SubnetRow) → subnets ≡ others → (mac other : ℕ) → mac ≡ other → (asked : Given (List FixedAsked))
+    → next_known subnets p mac asked ≡ next_known others o other asked
+known_alike p o alike subnets others on mac other macs Absent = λ j. addresses_of (old_renewed (on j) (alike j) (macs j))
+known_alike p o alike subnets others on mac other macs Null = λ j. addresses_of (old_renewed (on j) (alike j) (macs j))
+known_alike p o alike subnets others on mac other macs (Is items) = λ j. known_addresses (asked_places (on j) (macs j) (old_renewed (on j) (alike j) (macs j)) items)
+
+chosen_next : (p o : PortRow) → blank_port p ≡ blank_port o → (free empty : Addr → Bool) → free ≡ empty → (subnets others : List SubnetRow) → subnets ≡ others → (mac other : ℕ) → mac ≡ other → (asked : Given (List FixedAsked))
+    → next_addresses free subnets p mac asked ≡ next_addresses empty others o other asked
+chosen_next p o alike free empty frees subnets others on mac other macs Absent = λ j. Some (old_renewed (on j) (alike j) (macs j))
+chosen_next p o alike free empty frees subnets others on mac other macs Null = λ j. Some (old_renewed (on j) (alike j) (macs j))
+chosen_next p o alike free empty frees subnets others on mac other macs (Is items) = λ j. all_filled (frees j) (asked_places (on j) (macs j) (old_renewed (on j) (alike j) (macs j)) items)
 
 -- floating addresses that are changed leave networks as they are
 floatings_put : (rows : RowLists) (fs : List FloatingRow) → (made rows (map (λ (f : FloatingRow). Put (Floating (disassociated f))) fs)).networks ≡ rows.networks
@@ -174,8 +190,8 @@ module _ (settings : SettingsParts) (caller : Caller) (tenant : caller.admin ≡
       → drawing_at s caller.project 1 ≡ Some x → drawing_at t caller.project 1 ≡ Some y → counts_of x ≡ counts_of y
       → answer_alone (port_added caller x.rows (new_port settings x.rows caller form n caller.project (drawn_id x 0) mac fixed)) ≡ answer_alone (port_added caller y.rows (new_port settings y.rows caller form m caller.project (drawn_id y 0) mac fixed))
   added_alike named form nowhere n m near alike fixed mac x y at_x at_y counts =
-      ap (λ members. Told (NewRow (shown_as PortKind caller.admin [] members))) (port_members_alike (with_port x.rows p) (with_port y.rows q) p q
-      (λ j. port_by form (alike j) caller.project (ident (counts j).0 ((counts j).1 + 0)) mac fixed (groups j) (vifs j) (by_admin j)) up)
+      ap (λ shown. Told (NewRow shown)) (port_shown_alike (with_port x.rows p) (with_port y.rows q) caller p q [] tenant
+      (λ j. blank_port (port_by form (alike j) caller.project (ident (counts j).0 ((counts j).1 + 0)) mac fixed (groups j) (vifs j) (by_admin j))) (ap is_bound vifs) up)
     where
       dx : IsDrawing s.rows caller.project 1 x × (draw_of s.rows caller.project 1 ≡ Some x)
       dx = drawn_one s caller.project x c named at_x
@@ -258,8 +274,8 @@ module _ (settings : SettingsParts) (caller : Caller) (tenant : caller.admin ≡
 
   -- a port that is seen
 
-  pub port_found : (name : Option Ident) → port_seen s.rows caller name ≡ port_seen t.rows caller name
-  port_found name = ap (λ f. at_name port_id name f.ports) same
+  pub port_found : (name : Option Ident) → option_map blank_port (port_seen s.rows caller name) ≡ option_map blank_port (port_seen t.rows caller name)
+  port_found name = ports_same settings caller s t same name
 
   pub port_here : (state : State) (name : Option Ident) (p : PortRow) → port_seen state.rows caller name ≡ Some p
       → (k : ℕ) × (slice_get state.rows.ports k ≡ Some p) × (sees_port state.rows caller p ≡ true) × (is_near state.rows caller p.network ≡ true)
@@ -268,44 +284,50 @@ module _ (settings : SettingsParts) (caller : Caller) (tenant : caller.admin ≡
       let there = at_filter (sees_port state.rows caller) state.rows.ports here.0 p here.1 in
       (there.0, there.1, there.2, port_near state.rows caller tenant here.0 p here.1)
 
-  pub service_alike : (touched : Bool) (p : PortRow) → service_in_use s.rows caller touched p ≡ service_in_use t.rows caller touched p
-  service_alike touched p = ap (λ user. when (touched && is_service p.owner) (InUse ServicePortInUse PortKind p.id user)) (device_alike settings caller tenant s t c d same p.device)
+  service_alike : (touched : Bool) (p o : PortRow) → blank_port p ≡ blank_port o → service_in_use s.rows caller touched p ≡ service_in_use t.rows caller touched o
+  service_alike touched p o alike = ap (λ user. when (touched && is_service p.owner) (InUse ServicePortInUse PortKind p.id user)) (device_alike settings caller tenant s t c d same p.device)
+      ∙ ap (service_in_use t.rows caller touched) alike
 
   -- changing a port
 
-  update_same : (form : PortForm) (p : PortRow) → is_near s.rows caller p.network ≡ true → update_refusal s.rows caller form p ≡ update_refusal t.rows caller form p
-  update_same form p near = let z = near_same settings caller s t same p.network near in
-      let owns = network_owner_alike settings caller tenant s t same p.network (port_for_owner form) in
-      let service = service_alike (changes_service form) p in
+  near_too : (p o : PortRow) → blank_port p ≡ blank_port o → is_near s.rows caller p.network ≡ true → near_of s.rows caller.project p.network ≡ near_of t.rows caller.project o.network
+  near_too p o alike near = near_same settings caller s t same p.network near ∙ ap (λ (x : PortRow). near_of t.rows caller.project x.network) alike
+
+  update_same : (form : PortForm) (p o : PortRow) → blank_port p ≡ blank_port o → is_near s.rows caller p.network ≡ true → update_refusal s.rows caller form p ≡ update_refusal t.rows caller form o
+  update_same form p o alike near = let z = near_too p o alike near in
+      let owns = network_owner_alike settings caller tenant s t same p.network (port_for_owner form) ∙ ap (λ (x : PortRow). network_owner t.rows caller (port_for_owner form) x.network) alike in
+      let service = service_alike (changes_service form) p o alike in
+      let known = known_alike p o alike (subnets_on s.rows.subnets p.network) (subnets_on t.rows.subnets o.network) (ap (λ (n : Near). n.subnets) z) (mac_after form p) (mac_after form o) (ap (mac_after form) alike) form.fixed_ips in
       λ j. first_refusal (
-      when (list_all (sees_alike j) (named_subnets (items_of form)) && not (are_placed (z j).subnets (mac_after form p) (old_renewed (z j).subnets p (mac_after form p)) (items_of form))) (Invalid (codes "fixed_ips"))
-      ∷ bad_bare_after form p
+      when (list_all (sees_alike j) (named_subnets (items_of form)) && not (are_placed (z j).subnets (mac_after form (alike j)) (old_renewed (z j).subnets (alike j) (mac_after form (alike j))) (items_of form))) (Invalid (codes "fixed_ips"))
+      ∷ bad_bare_after form (alike j)
       ∷ unless_all SubnetKind (sees_alike j) (named_subnets (items_of form))
-      ∷ unless_all GroupKind (λ i. is_some_so (λ (g : GroupRow). bytes_eq g.project p.project) (group_found settings caller tenant s t same (Some i) j)) (value_or [] form.security_groups)
+      ∷ unless_all GroupKind (λ i. is_some_so (λ (g : GroupRow). bytes_eq g.project (alike j).project) (group_found settings caller tenant s t same (Some i) j)) (value_or [] form.security_groups)
       ∷ admin_only caller (port_for_admin caller form)
-      ∷ owner_only caller p.project
+      ∷ owner_only caller (alike j).project
       ∷ owns j
       ∷ service j
-      ∷ values_taken (λ x. (z j).addresses x && not (is_own_address x p)) (λ mac. (z j).macs mac && not (p.mac == mac)) p.network (next_known (z j).subnets p (mac_after form p) form.fixed_ips) form
+      ∷ values_taken (λ x. (z j).addresses x && not (is_own_address x (alike j))) (λ mac. (z j).macs mac && not ((alike j).mac == mac)) (alike j).network (known j) form
       ∷ [])
 
   -- a tenant names no host, so the port's binding stays
-  vif_same : (n m : NetworkRow) (asked : Given (List ℕ)) → asked ≡ Absent → (old : Vif) → vif_after settings n asked old ≡ vif_after settings m asked old
-  vif_same n m asked none old = ap (λ g. vif_after settings n g old) none ∙ sym (ap (λ g. vif_after settings m g old) none)
+  bound_still : (n : NetworkRow) (asked : Given (List ℕ)) → asked ≡ Absent → (old : Vif) → is_bound (vif_after settings n asked old) ≡ is_bound old
+  bound_still n asked none old = ap (λ g. is_bound (vif_after settings n g old)) none
 
-  replaced_alike : (form : PortForm) (n m : NetworkRow) (p : PortRow) → is_near s.rows caller p.network ≡ true → form.binding_host_id ≡ Absent → (fixed : List Fixed)
-      → answer_alone (port_replaced caller s.rows (changed_port settings form n p fixed)) ≡ answer_alone (port_replaced caller t.rows (changed_port settings form m p fixed))
-  replaced_alike form n m p near nowhere fixed =
-      ap (λ members. Told (OneRow (shown_as PortKind caller.admin [] members))) (port_members_alike (after s q) (after t r) q r
-      (λ j. record (changed_port settings form n p fixed) { vif = vif_same n m form.binding_host_id nowhere p.vif j })
+  replaced_alike : (form : PortForm) (n m : NetworkRow) (p o : PortRow) → blank_port p ≡ blank_port o → is_bound p.vif ≡ is_bound o.vif → is_near s.rows caller p.network ≡ true → form.binding_host_id ≡ Absent → (fixed : List Fixed)
+      → answer_alone (port_replaced caller s.rows (changed_port settings form n p fixed)) ≡ answer_alone (port_replaced caller t.rows (changed_port settings form m o fixed))
+  replaced_alike form n m p o alike bound near nowhere fixed =
+      ap (λ shown. Told (OneRow shown)) (port_shown_alike (after s q) (after t r) caller q r [] tenant
+      (λ j. blank_port (changed_port settings form n (alike j) fixed))
+      (bound_still n form.binding_host_id nowhere p.vif ∙ (bound ∙ sym (bound_still m form.binding_host_id nowhere o.vif)))
       (ap (λ ns. up_at p.network ns) (floatings_put (edited s.rows (Put (Port q))) (left s q))
-      ∙ (ap (λ (z : Near). z.up) (near_same settings caller s t same p.network near) ∙ sym (ap (λ ns. up_at p.network ns) (floatings_put (edited t.rows (Put (Port r))) (left t r))))))
+      ∙ (ap (λ (z : Near). z.up) (near_too p o alike near) ∙ sym (ap (λ ns. up_at o.network ns) (floatings_put (edited t.rows (Put (Port r))) (left t r))))))
     where
       q : PortRow
       q = changed_port settings form n p fixed
 
       r : PortRow
-      r = changed_port settings form m p fixed
+      r = changed_port settings form m o fixed
 
       after : State → PortRow → RowLists
       after state x = made state.rows (Put (Port x) ∷ disassociations state.rows.floatings x.id x.fixed)
@@ -314,23 +336,27 @@ module _ (settings : SettingsParts) (caller : Caller) (tenant : caller.admin ≡
       left state x = filter (λ (f : FloatingRow). is_some_so (loses_target x.id x.fixed) f.target) state.rows.floatings
 
   pub port_updated_apart : (name : IdText) (form : PortForm) → answer_alone (port_updated settings s caller name form) ≡ answer_alone (port_updated settings t caller name form)
-  port_updated_apart name form = needing_same refusal (port_seen s.rows caller name.id) (port_seen t.rows caller name.id) (on s) (on t) (port_found name.id)
-      (λ p found_s found_t.
-      let here = port_here s name.id p found_s in let there = port_here t name.id p found_t in
+  port_updated_apart name form = needing_by refusal (port_seen s.rows caller name.id) (port_seen t.rows caller name.id) (on s) (on t) blank_port (port_found name.id)
+      (λ p o found_s found_t alike.
+      let here = port_here s name.id p found_s in let there = port_here t name.id o found_t in
+      let seen_s = name_here port_id name.id (seen_ports s.rows caller) p found_s in let seen_t = name_here port_id name.id (seen_ports t.rows caller) o found_t in
       let n0 = found_there (λ (n : NetworkRow). ident_eq p.network n.id) s.rows.networks (c.named.networks.of_ports here.0 p here.1) in
-      let m0 = found_there (λ (n : NetworkRow). ident_eq p.network n.id) t.rows.networks (d.named.networks.of_ports there.0 p there.1) in
-      let near = here.3 in let z = near_same settings caller s t same p.network near in
-      needing_alike refusal (row_of network_id p.network s.rows.networks) (row_of network_id p.network t.rows.networks) (λ n. port_changed settings s caller form n p) (λ n. port_changed settings t caller form n p)
+      let m0 = found_there (λ (n : NetworkRow). ident_eq o.network n.id) t.rows.networks (d.named.networks.of_ports there.0 o there.1) in
+      let near = here.3 in let z = near_too p o alike near in
+      let bound = bound_same settings caller s t same c d seen_s.0 seen_t.0 p o seen_s.1 seen_t.1 alike in
+      needing_alike refusal (row_of network_id p.network s.rows.networks) (row_of network_id o.network t.rows.networks) (λ n. port_changed settings s caller form n p) (λ n. port_changed settings t caller form n o)
       (ap is_some n0.1 ∙ sym (ap is_some m0.1))
       (λ n m found_n found_m.
-      unless_same (update_refusal s.rows caller form p) (update_refusal t.rows caller form p) (chosen s n p) (chosen t m p) (update_same form p near)
+      unless_same (update_refusal s.rows caller form p) (update_refusal t.rows caller form o) (chosen s n p) (chosen t m o) (update_same form p o alike near)
       (λ passes _. let nowhere = absent form.binding_host_id (or_none (is_given form.binding_host_id) (is_for_other caller form.project_id form.tenant_id)
       (admin_passes caller tenant (port_for_admin caller form) (none_at (refusals s p) passes 4 (admin_only caller (port_for_admin caller form)) refl))).0 in
-      needing_same (PoolsSpent p.network) (addresses_after s.rows form p) (addresses_after t.rows form p) (λ fixed. moved s n p fixed) (λ fixed. moved t m p fixed)
-      (λ j. next_addresses (λ x. not ((z j).addresses x && not (is_own_address x p))) (z j).subnets p (mac_after form p) form.fixed_ips)
-      (λ fixed _ _. unless_same (when (is_last s) CountersSpent) (when (is_last t) CountersSpent) (port_replaced caller s.rows (changed_port settings form n p fixed)) (port_replaced caller t.rows (changed_port settings form m p fixed))
+      needing_same (PoolsSpent p.network) (addresses_after s.rows form p) (addresses_after t.rows form o) (λ fixed. moved s n p fixed) (λ fixed. moved t m o fixed)
+      (chosen_next p o alike (λ x. not (is_held_by_other s.rows.ports p x)) (λ x. not (is_held_by_other t.rows.ports o x)) (λ j x. not ((z j).addresses x && not (is_own_address x (alike j))))
+      (subnets_on s.rows.subnets p.network) (subnets_on t.rows.subnets o.network) (ap (λ (n : Near). n.subnets) z) (mac_after form p) (mac_after form o) (ap (mac_after form) alike) form.fixed_ips)
+      (λ fixed _ _. unless_same (when (is_last s) CountersSpent) (when (is_last t) CountersSpent) (port_replaced caller s.rows (changed_port settings form n p fixed)) (port_replaced caller t.rows (changed_port settings form m o fixed))
       (λ j. when (same j).is_last CountersSpent)
-      (λ _ _. replaced_alike form n m p near nowhere fixed)))))
+      (λ _ _. replaced_alike form n m p o alike bound near nowhere fixed))
+      ∙ (λ j. answer_alone (needing (PoolsSpent (alike j).network) (addresses_after t.rows form o) (λ fixed. moved t m o fixed))))))
     where
       refusal : Refusal
       refusal = not_found PortKind name.text
@@ -360,11 +386,11 @@ module _ (settings : SettingsParts) (caller : Caller) (tenant : caller.admin ≡
   -- taking a port out
 
   pub port_deleted_apart : (name : IdText) → answer_alone (port_deleted s caller name) ≡ answer_alone (port_deleted t caller name)
-  port_deleted_apart name = needing_same (not_found PortKind name.text) (port_seen s.rows caller name.id) (port_seen t.rows caller name.id)
+  port_deleted_apart name = needing_by (not_found PortKind name.text) (port_seen s.rows caller name.id) (port_seen t.rows caller name.id)
       (λ p. unless (deletion_refusal s caller p) (accepted s.rows (port_gone s.rows.floatings p.id) (λ rows. NoRow))) (λ p. unless (deletion_refusal t caller p) (accepted t.rows (port_gone t.rows.floatings p.id) (λ rows. NoRow)))
-      (port_found name.id)
-      (λ p found_s found_t. let here = port_here s name.id p found_s in let there = port_here t name.id p found_t in
-      unless_same (deletion_refusal s caller p) (deletion_refusal t caller p) (accepted s.rows (port_gone s.rows.floatings p.id) (λ rows. NoRow)) (accepted t.rows (port_gone t.rows.floatings p.id) (λ rows. NoRow))
-      (let sees : sees_port s.rows caller p ≡ sees_port t.rows caller p = here.2 ∙ sym there.2 in let service = service_alike true p in
+      blank_port (port_found name.id)
+      (λ p o found_s found_t alike. let here = port_here s name.id p found_s in let there = port_here t name.id o found_t in
+      unless_same (deletion_refusal s caller p) (deletion_refusal t caller o) (accepted s.rows (port_gone s.rows.floatings p.id) (λ rows. NoRow)) (accepted t.rows (port_gone t.rows.floatings o.id) (λ rows. NoRow))
+      (let sees : sees_port s.rows caller p ≡ sees_port t.rows caller o = here.2 ∙ sym there.2 in let service = service_alike true p o alike in
       (λ j. first_refusal (when (not (sees j)) (Forbidden PortDelete) ∷ service j ∷ when (same j).is_last CountersSpent ∷ [])))
       (λ _ _. refl))

@@ -1,7 +1,8 @@
 -- A tenant is shown the same of a port wherever its footing is the same.
 use Rattle.std.proofs.Common.{◌≡◌, ℕ, List, [], true, false, refl, ap, sym, ◌∙◌}
-use Rattle.std.specs.Prelude.{find, option_map}
+use Rattle.std.specs.Prelude.{find}
 use Rattle.std.specs.Str.{bytes_eq}
+use Rattle.api_types.specs.Consistent.{IsConsistent}
 use Rattle.api_types.specs.Consistent.Groups.{is_default_of}
 use Rattle.api_types.specs.Ident.{Ident}
 use Rattle.api_types.specs.Outcome.{Told}
@@ -17,9 +18,8 @@ use Rattle.api_types.specs.declared.port.PortRow.{PortRow}
 use Rattle.net_settings.specs.Settings.{SettingsParts}
 use Rattle.api_policy.specs.Visibility.{seen_ports}
 use Rattle.api_policy.specs.Ports.{port_members}
-use Rattle.api_policy.specs.Shown.{shown_as}
 use Rattle.api_ml2.specs.Binding.{bound}
-use Rattle.api_machine.specs.Footing.{Near, footing, is_near}
+use Rattle.api_machine.specs.Footing.{Near, blank_port, footing, is_near}
 use Rattle.api_types.specs.Given.{is_given, value_or}
 use Rattle.plan_ports.specs.PortCalls.{port_shown}
 use Rattle.api_machine.specs.Reads.{row_told}
@@ -27,9 +27,9 @@ use Rattle.api_types.specs.Refusing.{at_name, not_found, answer_alone}
 use Rattle.call_parts.specs.State.{State}
 use Rattle.api_types.proofs.ListLemmas.{and_both, false_true}
 use Rattle.api_machine.proofs.DrawnAlike.{groups_of}
-use Rattle.api_machine.proofs.FootingLemmas.{near_same, needing_by, port_id, port_near}
+use Rattle.api_machine.proofs.FootingLemmas.{bound_same, near_same, needing_by, port_id, port_near, ports_same}
 use Rattle.api_machine.proofs.ListLemmas.{find-filter, name_here}
-use Rattle.api_machine.proofs.ShownAlike.{port_members_alike, up_at}
+use Rattle.api_machine.proofs.ShownAlike.{port_shown_alike, up_at}
 
 -- without a host a port is unbound, whatever its network's segment is
 pub bound_nowhere : (settings : SettingsParts) (segment other : Segment) (host : List ℕ) → host ≡ [] → bound settings segment host ≡ bound settings other host
@@ -48,13 +48,14 @@ module _ (settings : SettingsParts) (caller : Caller) (tenant : caller.admin ≡
   up_same : (i : Ident) → is_near s.rows caller i ≡ true → up_at i s.rows.networks ≡ up_at i t.rows.networks
   up_same i near = ap (λ (x : Near). x.up) (near_same settings caller s t same i near)
 
-  pub port_shown_apart : (name : IdText) (fields : List (List ℕ))
+  pub port_shown_apart : IsConsistent s.rows → IsConsistent t.rows → (name : IdText) (fields : List (List ℕ))
       → answer_alone (row_told PortKind port_id (port_members s.rows) caller name fields (seen_ports s.rows caller))
       ≡ answer_alone (row_told PortKind port_id (port_members t.rows) caller name fields (seen_ports t.rows caller))
-  port_shown_apart name fields = needing_by (not_found PortKind name.text) (at_name port_id name.id (seen_ports s.rows caller)) (at_name port_id name.id (seen_ports t.rows caller))
-      (λ p. Told (OneRow (port_shown s.rows caller p fields))) (λ p. Told (OneRow (port_shown t.rows caller p fields))) (λ p. p)
-      (ap (λ f. option_map (λ (p : PortRow). p) (at_name port_id name.id f.ports)) same)
+  port_shown_apart c d name fields = needing_by (not_found PortKind name.text) (at_name port_id name.id (seen_ports s.rows caller)) (at_name port_id name.id (seen_ports t.rows caller))
+      (λ p. Told (OneRow (port_shown s.rows caller p fields))) (λ p. Told (OneRow (port_shown t.rows caller p fields))) blank_port
+      (ports_same settings caller s t same name.id)
       (λ p q found_p found_q alike.
       let here = name_here port_id name.id (seen_ports s.rows caller) p found_p in
-      ap (λ members. Told (OneRow (shown_as PortKind caller.admin fields members))) (port_members_alike s.rows t.rows p q alike
+      let there = name_here port_id name.id (seen_ports t.rows caller) q found_q in
+      ap (λ shown. Told (OneRow shown)) (port_shown_alike s.rows t.rows caller p q fields tenant alike (bound_same settings caller s t same c d here.0 there.0 p q here.1 there.1 alike)
       (up_same p.network (port_near s.rows caller tenant here.0 p here.1) ∙ ap (λ (x : PortRow). up_at x.network t.rows.networks) alike)))

@@ -1,5 +1,5 @@
 -- What a tenant's footing tells of what its routers reach, and of the floating addresses that lead by them.
-use Rattle.std.proofs.Common.{◌≡◌, ℕ, suc, List, [], ◌∷◌, Bool, true, false, cond, Option, Some, None, slice_get, refl, ap, sym, ◌∙◌, arith, not}
+use Rattle.std.proofs.Common.{◌≡◌, ℕ, suc, List, [], ◌∷◌, Bool, true, false, cond, Option, Some, None, slice_get, refl, ap, sym, ◌∙◌, arith, map, not}
 use Rattle.std.specs.Prelude.{◌&&◌, ◌||◌, filter, find, option_map, if◌then◌else◌}
 use Rattle.std.specs.List.{list_any}
 use Rattle.std.specs.Str.{bytes_eq}
@@ -9,7 +9,7 @@ use Rattle.api_types.specs.RouterWays.{interfaces_of, is_bad_hop, is_lost_hop, r
 use Rattle.api_policy.specs.Seen.{own_rows}
 use Rattle.api_policy.specs.Uses.{told_user, used_by_port}
 use Rattle.api_policy.specs.Visibility.{is_own, sees_port}
-use Rattle.api_machine.specs.Footing.{Near, footing, is_close, is_near}
+use Rattle.api_machine.specs.Footing.{Near, blank_port, blank_router, footing, is_close, is_near}
 use Rattle.call_parts.specs.State.{State}
 use Rattle.api_types.specs.Consistent.{IsConsistent}
 use Rattle.api_types.specs.Consistent.Floating.{is_target_port, is_target_router, leads_to}
@@ -35,13 +35,13 @@ use Rattle.net_settings.specs.Settings.{SettingsParts}
 use Rattle.api_types.proofs.ListLemmas.{and_both, any-filter, at-any, at_filter, both_and, false_true}
 use Rattle.api_types.proofs.NameLemmas.{by_test, first_fails, ident_itself, ident_same, ident_sym}
 use Rattle.api_machine.proofs.FootingLemmas.{near_same}
-use Rattle.api_machine.proofs.ListLemmas.{any-each, find-filter, find_here, or_right}
+use Rattle.api_machine.proofs.ListLemmas.{any-map, any_pairs, filter-map, find-filter, find_here, or_right}
 use Rattle.api_machine.proofs.ApartLemmas.{option_each, stands_there}
 use Rattle.api_machine.proofs.NearAlike.{holder_on}
 use Rattle.api_machine.proofs.OwnAlike.{floatings_alike, owns_alike, sees_there}
 use Rattle.api_machine.proofs.ServedAlike.{interfaces_alike, legs_alike}
 
-pub find-each : {R : Type 0} (p q : R → Bool) (xs : List R) → Each (λ x. p x ≡ q x) xs → find p xs ≡ find q xs
+find-each : {R : Type 0} (p q : R → Bool) (xs : List R) → Each (λ x. p x ≡ q x) xs → find p xs ≡ find q xs
 find-each p q [] e = refl
 find-each p q (x ∷ xs) e = λ j. cond (e 0 x refl j) (Some x) (find-each p q xs (λ k y at. e (suc k) y at) j)
 
@@ -108,72 +108,83 @@ floating_users rows caller c refusal test own =
     ap refusal (floating_told rows caller c f there.2 there.0 there.1))
 
 module _ (settings : SettingsParts) (caller : Caller) (tenant : caller.admin ≡ false) (s t : State) (c : IsConsistent s.rows) (d : IsConsistent t.rows) (same : footing settings s caller ≡ footing settings t caller) where
-  -- a port that stands in both states, on a network that is near, has its addresses in the same subnets
-  pub holds_alike : (k l : ℕ) (p : PortRow) → slice_get s.rows.ports k ≡ Some p → slice_get t.rows.ports l ≡ Some p → is_near s.rows caller p.network ≡ true → (test : SubnetRow → Bool)
-      → holds_so test s.rows.subnets p ≡ holds_so test t.rows.subnets p
-  holds_alike k l p at_s at_t near test = holds_on s.rows c k p at_s test
-      ∙ (ap (λ (z : Near). holds_so test z.subnets p) (near_same settings caller s t same p.network near) ∙ sym (holds_on t.rows d l p at_t test))
+  -- a port that stands in both states, on a network that is near, has its addresses in the same subnets; it may differ in host and
+  -- binding
+  pub holds_alike : (k l : ℕ) (p o : PortRow) → slice_get s.rows.ports k ≡ Some p → slice_get t.rows.ports l ≡ Some o → blank_port p ≡ blank_port o → is_near s.rows caller p.network ≡ true → (test : SubnetRow → Bool)
+      → holds_so test s.rows.subnets p ≡ holds_so test t.rows.subnets o
+  holds_alike k l p o at_s at_t alike near test = holds_on s.rows c k p at_s test
+      ∙ (ap (λ (z : Near). holds_so test z.subnets p) (near_same settings caller s t same p.network near)
+      ∙ (ap (λ (x : PortRow). holds_so test (subnets_on t.rows.subnets x.network) x) alike ∙ sym (holds_on t.rows d l o at_t test)))
 
   -- whether the caller sees a port that stands in both states
-  pub sees_same : (p : PortRow) → sees_port s.rows caller p ≡ sees_port t.rows caller p
-  sees_same p = ap (λ b. is_own caller p.project || b) (owns_alike settings caller tenant s t same p.network)
+  sees_same : (p o : PortRow) → blank_port p ≡ blank_port o → sees_port s.rows caller p ≡ sees_port t.rows caller o
+  sees_same p o alike = ap (λ b. is_own caller p.project || b) (owns_alike settings caller tenant s t same p.network) ∙ ap (sees_port t.rows caller) alike
 
-  pub port_told : (k l : ℕ) (p : PortRow) → slice_get s.rows.ports k ≡ Some p → slice_get t.rows.ports l ≡ Some p → (rule : UseRule) (kind : Kind) (i : Ident)
-      → used_by_port s.rows caller rule kind i p ≡ used_by_port t.rows caller rule kind i p
-  port_told k l p at_s at_t rule kind i = ap (λ (b : Bool). InUse rule kind i (if b then Some (PortKind, p.id) else None))
-      (sees_there s.rows caller c k p at_s ∙ (sees_same p ∙ sym (sees_there t.rows caller d l p at_t)))
+  pub port_told : (k l : ℕ) (p o : PortRow) → slice_get s.rows.ports k ≡ Some p → slice_get t.rows.ports l ≡ Some o → blank_port p ≡ blank_port o → (rule : UseRule) (kind : Kind) (i : Ident)
+      → used_by_port s.rows caller rule kind i p ≡ used_by_port t.rows caller rule kind i o
+  port_told k l p o at_s at_t alike rule kind i =
+      let sees = sees_there s.rows caller c k p at_s ∙ (sees_same p o alike ∙ sym (sees_there t.rows caller d l o at_t)) in
+      λ j. InUse rule kind i (if sees j then Some (PortKind, (alike j).id) else None)
 
   -- one of the caller's routers
-  module _ (k l : ℕ) (r : RouterRow) (at_s : slice_get s.rows.routers k ≡ Some r) (at_t : slice_get t.rows.routers l ≡ Some r) (own : bytes_eq r.project caller.project ≡ true) where
-    legs : router_ports s.rows.ports r ≡ router_ports t.rows.ports r
-    legs = legs_alike settings caller s t c d same k l r at_s at_t own
+  module _ (k l : ℕ) (r o : RouterRow) (at_s : slice_get s.rows.routers k ≡ Some r) (at_t : slice_get t.rows.routers l ≡ Some o) (own : bytes_eq r.project caller.project ≡ true) (alike : blank_router r ≡ blank_router o) where
+    legs : map blank_port (router_ports s.rows.ports r) ≡ map blank_port (router_ports t.rows.ports o)
+    legs = legs_alike settings caller s t c d same k l r o at_s at_t own alike
 
-    -- each of its ports stands in both states
-    leg_there : (i : ℕ) (p : PortRow) → slice_get (router_ports s.rows.ports r) i ≡ Some p
-        → (m n : ℕ) × (slice_get s.rows.ports m ≡ Some p) × (slice_get t.rows.ports n ≡ Some p) × (is_port_of r p ≡ true)
-    leg_there i p at =
-        let here = at_filter (is_port_of r) s.rows.ports i p at in
-        let there = at_filter (is_port_of r) t.rows.ports i p (ap (λ ps. slice_get ps i) (sym legs) ∙ at) in
-        (here.0, there.0, here.1, there.1, here.2)
+    leg_holds : (test : SubnetRow → Bool) (i j : ℕ) (p q : PortRow) → slice_get (router_ports s.rows.ports r) i ≡ Some p → slice_get (router_ports t.rows.ports o) j ≡ Some q → blank_port p ≡ blank_port q
+        → holds_so test s.rows.subnets p ≡ holds_so test t.rows.subnets q
+    leg_holds test i j p q at_p at_q one =
+        let here = at_filter (is_port_of r) s.rows.ports i p at_p in
+        let there = at_filter (is_port_of o) t.rows.ports j q at_q in
+        holds_alike here.0 there.0 p q here.1 there.1 one (leg_near s.rows caller k r at_s own here.0 p here.1 here.2) test
 
-    pub leg_holds : (test : SubnetRow → Bool) → Each (λ p. holds_so test s.rows.subnets p ≡ holds_so test t.rows.subnets p) (router_ports s.rows.ports r)
-    leg_holds test i p at = let both = leg_there i p at in holds_alike both.0 both.1 p both.2 both.3 (leg_near s.rows caller k r at_s own both.0 p both.2 both.4) test
-
-    -- of some of its ports, and of its interfaces
-    pub some_hold : (keep : PortRow → Bool) (test : SubnetRow → Bool) → list_any (holds_so test s.rows.subnets) (filter keep (router_ports s.rows.ports r)) ≡ list_any (holds_so test t.rows.subnets) (filter keep (router_ports t.rows.ports r))
-    some_hold keep test = any-each (holds_so test s.rows.subnets) (holds_so test t.rows.subnets) (filter keep (router_ports s.rows.ports r))
-        (λ i p at. let here = at_filter keep (router_ports s.rows.ports r) i p at in leg_holds test here.0 p here.1)
-        ∙ ap (λ ps. list_any (holds_so test t.rows.subnets) (filter keep ps)) legs
-
-    pub all_hold : (test : SubnetRow → Bool) → list_any (holds_so test s.rows.subnets) (router_ports s.rows.ports r) ≡ list_any (holds_so test t.rows.subnets) (router_ports t.rows.ports r)
-    all_hold test = any-each (holds_so test s.rows.subnets) (holds_so test t.rows.subnets) (router_ports s.rows.ports r) (leg_holds test) ∙ ap (list_any (holds_so test t.rows.subnets)) legs
-
-    pub interfaces_hold : (test : SubnetRow → Bool) → list_any (holds_so test s.rows.subnets) (interfaces_of s.rows.ports r) ≡ list_any (holds_so test t.rows.subnets) (interfaces_of t.rows.ports r)
-    interfaces_hold test = any-each (holds_so test s.rows.subnets) (holds_so test t.rows.subnets) (interfaces_of s.rows.ports r)
-        (λ i p at. let here = at_filter (λ (q : PortRow). is_interface q.owner && is_port_of r q) s.rows.ports i p at in
-        let there = at_filter (λ (q : PortRow). is_interface q.owner && is_port_of r q) t.rows.ports i p (ap (λ ps. slice_get ps i) (sym interfaces) ∙ at) in
-        holds_alike here.0 there.0 p here.1 there.1 (leg_near s.rows caller k r at_s own here.0 p here.1 (and_both (is_interface p.owner) (is_port_of r p) here.2).1) test)
-        ∙ ap (list_any (holds_so test t.rows.subnets)) interfaces
+    -- of its other ports, and of its interfaces
+    some_hold : (i : Ident) (test : SubnetRow → Bool)
+        → list_any (holds_so test s.rows.subnets) (other_ports i (router_ports s.rows.ports r)) ≡ list_any (holds_so test t.rows.subnets) (other_ports i (router_ports t.rows.ports o))
+    some_hold i test = any_pairs blank_port (holds_so test s.rows.subnets) (holds_so test t.rows.subnets) (other_ports i (router_ports s.rows.ports r)) (other_ports i (router_ports t.rows.ports o))
+        (sym (filter-map is_other blank_port (router_ports s.rows.ports r)) ∙ (ap (filter is_other) legs ∙ filter-map is_other blank_port (router_ports t.rows.ports o)))
+        (λ n p q at_p at_q one.
+        let here = at_filter is_other (router_ports s.rows.ports r) n p at_p in
+        let there = at_filter is_other (router_ports t.rows.ports o) n q at_q in
+        leg_holds test here.0 there.0 p q here.1 there.1 one)
       where
-        interfaces : interfaces_of s.rows.ports r ≡ interfaces_of t.rows.ports r
-        interfaces = interfaces_alike settings caller s t c d same k l r at_s at_t own
+        is_other : PortRow → Bool
+        is_other q = not (ident_eq i q.id)
+
+    pub all_hold : (test : SubnetRow → Bool) → list_any (holds_so test s.rows.subnets) (router_ports s.rows.ports r) ≡ list_any (holds_so test t.rows.subnets) (router_ports t.rows.ports o)
+    all_hold test = any_pairs blank_port (holds_so test s.rows.subnets) (holds_so test t.rows.subnets) (router_ports s.rows.ports r) (router_ports t.rows.ports o) legs
+        (λ i p q at_p at_q one. leg_holds test i i p q at_p at_q one)
+
+    pub interfaces_hold : (test : SubnetRow → Bool) → list_any (holds_so test s.rows.subnets) (interfaces_of s.rows.ports r) ≡ list_any (holds_so test t.rows.subnets) (interfaces_of t.rows.ports o)
+    interfaces_hold test = any_pairs blank_port (holds_so test s.rows.subnets) (holds_so test t.rows.subnets) (interfaces_of s.rows.ports r) (interfaces_of t.rows.ports o)
+        (interfaces_alike settings caller s t c d same k l r o at_s at_t own alike)
+        (λ i p q at_p at_q one. let here = at_filter (λ (x : PortRow). is_interface x.owner && is_port_of r x) s.rows.ports i p at_p in
+        let there = at_filter (λ (x : PortRow). is_interface x.owner && is_port_of o x) t.rows.ports i q at_q in
+        holds_alike here.0 there.0 p q here.1 there.1 one (leg_near s.rows caller k r at_s own here.0 p here.1 (and_both (is_interface p.owner) (is_port_of r p) here.2).1) test)
 
     -- next hops
-    pub bad_hop_alike : (hop : Hop) → is_bad_hop s.rows.subnets (router_ports s.rows.ports r) hop ≡ is_bad_hop t.rows.subnets (router_ports t.rows.ports r) hop
-    bad_hop_alike hop = let reach = all_hold (λ (x : SubnetRow). contains x.prefix hop.next) in λ j. list_any (is_own_address hop.next) (legs j) || not (reach j)
+    pub bad_hop_alike : (hop : Hop) → is_bad_hop s.rows.subnets (router_ports s.rows.ports r) hop ≡ is_bad_hop t.rows.subnets (router_ports t.rows.ports o) hop
+    bad_hop_alike hop =
+        let reach = all_hold (λ (x : SubnetRow). contains x.prefix hop.next) in
+        let held = sym (any-map (is_own_address hop.next) blank_port (router_ports s.rows.ports r))
+        ∙ (ap (list_any (is_own_address hop.next)) legs ∙ any-map (is_own_address hop.next) blank_port (router_ports t.rows.ports o)) in
+        λ j. held j || not (reach j)
 
-    pub lost_hop_alike : (m n : ℕ) (p : PortRow) → slice_get s.rows.ports m ≡ Some p → slice_get t.rows.ports n ≡ Some p → is_port_of r p ≡ true → (hop : Hop)
-        → is_lost_hop s.rows.subnets (other_ports p.id (router_ports s.rows.ports r)) p hop ≡ is_lost_hop t.rows.subnets (other_ports p.id (router_ports t.rows.ports r)) p hop
-    lost_hop_alike m n p at_m at_n of hop =
-        let mine = holds_alike m n p at_m at_n (leg_near s.rows caller k r at_s own m p at_m of) (λ (x : SubnetRow). contains x.prefix hop.next) in
-        let others = some_hold (λ (q : PortRow). not (ident_eq p.id q.id)) (λ (x : SubnetRow). contains x.prefix hop.next) in
+    pub lost_hop_alike : (m n : ℕ) (p q : PortRow) → slice_get s.rows.ports m ≡ Some p → slice_get t.rows.ports n ≡ Some q → blank_port p ≡ blank_port q → is_port_of r p ≡ true → (hop : Hop)
+        → is_lost_hop s.rows.subnets (other_ports p.id (router_ports s.rows.ports r)) p hop ≡ is_lost_hop t.rows.subnets (other_ports q.id (router_ports t.rows.ports o)) q hop
+    lost_hop_alike m n p q at_m at_n one of hop =
+        let reach : SubnetRow → Bool = λ (x : SubnetRow). contains x.prefix hop.next in
+        let mine = holds_alike m n p q at_m at_n one (leg_near s.rows caller k r at_s own m p at_m of) reach in
+        let others = some_hold p.id reach ∙ ap (λ (x : PortRow). list_any (holds_so reach t.rows.subnets) (other_ports x.id (router_ports t.rows.ports o))) one in
         λ j. mine j && not (others j)
 
     -- the router is its own user
-    pub router_told : told_user s.rows caller (Some (RouterKind, r.id)) ≡ told_user t.rows caller (Some (RouterKind, r.id))
-    router_told = ap (λ (b : Bool). if b then Some (RouterKind, r.id) else None)
-        (stands_there (λ (q : RouterRow). q.id) (λ (q : RouterRow). is_own caller q.project) s.rows.routers (λ i. omega (arith, c.numbered.ids i)) k r at_s
-        ∙ sym (stands_there (λ (q : RouterRow). q.id) (λ (q : RouterRow). is_own caller q.project) t.rows.routers (λ i. omega (arith, d.numbered.ids i)) l r at_t))
+    pub router_told : told_user s.rows caller (Some (RouterKind, r.id)) ≡ told_user t.rows caller (Some (RouterKind, o.id))
+    router_told =
+        let sees = stands_there (λ (q : RouterRow). q.id) (λ (q : RouterRow). is_own caller q.project) s.rows.routers (λ i. omega (arith, c.numbered.ids i)) k r at_s
+        ∙ (ap (λ (x : RouterRow). is_own caller x.project) alike
+        ∙ sym (stands_there (λ (q : RouterRow). q.id) (λ (q : RouterRow). is_own caller q.project) t.rows.routers (λ i. omega (arith, d.numbered.ids i)) l o at_t)) in
+        λ j. if sees j then Some (RouterKind, (alike j).id) else None
 
   -- a floating address that uses something of the caller's is its own
   pub floating_user_alike : (refusal : Option (Kind × Ident) → Refusal) (test test' : FloatingRow → Bool) → Each (λ f. test f ≡ true → is_own caller f.project ≡ true) s.rows.floatings

@@ -1,6 +1,7 @@
 -- A tenant is shown and listed the same rows of each kind wherever its footing is the same.
 use Rattle.std.proofs.Common.{◌≡◌, ℕ, ◌≤◌, List, [], Bool, true, false, Option, Some, None, slice_get, refl, ap, sym, ◌∙◌, arith, map, not}
 use Rattle.std.specs.Prelude.{◌||◌, filter}
+use Rattle.std.specs.List.{list_any}
 use Rattle.std.specs.Str.{bytes_eq}
 use Rattle.api_policy.specs.Seen.{own_rows, router_seen}
 use Rattle.api_machine.specs.WholeStep.{row_shown}
@@ -12,13 +13,13 @@ use Rattle.api_policy.specs.Policies.{policy_members}
 use Rattle.api_policy.specs.Routers.{router_members}
 use Rattle.api_policy.specs.Shown.{shown_as}
 use Rattle.api_policy.specs.Subnets.{subnet_members}
-use Rattle.api_machine.specs.Footing.{footing}
+use Rattle.api_machine.specs.Footing.{blank_router, footing}
 use Rattle.api_machine.specs.Reads.{marker_text, row_told, rows_listed}
-use Rattle.api_types.specs.Refusing.{at_name, not_found, answer_alone, unless, when}
+use Rattle.api_types.specs.Refusing.{not_found, answer_alone, unless, when}
 use Rattle.call_parts.specs.State.{State}
 use Rattle.api_types.specs.Consistent.{IsConsistent}
 use Rattle.api_types.specs.Ident.{Ident}
-use Rattle.api_types.specs.Lists.{Each, is_some_so, stands, stands_so, times}
+use Rattle.api_types.specs.Lists.{Each, is_some_so, stands_so, times}
 use Rattle.api_types.specs.Outcome.{Outcome, Told}
 use Rattle.api_types.specs.Printed.{ManyRows, NamedTree, OneRow}
 use Rattle.api_types.specs.RowLists.{RowLists}
@@ -35,15 +36,16 @@ use Rattle.api_types.specs.declared.router.RouterRow.{RouterRow}
 use Rattle.api_types.specs.declared.subnet.SubnetRow.{SubnetRow}
 use Rattle.net_settings.specs.Settings.{SettingsParts}
 use Rattle.api_types.proofs.ListLemmas.{at_filter}
-use Rattle.api_machine.proofs.ListLemmas.{any-then, map-each}
-use Rattle.api_machine.proofs.ListsApart.{cards, cards_of, cards_printed, marker-each, marker-filter, networks_listed_apart, ports_listed_apart, seen_cards}
+use Rattle.api_machine.proofs.ListLemmas.{any-map, any-then, map-each, map-twice, map_pairs}
+use Rattle.api_machine.proofs.ListsApart.{cards, cards_of, cards_printed, marker-filter, marker-map, networks_listed_apart, ports_listed_apart, seen_cards}
 use Rattle.api_machine.proofs.NetworksApart.{network_shown_apart}
 use Rattle.api_machine.proofs.PortsApart.{port_shown_apart}
-use Rattle.api_machine.proofs.ApartLemmas.{needing_same, unless_same}
+use Rattle.api_machine.proofs.ApartLemmas.{unless_same}
+use Rattle.api_machine.proofs.FootingLemmas.{needing_by}
 use Rattle.api_machine.proofs.GroupsApart.{group_id, group_printed, group_shown_apart, rule_shown_apart, group_rules}
-use Rattle.api_machine.proofs.OwnAlike.{floatings_alike, groups_alike, own_here, policies_alike, routers_alike, rules_alike, when_true}
+use Rattle.api_machine.proofs.OwnAlike.{floatings_alike, groups_alike, own_here, policies_alike, router_id, routers_alike, routers_found, rules_alike, when_true}
 use Rattle.api_machine.proofs.PoliciesApart.{policy_id, policy_shown_apart}
-use Rattle.api_machine.proofs.ServedAlike.{router_id, router_members_alike}
+use Rattle.api_machine.proofs.ServedAlike.{router_members_alike}
 
 abbrev subnet_id : SubnetRow → Ident
 subnet_id r = r.id
@@ -81,39 +83,59 @@ module _ {R : Type 0} (id_of : R → Ident) (kind : Kind) (admin : Bool) (q : Qu
   listed_printed seen members xs once h = ap (cut q.limit) (seen_cards seen members kind admin q (behind_marker id_of q.marker xs)
       ∙ (ap (cards members kind admin q) (behind_seen seen xs once q.marker h) ∙ cards_printed members kind admin q (behind_marker id_of q.marker (filter seen xs))))
 
-  -- where the seen rows are the same, and the same is printed of each, the same is told
-  list_alike : (seen seen' : R → Bool) (members members' : R → List NamedTree) (xs ys : List R) → ((i : Ident) → times id_of i xs ≤ 1) → ((i : Ident) → times id_of i ys ≤ 1)
-      → filter seen xs ≡ filter seen' ys → Each (λ r. members r ≡ members' r) (filter seen xs) → answer_alone (list_told seen members xs) ≡ answer_alone (list_told seen' members' ys)
-  list_alike seen seen' members members' xs ys once once' alike same =
+  -- a row's id, and what is printed of it
+  abbrev page_of : (R → List NamedTree) → R → Ident × List NamedTree
+  page_of members r = (id_of r, members r)
+
+  behind_pages : (members : R → List NamedTree) (xs : List R) → map members (behind_marker id_of q.marker xs) ≡ map (λ (z : Ident × List NamedTree). z.1) (behind_marker (λ (z : Ident × List NamedTree). z.0) q.marker (map (page_of members) xs))
+  behind_pages members xs =
+      sym (map-twice (page_of members) (λ (z : Ident × List NamedTree). z.1) (behind_marker id_of q.marker xs))
+      ∙ ap (map (λ (z : Ident × List NamedTree). z.1)) (sym (marker-map (page_of members) id_of (λ (z : Ident × List NamedTree). z.0) (λ r. refl) q.marker xs))
+
+  -- where the same is printed of the seen rows, which have the same ids, the same is told
+  pages_alike : (seen seen' : R → Bool) (members members' : R → List NamedTree) (xs ys : List R) → ((i : Ident) → times id_of i xs ≤ 1) → ((i : Ident) → times id_of i ys ≤ 1)
+      → map (page_of members) (filter seen xs) ≡ map (page_of members') (filter seen' ys) → answer_alone (list_told seen members xs) ≡ answer_alone (list_told seen' members' ys)
+  pages_alike seen seen' members members' xs ys once once' alike =
       unless_same (when (not (marks (sees_in seen xs) q.marker)) (not_found kind (marker_text q.marker))) (when (not (marks (sees_in seen' ys) q.marker)) (not_found kind (marker_text q.marker)))
       (Told (ManyRows kind (listed_in id_of seen members kind admin q xs))) (Told (ManyRows kind (listed_in id_of seen' members' kind admin q ys)))
       (λ j. when (not (marks (λ i. sees i j) q.marker)) (not_found kind (marker_text q.marker)))
       (λ passes also. ap (λ rows. Told (ManyRows kind rows))
       (listed_printed seen members xs once (when_true _ (not_found kind (marker_text q.marker)) passes)
-      ∙ (ap (λ zs. cut q.limit (cards_of kind admin q zs)) (map-each members members' (behind_marker id_of q.marker (filter seen xs)) (marker-each (λ r. members r ≡ members' r) id_of q.marker (filter seen xs) same)
-      ∙ ap (λ zs. map members' (behind_marker id_of q.marker zs)) alike)
+      ∙ (ap (λ zs. cut q.limit (cards_of kind admin q zs)) printed
       ∙ sym (listed_printed seen' members' ys once' (when_true _ (not_found kind (marker_text q.marker)) also)))))
     where
       sees : (i : Ident) → sees_in seen xs i ≡ sees_in seen' ys i
-      sees i = any-then (λ r. ident_eq i (id_of r)) seen xs ∙ (ap (stands id_of i) alike ∙ sym (any-then (λ r. ident_eq i (id_of r)) seen' ys))
+      sees i = any-then (λ r. ident_eq i (id_of r)) seen xs
+          ∙ (sym (any-map (λ (z : Ident × List NamedTree). ident_eq i z.0) (page_of members) (filter seen xs))
+          ∙ (ap (list_any (λ (z : Ident × List NamedTree). ident_eq i z.0)) alike
+          ∙ (any-map (λ (z : Ident × List NamedTree). ident_eq i z.0) (page_of members') (filter seen' ys)
+          ∙ sym (any-then (λ r. ident_eq i (id_of r)) seen' ys))))
+
+      printed : map members (behind_marker id_of q.marker (filter seen xs)) ≡ map members' (behind_marker id_of q.marker (filter seen' ys))
+      printed = behind_pages members (filter seen xs)
+          ∙ (ap (λ zs. map (λ (z : Ident × List NamedTree). z.1) (behind_marker (λ (z : Ident × List NamedTree). z.0) q.marker zs)) alike
+          ∙ sym (behind_pages members' (filter seen' ys)))
+
+  -- so it is where they are the same rows
+  list_alike : (seen seen' : R → Bool) (members members' : R → List NamedTree) (xs ys : List R) → ((i : Ident) → times id_of i xs ≤ 1) → ((i : Ident) → times id_of i ys ≤ 1)
+      → filter seen xs ≡ filter seen' ys → Each (λ r. members r ≡ members' r) (filter seen xs) → answer_alone (list_told seen members xs) ≡ answer_alone (list_told seen' members' ys)
+  list_alike seen seen' members members' xs ys once once' alike same = pages_alike seen seen' members members' xs ys once once'
+      (map-each (page_of members) (page_of members') (filter seen xs) (λ k r at. λ j. (id_of r, same k r at j)) ∙ ap (map (page_of members')) alike)
 
 module _ (settings : SettingsParts) (caller : Caller) (tenant : caller.admin ≡ false) (s t : State) (c : IsConsistent s.rows) (d : IsConsistent t.rows) (same : footing settings s caller ≡ footing settings t caller) where
   -- shows
 
-  router_found : (name : Option Ident) → router_seen s.rows caller name ≡ router_seen t.rows caller name
-  router_found name = ap (at_name router_id name) (routers_alike settings caller tenant s t same)
-
   router_shown_apart : (name : IdText) (fields : List (List ℕ)) → answer_alone (row_shown s caller Router name fields) ≡ answer_alone (row_shown t caller Router name fields)
-  router_shown_apart name fields = needing_same (not_found Router name.text) (router_seen s.rows caller name.id) (router_seen t.rows caller name.id)
-      (λ r. Told (OneRow (shown_as Router caller.admin fields (router_members s.rows r)))) (λ r. Told (OneRow (shown_as Router caller.admin fields (router_members t.rows r))))
-      (router_found name.id)
-      (λ r found_s found_t. let here = own_here caller tenant router_id (λ (r : RouterRow). r.project) name.id s.rows.routers r found_s in
-      let there = own_here caller tenant router_id (λ (r : RouterRow). r.project) name.id t.rows.routers r found_t in
-      ap (λ members. Told (OneRow (shown_as Router caller.admin fields members))) (router_members_alike settings caller s t c d same here.0 there.0 r here.1 there.1 here.2))
+  router_shown_apart name fields = needing_by (not_found Router name.text) (router_seen s.rows caller name.id) (router_seen t.rows caller name.id)
+      (λ r. Told (OneRow (shown_as Router caller.admin fields (router_members s.rows r)))) (λ r. Told (OneRow (shown_as Router caller.admin fields (router_members t.rows r)))) blank_router
+      (routers_found settings caller tenant s t same name.id)
+      (λ r o found_s found_t alike. let here = own_here caller tenant router_id (λ (r : RouterRow). r.project) name.id s.rows.routers r found_s in
+      let there = own_here caller tenant router_id (λ (r : RouterRow). r.project) name.id t.rows.routers o found_t in
+      ap (λ members. Told (OneRow (shown_as Router caller.admin fields members))) (router_members_alike settings caller s t c d same here.0 there.0 r o here.1 there.1 here.2 alike))
 
   pub shown_apart : (kind : Kind) (name : IdText) (fields : List (List ℕ)) → answer_alone (row_shown s caller kind name fields) ≡ answer_alone (row_shown t caller kind name fields)
   shown_apart Network name fields = network_shown_apart settings caller tenant s t same name fields
-  shown_apart Port name fields = port_shown_apart settings caller tenant s t same name fields
+  shown_apart Port name fields = port_shown_apart settings caller tenant s t same c d name fields
   shown_apart Project name fields = refl
   shown_apart Subnet name fields = ap (λ f. answer_alone (row_told Subnet subnet_id subnet_members caller name fields f.subnets)) same
   shown_apart Group name fields = group_shown_apart settings caller tenant s t same c d name fields
@@ -134,11 +156,17 @@ module _ (settings : SettingsParts) (caller : Caller) (tenant : caller.admin ≡
       mine : (g : GroupRow) → is_own caller g.project ≡ true → bytes_eq g.project caller.project ≡ true
       mine g h = sym (ap (λ b. b || bytes_eq g.project caller.project) tenant) ∙ h
 
-  routers_printed : Each (λ r. router_members s.rows r ≡ router_members t.rows r) (own_rows (λ (r : RouterRow). r.project) caller s.rows.routers)
-  routers_printed k r at =
-      let here = at_filter (λ (r : RouterRow). is_own caller r.project) s.rows.routers k r at in
-      let there = at_filter (λ (r : RouterRow). is_own caller r.project) t.rows.routers k r (ap (λ rows. slice_get rows k) (sym (routers_alike settings caller tenant s t same)) ∙ at) in
-      router_members_alike settings caller s t c d same here.0 there.0 r here.1 there.1 (sym (ap (λ b. b || bytes_eq r.project caller.project) tenant) ∙ here.2)
+  abbrev router_page : State → RouterRow → Ident × List NamedTree
+  router_page state r = (r.id, router_members state.rows r)
+
+  routers_printed : map (router_page s) (own_rows (λ (r : RouterRow). r.project) caller s.rows.routers) ≡ map (router_page t) (own_rows (λ (r : RouterRow). r.project) caller t.rows.routers)
+  routers_printed = map_pairs blank_router (router_page s) (router_page t) (own_rows (λ (r : RouterRow). r.project) caller s.rows.routers) (own_rows (λ (r : RouterRow). r.project) caller t.rows.routers)
+      (routers_alike settings caller tenant s t same)
+      (λ k r o at_r at_o alike.
+      let here = at_filter (λ (r : RouterRow). is_own caller r.project) s.rows.routers k r at_r in
+      let there = at_filter (λ (r : RouterRow). is_own caller r.project) t.rows.routers k o at_o in
+      let members = router_members_alike settings caller s t c d same here.0 there.0 r o here.1 there.1 (sym (ap (λ b. b || bytes_eq r.project caller.project) tenant) ∙ here.2) alike in
+      λ j. ((alike j).id, members j))
 
   -- a list of a kind, with its marker written out
   abbrev kind_told : State → Kind → Query → Outcome
@@ -164,8 +192,8 @@ module _ (settings : SettingsParts) (caller : Caller) (tenant : caller.admin ≡
       (λ i. omega (arith, c.numbered.ids i)) (λ i. omega (arith, d.numbered.ids i)) (groups_alike settings caller tenant s t same) groups_printed)
   listed_apart Rule q = by_kind Rule q (list_alike rule_id Rule caller.admin q (λ r. is_own caller r.project) (λ r. is_own caller r.project) rule_members rule_members s.rows.rules t.rows.rules
       (λ i. omega (arith, c.numbered.ids i)) (λ i. omega (arith, d.numbered.ids i)) (rules_alike settings caller tenant s t same) (λ k r at. refl))
-  listed_apart Router q = by_kind Router q (list_alike router_id Router caller.admin q (λ r. is_own caller r.project) (λ r. is_own caller r.project) (router_members s.rows) (router_members t.rows) s.rows.routers t.rows.routers
-      (λ i. omega (arith, c.numbered.ids i)) (λ i. omega (arith, d.numbered.ids i)) (routers_alike settings caller tenant s t same) routers_printed)
+  listed_apart Router q = by_kind Router q (pages_alike router_id Router caller.admin q (λ r. is_own caller r.project) (λ r. is_own caller r.project) (router_members s.rows) (router_members t.rows) s.rows.routers t.rows.routers
+      (λ i. omega (arith, c.numbered.ids i)) (λ i. omega (arith, d.numbered.ids i)) routers_printed)
   listed_apart Floating q = by_kind Floating q (list_alike floating_id Floating caller.admin q (λ r. is_own caller r.project) (λ r. is_own caller r.project) floating_members floating_members s.rows.floatings t.rows.floatings
       (λ i. omega (arith, c.numbered.ids i)) (λ i. omega (arith, d.numbered.ids i)) (floatings_alike settings caller tenant s t same) (λ k r at. refl))
   listed_apart Policy q = by_kind Policy q (list_alike policy_id Policy caller.admin q (λ r. is_own caller r.project) (λ r. is_own caller r.project) policy_members policy_members s.rows.policies t.rows.policies

@@ -1,16 +1,15 @@
 -- What a tenant's footing tells of the ports of its routers, also where it doesn't see them.
-use Rattle.std.proofs.Common.{◌≡◌, ℕ, List, [], ◌∷◌, Bool, true, Option, Some, None, slice_get, refl, ap, sym, ◌∙◌, arith}
-use Rattle.std.specs.Prelude.{◌&&◌, codes, filter}
+use Rattle.std.proofs.Common.{◌≡◌, ℕ, List, [], ◌∷◌, Bool, true, Option, Some, None, slice_get, refl, ap, sym, ◌∙◌, arith, map}
+use Rattle.std.specs.Prelude.{◌&&◌, codes, filter, option_map}
 use Rattle.std.specs.List.{list_any}
 use Rattle.std.specs.Str.{bytes_eq}
 use Rattle.api_types.specs.RouterWays.{interfaces_of, router_ports}
 use Rattle.api_policy.specs.Routers.{fixed_of, gateway_object, router_members}
 use Rattle.api_policy.specs.Trees.{fixed_object, id_word, list_of, null_or, route_object}
-use Rattle.api_machine.specs.Footing.{footing, is_of_router}
+use Rattle.api_machine.specs.Footing.{blank_port, blank_router, footing, is_of_router}
 use Rattle.call_parts.specs.State.{State}
 use Rattle.api_types.specs.Consistent.{IsConsistent}
 use Rattle.api_types.specs.Consistent.Services.{is_gateway_of, is_named_gateway}
-use Rattle.api_types.specs.Ident.{Ident}
 use Rattle.api_types.specs.Lists.{if_some}
 use Rattle.api_types.specs.Owners.{device_is, is_gateway, is_interface, is_port_of}
 use Rattle.api_types.specs.Printed.{NamedTree, Tree, branches_of, object, truth, word}
@@ -22,13 +21,10 @@ use Rattle.api_types.specs.declared.port.PortRow.{PortRow}
 use Rattle.api_types.specs.declared.router.Gateway.{Gateway}
 use Rattle.api_types.specs.declared.router.RouterRow.{RouterRow}
 use Rattle.net_settings.specs.Settings.{SettingsParts}
-use Rattle.api_types.proofs.ListLemmas.{and_both, any-at, at-any, both_and, one_row}
+use Rattle.api_types.proofs.ListLemmas.{and_both, any-at, at-any, both_and, none_some, one_row, some_equal}
 use Rattle.api_machine.proofs.FootingLemmas.{port_id}
-use Rattle.api_machine.proofs.ListLemmas.{find-filter, or_right}
+use Rattle.api_machine.proofs.ListLemmas.{filter-map, find-filter, find-map, or_right}
 use Rattle.api_machine.proofs.ApartLemmas.{filter-kept}
-
-abbrev pub router_id : RouterRow → Ident
-router_id r = r.id
 
 -- the ports of the project's routers
 abbrev pub is_served_for : RowLists → List ℕ → PortRow → Bool
@@ -92,22 +88,50 @@ null_each : {X : Type 0} (f g : X → Tree) (o : Option X) → ((x : X) → o �
 null_each f g None e = refl
 null_each f g (Some x) e = e x refl
 
-module _ (settings : SettingsParts) (caller : Caller) (s t : State) (c : IsConsistent s.rows) (d : IsConsistent t.rows) (same : footing settings s caller ≡ footing settings t caller) where
-  pub gateway_alike : (k l : ℕ) (r : RouterRow) → slice_get s.rows.routers k ≡ Some r → slice_get t.rows.routers l ≡ Some r → bytes_eq r.project caller.project ≡ true
-      → (g : Gateway) → r.gateway ≡ Some g → row_of port_id g.port s.rows.ports ≡ row_of port_id g.port t.rows.ports
-  gateway_alike k l r at_s at_t own g has =
-      gateway_served s.rows caller c k r at_s own g has ∙ (ap (λ f. row_of port_id g.port f.served_ports) same ∙ sym (gateway_served t.rows caller d l r at_t own g has))
+-- the same is printed of ports that differ in host and binding alone
+pub fixed_alike : (o p : Option PortRow) → option_map blank_port o ≡ option_map blank_port p → fixed_of o ≡ fixed_of p
+fixed_alike None None alike = refl
+fixed_alike None (Some q) alike = none_some (blank_port q) _ alike
+fixed_alike (Some p) None alike = none_some (blank_port p) _ (sym alike)
+fixed_alike (Some p) (Some q) alike = ap (λ (x : PortRow). x.fixed) (some_equal (blank_port p) (blank_port q) alike)
 
-  pub router_members_alike : (k l : ℕ) (r : RouterRow) → slice_get s.rows.routers k ≡ Some r → slice_get t.rows.routers l ≡ Some r → bytes_eq r.project caller.project ≡ true
-      → router_members s.rows r ≡ router_members t.rows r
-  router_members_alike k l r at_s at_t own = ap (router_printed r) (null_each (gateway_object s.rows) (gateway_object t.rows) r.gateway
-      (λ g has. ap (gateway_printed g) (gateway_alike k l r at_s at_t own g has)))
+-- the caller's router in both states, which may differ in its host
+module _ (settings : SettingsParts) (caller : Caller) (s t : State) (c : IsConsistent s.rows) (d : IsConsistent t.rows) (same : footing settings s caller ≡ footing settings t caller)
+    (k l : ℕ) (r o : RouterRow) (at_s : slice_get s.rows.routers k ≡ Some r) (at_t : slice_get t.rows.routers l ≡ Some o) (own : bytes_eq r.project caller.project ≡ true) (alike : blank_router r ≡ blank_router o) where
+  abbrev served_at : State → List PortRow
+  served_at state = served_for state.rows caller.project
 
-  -- the ports of one of its routers are the same
-  pub legs_alike : (k l : ℕ) (r : RouterRow) → slice_get s.rows.routers k ≡ Some r → slice_get t.rows.routers l ≡ Some r → bytes_eq r.project caller.project ≡ true
-      → router_ports s.rows.ports r ≡ router_ports t.rows.ports r
-  legs_alike k l r at_s at_t own = legs_served s.rows caller c k r at_s own ∙ (ap (λ f. router_ports f.served_ports r) same ∙ sym (legs_served t.rows caller d l r at_t own))
+  pub owned_too : bytes_eq o.project caller.project ≡ true
+  owned_too = sym (ap (λ (x : RouterRow). bytes_eq x.project caller.project) alike) ∙ own
 
-  pub interfaces_alike : (k l : ℕ) (r : RouterRow) → slice_get s.rows.routers k ≡ Some r → slice_get t.rows.routers l ≡ Some r → bytes_eq r.project caller.project ≡ true
-      → interfaces_of s.rows.ports r ≡ interfaces_of t.rows.ports r
-  interfaces_alike k l r at_s at_t own = interfaces_served s.rows caller c k r at_s own ∙ (ap (λ f. interfaces_of f.served_ports r) same ∙ sym (interfaces_served t.rows caller d l r at_t own))
+  pub gateway_alike : (g : Gateway) → r.gateway ≡ Some g → option_map blank_port (row_of port_id g.port s.rows.ports) ≡ option_map blank_port (row_of port_id g.port t.rows.ports)
+  gateway_alike g has =
+      ap (option_map blank_port) (gateway_served s.rows caller c k r at_s own g has)
+      ∙ (sym (find-map (λ (p : PortRow). ident_eq g.port p.id) blank_port (served_at s))
+      ∙ (ap (λ f. row_of port_id g.port f.served_ports) same
+      ∙ (find-map (λ (p : PortRow). ident_eq g.port p.id) blank_port (served_at t)
+      ∙ sym (ap (option_map blank_port) (gateway_served t.rows caller d l o at_t owned_too g (sym (ap (λ (x : RouterRow). x.gateway) alike) ∙ has))))))
+
+  pub gateway_shown : (g : Gateway) → r.gateway ≡ Some g → gateway_object s.rows g ≡ gateway_object t.rows g
+  gateway_shown g has = ap (fixed_printed g) (fixed_alike (row_of port_id g.port s.rows.ports) (row_of port_id g.port t.rows.ports) (gateway_alike g has))
+
+  pub router_members_alike : router_members s.rows r ≡ router_members t.rows o
+  router_members_alike = ap (router_printed r) (null_each (gateway_object s.rows) (gateway_object t.rows) r.gateway gateway_shown)
+      ∙ (λ j. router_printed (alike j) (null_or (gateway_object t.rows) (alike j).gateway))
+
+  -- its ports are the same, but for their hosts and bindings
+  pub legs_alike : map blank_port (router_ports s.rows.ports r) ≡ map blank_port (router_ports t.rows.ports o)
+  legs_alike =
+      ap (map blank_port) (legs_served s.rows caller c k r at_s own)
+      ∙ (sym (filter-map (is_port_of r) blank_port (served_at s))
+      ∙ ((λ j. router_ports (same j).served_ports (alike j))
+      ∙ (filter-map (is_port_of o) blank_port (served_at t)
+      ∙ sym (ap (map blank_port) (legs_served t.rows caller d l o at_t owned_too)))))
+
+  pub interfaces_alike : map blank_port (interfaces_of s.rows.ports r) ≡ map blank_port (interfaces_of t.rows.ports o)
+  interfaces_alike =
+      ap (map blank_port) (interfaces_served s.rows caller c k r at_s own)
+      ∙ (sym (filter-map (λ (p : PortRow). is_interface p.owner && is_port_of r p) blank_port (served_at s))
+      ∙ ((λ j. interfaces_of (same j).served_ports (alike j))
+      ∙ (filter-map (λ (p : PortRow). is_interface p.owner && is_port_of o p) blank_port (served_at t)
+      ∙ sym (ap (map blank_port) (interfaces_served t.rows caller d l o at_t owned_too)))))

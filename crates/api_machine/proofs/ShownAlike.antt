@@ -1,4 +1,5 @@
--- What a tenant is shown of a network doesn't tell its segment; what it is shown of a port tells its network's state alone.
+-- What a tenant is shown of a network doesn't tell its segment; what it is shown of a port tells its network's state alone, and of its
+-- host and binding whether it is bound.
 use Rattle.std.proofs.Common.{◌≡◌, ℕ, List, [], ◌∷◌, Bool, false, Option, Some, None, refl, ap, sym, ◌∙◌}
 use Rattle.std.specs.Prelude.{◌&&◌, codes, option_map}
 use Rattle.api_types.specs.Consistent.Carried.{is_bound}
@@ -7,7 +8,7 @@ use Rattle.api_types.specs.Printed.{NamedTree, truth, word}
 use Rattle.api_types.specs.RowLists.{RowLists}
 use Rattle.api_types.specs.Table.{row_of}
 use Rattle.api_types.specs.declared.call.Caller.{Caller}
-use Rattle.api_types.specs.declared.kind.Kind.TheVariants.{Network as NetworkKind}
+use Rattle.api_types.specs.declared.kind.Kind.TheVariants.{Network as NetworkKind, Port as PortKind}
 use Rattle.api_types.specs.declared.network.NetworkRow.{NetworkRow}
 use Rattle.api_types.specs.declared.policy.Action.TheVariants.{External, Shared}
 use Rattle.api_types.specs.declared.port.PortRow.{PortRow}
@@ -16,8 +17,9 @@ use Rattle.api_policy.specs.Networks.{is_open, network_members, number_of, physi
 use Rattle.api_policy.specs.Ports.{port_members, status_word, vif_word}
 use Rattle.api_policy.specs.Shown.{shown_as}
 use Rattle.api_policy.specs.Trees.{fixed_object, id_word, list_of, mac_word, pair_object}
-use Rattle.api_machine.specs.Footing.{blank}
+use Rattle.api_machine.specs.Footing.{blank, blank_port}
 use Rattle.plan_networks.specs.NetworkCalls.{network_shown}
+use Rattle.plan_ports.specs.PortCalls.{port_shown}
 use Rattle.api_machine.proofs.FootingLemmas.{network_id}
 
 -- networks
@@ -96,10 +98,19 @@ pub live_by : (rows : RowLists) (p : PortRow)
 unfolding is_live
 live_by rows p = ap (λ b. p.up && is_bound p.vif && b) (up_of (row_of network_id p.network rows.networks))
 
-pub port_members_alike : (rows other : RowLists) (p q : PortRow) → p ≡ q
-    → up_at p.network rows.networks ≡ up_at q.network other.networks
-    → port_members rows p ≡ port_members other q
-port_members_alike rows other p q alike up =
-    ap (port_printed p) (live_by rows p)
-    ∙ ((λ j. port_printed (alike j) ((alike j).up && is_bound (alike j).vif && is_up (up j)))
-    ∙ ap (port_printed q) (sym (live_by other q)))
+-- tenants are told neither the host nor the binding
+pub shown_blank_port : (fields : List (List ℕ)) (p : PortRow) (live : Bool)
+    → shown_as PortKind false fields (port_printed p live) ≡ shown_as PortKind false fields (port_printed (blank_port p) live)
+shown_blank_port fields p live = refl
+
+pub port_shown_alike : (rows other : RowLists) (caller : Caller) (p q : PortRow) (fields : List (List ℕ)) → caller.admin ≡ false → blank_port p ≡ blank_port q
+    → is_bound p.vif ≡ is_bound q.vif → up_at p.network rows.networks ≡ up_at q.network other.networks
+    → port_shown rows caller p fields ≡ port_shown other caller q fields
+port_shown_alike rows other caller p q fields tenant alike bound up =
+    ap (λ b. shown_as PortKind b fields (port_members rows p)) tenant
+    ∙ (ap (λ live. shown_as PortKind false fields (port_printed p live)) (live_by rows p)
+    ∙ (shown_blank_port fields p (p.up && is_bound p.vif && is_up (up_at p.network rows.networks))
+    ∙ ((λ j. shown_as PortKind false fields (port_printed (alike j) ((alike j).up && bound j && is_up (up j))))
+    ∙ (sym (shown_blank_port fields q (q.up && is_bound q.vif && is_up (up_at q.network other.networks)))
+    ∙ (ap (λ live. shown_as PortKind false fields (port_printed q live)) (sym (live_by other q))
+    ∙ ap (λ b. shown_as PortKind b fields (port_members other q)) (sym tenant))))))

@@ -20,7 +20,7 @@ use Rattle.api_policy.specs.Uses.{gateway_user, holds_gateway, is_subnet_user, o
 use Rattle.api_policy.specs.Visibility.{owns_network, seen_subnets, sees_network, sees_port, sees_subnet}
 use Rattle.api_policy.specs.Shown.{shown_as}
 use Rattle.api_policy.specs.Subnets.{subnet_members}
-use Rattle.api_machine.specs.Footing.{Near, blank, footing, is_near}
+use Rattle.api_machine.specs.Footing.{Near, blank, blank_port, footing, is_near}
 use Rattle.api_types.specs.Given.{value_of}
 use Rattle.api_types.specs.Refusing.{at_name, first_refusal, needing, not_found, answer_alone, unless, when}
 use Rattle.call_parts.specs.State.{State, drawing_at, is_last}
@@ -53,7 +53,7 @@ use Rattle.api_machine.proofs.ListLemmas.{find_here, name_here, or_left, or_righ
 use Rattle.api_machine.proofs.ApartLemmas.{first_behind, first_same, head_none, needing_same, none_at, unless_same}
 use Rattle.api_machine.proofs.FoundTold.{found_there}
 use Rattle.api_machine.proofs.NearAlike.{chosen_alike, dhcp_address_same, dhcp_alike, holder_on, mac_if_same, makes_same, network_owner_alike, owns_is, then_named}
-use Rattle.api_machine.proofs.OwnAlike.{network_passes, owned_port, owns_alike, quota_own, seen_user, users_seen}
+use Rattle.api_machine.proofs.OwnAlike.{network_passes, owned_port, owns_alike, quota_own, seen_user, users_told}
 
 abbrev pub subnet_id : SubnetRow → Ident
 subnet_id r = r.id
@@ -72,7 +72,7 @@ module _ (settings : SettingsParts) (caller : Caller) (tenant : caller.admin ≡
   pub owned_addresses : (i : Ident) → owns_network s.rows caller.project i ≡ true → is_address_held s.rows.ports i ≡ is_address_held t.rows.ports i
   owned_addresses i owns = ap (λ (z : Near). z.addresses) (near_same settings caller s t same i (owned_near s.rows caller i owns))
 
-  owned_dhcp : (i : Ident) → owns_network s.rows caller.project i ≡ true → dhcp_port_on s.rows.ports i ≡ dhcp_port_on t.rows.ports i
+  owned_dhcp : (i : Ident) → owns_network s.rows caller.project i ≡ true → option_map blank_port (dhcp_port_on s.rows.ports i) ≡ option_map blank_port (dhcp_port_on t.rows.ports i)
   owned_dhcp i owns = dhcp_alike settings caller tenant s t same i owns (sym (owns_alike settings caller tenant s t same i) ∙ owns)
 
   -- making a subnet
@@ -160,12 +160,12 @@ module _ (settings : SettingsParts) (caller : Caller) (tenant : caller.admin ≡
       owned_port state.rows caller r.network owns p (holder_on state.rows e here.0 r here.1 l p at_p (holds p uses))
 
   used_alike : (rule : UseRule) (name : Option Ident) (r : SubnetRow) → subnet_seen s.rows caller name ≡ Some r → subnet_seen t.rows caller name ≡ Some r → owns_network s.rows caller.project r.network ≡ true
-      → (test : PortRow → Bool) → ((p : PortRow) → test p ≡ true → holds_in r.id p ≡ true)
+      → (test : PortRow → Bool) → ((p : PortRow) → test (blank_port p) ≡ test p) → ((p : PortRow) → test p ≡ true → holds_in r.id p ≡ true)
       → option_map (used_by_port s.rows caller rule SubnetKind r.id) (find test s.rows.ports) ≡ option_map (used_by_port t.rows caller rule SubnetKind r.id) (find test t.rows.ports)
-  used_alike rule name r found_s found_t owns test holds =
-      users_seen s.rows caller c rule SubnetKind r.id test (users_on s c name r found_s owns test holds)
+  used_alike rule name r found_s found_t owns test blind holds =
+      users_told s.rows caller c rule SubnetKind r.id test blind (users_on s c name r found_s owns test holds)
       ∙ (ap (λ f. option_map (seen_user rule SubnetKind r.id) (find test f.ports)) same
-      ∙ sym (users_seen t.rows caller d rule SubnetKind r.id test (users_on t d name r found_t (sym (owns_alike settings caller tenant s t same r.network) ∙ owns) test holds)))
+      ∙ sym (users_told t.rows caller d rule SubnetKind r.id test blind (users_on t d name r found_t (sym (owns_alike settings caller tenant s t same r.network) ∙ owns) test holds)))
 
   gateway_alike : (name : Option Ident) (r new : SubnetRow) → subnet_seen s.rows caller name ≡ Some r → subnet_seen t.rows caller name ≡ Some r → owns_network s.rows caller.project r.network ≡ true
       → old_gateway_in_use s.rows caller r new ≡ old_gateway_in_use t.rows caller r new
@@ -175,7 +175,7 @@ module _ (settings : SettingsParts) (caller : Caller) (tenant : caller.admin ≡
           → option_map (used_by_port s.rows caller GatewayIpInUse SubnetKind r.id) (if b then None else find (holds_gateway r x) s.rows.ports)
           ≡ option_map (used_by_port t.rows caller GatewayIpInUse SubnetKind r.id) (if b then None else find (holds_gateway r x) t.rows.ports)
       changed x true = refl
-      changed x false = used_alike GatewayIpInUse name r found_s found_t owns (holds_gateway r x)
+      changed x false = used_alike GatewayIpInUse name r found_s found_t owns (holds_gateway r x) (λ p. refl)
           (λ p uses. any-weaker (λ (f : Fixed). ident_eq r.id f.subnet && addr_eq f.address x) (λ (f : Fixed). ident_eq r.id f.subnet) p.fixed (λ f h. (and_both (ident_eq r.id f.subnet) (addr_eq f.address x) h).0)
           (and_both (is_interface p.owner) (list_any (λ (f : Fixed). ident_eq r.id f.subnet && addr_eq f.address x) p.fixed) uses).1)
 
@@ -268,7 +268,7 @@ module _ (settings : SettingsParts) (caller : Caller) (tenant : caller.admin ≡
       (first_same (network_owner s.rows caller true r.network) (network_owner t.rows caller true r.network)
       (subnet_in_use s.rows caller r.id ∷ when (is_last s) CountersSpent ∷ []) (subnet_in_use t.rows caller r.id ∷ when (is_last t) CountersSpent ∷ [])
       (network_owner_alike settings caller tenant s t same r.network true)
-      (λ passes _. let used = used_alike SubnetInUse name.id r found_s found_t (network_passes caller tenant s.rows r.network passes) (is_subnet_user r.id)
+      (λ passes _. let used = used_alike SubnetInUse name.id r found_s found_t (network_passes caller tenant s.rows r.network passes) (is_subnet_user r.id) (λ p. refl)
       (λ p uses. (and_both (not (is_dhcp p.owner)) (holds_in r.id p) uses).1) in
       (λ j. first_refusal (used j ∷ when (same j).is_last CountersSpent ∷ []))))
       (λ _ _. refl))

@@ -3,8 +3,9 @@ use Rattle.std.proofs.Common.{◌≡◌, ◌∙◌, ℕ, List, [], ◌∷◌, Bo
 use Rattle.std.specs.Prelude.{◌&&◌, ◌||◌, filter, option_map}
 use Rattle.std.specs.List.{list_any}
 use Rattle.std.specs.Str.{bytes_eq}
+use Rattle.api_types.specs.Consistent.Carried.{is_bound}
 use Rattle.api_types.specs.Ident.{Ident}
-use Rattle.api_types.specs.Lists.{stands}
+use Rattle.api_types.specs.Lists.{stands, stands_so}
 use Rattle.api_types.specs.Owners.{is_port_of}
 use Rattle.api_types.specs.RowLists.{RowLists}
 use Rattle.api_types.specs.Table.{ident_eq}
@@ -19,7 +20,7 @@ use Rattle.net_settings.specs.Settings.{SettingsParts}
 use Rattle.api_policy.specs.Visibility.{seen_networks, seen_ports, sees_port}
 use Rattle.call_parts.specs.State.{State}
 use Rattle.api_machine.specs.Alike.{KeepsApart}
-use Rattle.api_machine.specs.Footing.{Footing, blank, footing, guard, is_close, is_near, is_of_router, near_of, owned}
+use Rattle.api_machine.specs.Footing.{Footing, blank, blank_port, blank_router, footing, guard, is_close, is_near, is_of_router, near_of, owned}
 use Rattle.api_machine.specs.WholeStep.{api_step}
 use Rattle.api_machine.specs.WiderFooting.{NearSegment, WiderFooting, is_closer, is_nearer, is_of_floating, near_segment_of, wider_footing, without_number}
 use Rattle.api_machine.proofs.ApartLemmas.{filter-kept}
@@ -84,13 +85,14 @@ abbrev narrow : List ℕ → WiderFooting → Footing
 narrow project w = record {
   networks = map blank w.networks;
   subnets = w.subnets;
-  ports = w.ports;
+  ports = map blank_port w.ports;
+  bound = λ i. stands_so (λ (p : PortRow). p.id) i (λ p. is_bound p.vif) w.ports;
   groups = w.groups;
   rules = w.rules;
-  routers = w.routers;
+  routers = map blank_router w.routers;
   floatings = w.floatings;
   policies = w.policies;
-  served_ports = filter (serves w.routers) w.served_ports;
+  served_ports = map blank_port (filter (serves w.routers) w.served_ports);
   near = λ i. if is_near_by w project i then option_map (λ (n : NearSegment). n.near) (w.near i) else None;
   held = w.held;
   drawer = w.drawer;
@@ -140,7 +142,7 @@ module _ (settings : SettingsParts) (state : State) (caller : Caller) where
   narrow_is : footing settings state caller ≡ narrow caller.project (wider_footing settings state caller)
   narrow_is = λ j. record (narrow caller.project (wider_footing settings state caller)) {
     networks = sym (blank-without (seen_networks state.rows caller)) j;
-    served_ports = served_by state.rows caller j;
+    served_ports = map blank_port (served_by state.rows caller j);
     near = λ i. near_is i j;
   }
     where

@@ -1,11 +1,12 @@
 -- The part of the rows on which a tenant's answers may depend.
 use Rattle.api_policy.specs.Served.{HeldPort, held_port}
-use Rattle.std.specs.Prelude.{ℕ, ◌+◌, ◌-◌, ◌&&◌, ◌||◌, Bool, true, false, List, Option, None, Some, filter, find, is_some, length, map, nat_le, option_map}
+use Rattle.std.specs.Prelude.{ℕ, ◌+◌, ◌-◌, ◌&&◌, ◌||◌, Bool, true, false, List, [], Option, None, Some, filter, find, is_some, length, map, nat_le, option_map}
 use Rattle.std.specs.List.{list_any}
 use Rattle.std.specs.Str.{bytes_eq}
 use Rattle.net_addr.specs.Words.{MacAddress, Text}
 use Rattle.net_addr.specs.Addresses.{addr_eq}
 use Rattle.net_addr.specs.declared.address.Addr.{Addr}
+use Rattle.api_types.specs.Consistent.Carried.{is_bound}
 use Rattle.api_types.specs.Consistent.HeldOnce.{has_mac}
 use Rattle.api_types.specs.Consistent.Segments.{most_networks}
 use Rattle.api_types.specs.Ident.{Ident}
@@ -25,6 +26,7 @@ use Rattle.api_types.specs.declared.policy.Action.TheVariants.{External, Shared}
 use Rattle.api_types.specs.declared.policy.PolicyRow.{PolicyRow}
 use Rattle.api_types.specs.declared.port.Fixed.{Fixed}
 use Rattle.api_types.specs.declared.port.PortRow.{PortRow}
+use Rattle.api_types.specs.declared.port.Vif.TheVariants.{Unbound}
 use Rattle.api_types.specs.declared.project.ProjectRow.{ProjectRow}
 use Rattle.api_types.specs.declared.router.RouterRow.{RouterRow}
 use Rattle.api_types.specs.declared.subnet.SubnetRow.{SubnetRow}
@@ -37,6 +39,13 @@ use Rattle.call_parts.specs.State.{State, is_last}
 -- a network without its segment, which tenants never learn
 abbrev pub blank : NetworkRow → NetworkRow
 blank n = record n { segment = Local }
+
+-- a port without its host and binding, and a router without its host, which tenants never learn
+abbrev pub blank_port : PortRow → PortRow
+blank_port p = record p { host = []; vif = Unbound }
+
+abbrev pub blank_router : RouterRow → RouterRow
+blank_router r = record r { host = None }
 
 -- the rows of a kind that the project owns
 abbrev pub owned : {R : Type 0} → (R → Text) → Text → List R → List R
@@ -123,6 +132,8 @@ pub record Footing : Type 0 where
   pub networks : List NetworkRow
   pub subnets : List SubnetRow
   pub ports : List PortRow
+  -- which of these are bound: a bound one is ACTIVE while it and its network are up
+  pub bound : Ident → Bool
   pub groups : List GroupRow
   pub rules : List RuleRow
   pub routers : List RouterRow
@@ -141,13 +152,15 @@ abbrev pub footing : SettingsParts → State → Caller → Footing
 footing settings state caller = record {
   networks = map blank (seen_networks state.rows caller);
   subnets = seen_subnets state.rows caller;
-  ports = seen_ports state.rows caller;
+  ports = map blank_port (seen_ports state.rows caller);
+  bound = λ i. stands_so (λ p. p.id) i (λ p. is_bound p.vif) (seen_ports state.rows caller);
   groups = owned (λ r. r.project) caller.project state.rows.groups;
   rules = owned (λ r. r.project) caller.project state.rows.rules;
-  routers = owned (λ r. r.project) caller.project state.rows.routers;
+  routers = map blank_router (owned (λ r. r.project) caller.project state.rows.routers);
   floatings = owned (λ r. r.project) caller.project state.rows.floatings;
   policies = owned (λ r. r.project) caller.project state.rows.policies;
-  served_ports = filter (is_of_router state.rows.routers caller.project) state.rows.ports;
+  served_ports = map blank_port
+      (filter (is_of_router state.rows.routers caller.project) state.rows.ports);
   near = λ i. guard (is_near state.rows caller i) (near_of state.rows caller.project i);
   held = λ i. guard (is_held_by state.rows caller.project i) (held_of state.rows i);
   drawer = drawer_of state.rows.projects caller.project;

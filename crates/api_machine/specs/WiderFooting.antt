@@ -1,5 +1,5 @@
--- A footing that has more: the segments of networks, but for vxlan numbers, and the own ports of
--- floating addresses.
+-- A footing that has more: the segments of networks, but for vxlan numbers, the hosts and bindings
+-- of ports, the hosts of routers, and the own ports of floating addresses.
 use Rattle.std.specs.Prelude.{◌+◌, ◌-◌, ◌&&◌, ◌||◌, Bool, List, Option, filter, is_some, length, map, nat_le, option_map}
 use Rattle.std.specs.List.{list_any}
 use Rattle.std.specs.Str.{bytes_eq}

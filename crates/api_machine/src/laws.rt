@@ -16,7 +16,8 @@ pub fn calls_keep()
 
 /// A tenant, whose project has a name, is told the same of each call, reply or refusal, at any two
 /// consistent states in which it has the same footing. `wider` says it of a footing that has more:
-/// the segments of networks but for vxlan numbers, and the own ports of floating addresses.
+/// the segments of networks but for vxlan numbers, hosts and bindings, and the own ports of
+/// floating addresses.
 pub fn tenants_stay_apart()
     ensures whole { (settings : SettingsParts)
         → KeepsApart (footing settings) (api_step settings) }

@@ -1,5 +1,5 @@
 -- What a tenant is told of an ask depends on its footing alone.
-use Rattle.std.proofs.Common.{◌≡◌, ◌∙◌, List, [], ◌∷◌, Bool, true, false, true≢false, not, cond, Option, None, Some, is_some, refl, ap, subst, sym}
+use Rattle.std.proofs.Common.{◌≡◌, ◌∙◌, List, [], ◌∷◌, Bool, true, false, true≢false, not, cond, Option, None, Some, is_some, refl, ap, map, subst, sym}
 use Rattle.std.specs.Prelude.{◌&&◌, ◌||◌, codes}
 use Rattle.std.specs.List.{filter, list_any}
 use Rattle.api_types.specs.Consistent.{IsConsistent}
@@ -15,8 +15,8 @@ use Rattle.api_types.specs.declared.refusal.PolicyRule.TheVariants.{AdminOnly}
 use Rattle.api_types.specs.declared.refusal.Refusal.{Refusal}
 use Rattle.api_types.specs.declared.refusal.Refusal.TheVariants.{Forbidden, Invalid}
 use Rattle.net_settings.specs.Settings.{SettingsParts}
-use Rattle.api_policy.specs.Visibility.{sees_port, sees_row}
-use Rattle.api_machine.specs.Footing.{Footing, footing}
+use Rattle.api_policy.specs.Visibility.{seen_ports, sees_port, sees_row}
+use Rattle.api_machine.specs.Footing.{Footing, blank_port, footing}
 use Rattle.api_machine.specs.WholeStep.{api_step}
 use Rattle.api_types.specs.Refusing.{first_refusal, not_found, answer_alone, when}
 use Rattle.api_machine.proofs.WholeStepApart.{step_apart}
@@ -46,12 +46,20 @@ seen_there i sees (p ∷ ps) = go (ident_eq i p.id) refl (sees p) refl (seen_the
     go false e true f rest = rest ∙ sym (ap (λ t. t || list_any (λ (q : PortRow). ident_eq i q.id) kept) e)
     go false e false f rest = rest
 
+-- by ports without their hosts and bindings too
+blank_there : (i : Ident) (ports : List PortRow) → list_any (λ (p : PortRow). ident_eq i p.id) ports ≡ list_any (λ (p : PortRow). ident_eq i p.id) (map blank_port ports)
+blank_there i [] = refl
+blank_there i (p ∷ ps) = ap (λ b. ident_eq i p.id || b) (blank_there i ps)
+
 module _ (caller : Caller) (v w : World) (tenant : caller.admin ≡ false) (same : footing v.settings (state_of v) caller ≡ footing w.settings (state_of w) caller) where
   port_alike : (i : Ident) → sees_row v.history.rows caller PortKind i ≡ sees_row w.history.rows caller PortKind i
   port_alike i =
-      seen_there i (sees_port v.history.rows caller) v.history.rows.ports
+      seen_blank v
       ∙ ap (λ (f : Footing). list_any (λ (p : PortRow). ident_eq i p.id) f.ports) same
-      ∙ sym (seen_there i (sees_port w.history.rows caller) w.history.rows.ports)
+      ∙ sym (seen_blank w)
+    where
+      seen_blank : (x : World) → sees_row x.history.rows caller PortKind i ≡ list_any (λ (p : PortRow). ident_eq i p.id) (map blank_port (seen_ports x.history.rows caller))
+      seen_blank x = seen_there i (sees_port x.history.rows caller) x.history.rows.ports ∙ blank_there i (seen_ports x.history.rows caller)
 
   event_alike : (event : Event) → event_refusal v.history.rows caller event ≡ event_refusal w.history.rows caller event
   event_alike (FromPort port frame) =
