@@ -1,0 +1,2 @@
+-- A second project with the name a.
+INSERT INTO projects (ordinal, name, count) VALUES (3, 'a', 99);

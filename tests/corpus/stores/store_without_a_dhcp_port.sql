@@ -1,0 +1,2 @@
+-- The DHCP port of a network is gone.
+DELETE FROM ports WHERE device_owner = 'network:dhcp';
