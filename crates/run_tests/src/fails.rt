@@ -2,10 +2,21 @@
 ghost use Rattle.std.specs.Prelude.{◌<◌};
 
 use crate::outcome::run_alone;
-use crate::runs::{MADE, MAKE};
 use net_addr::OutOfMemory;
 use std::alloc::Global;
 use std::test::Fail;
+
+/// A network is made.
+pub(crate) const MAKE: &[u8] =
+    b"POST /v2.0/networks HTTP/1.1\r\nX-Project-Id: a\r\nContent-Length: 25\r\n\r\n\
+        {\"network\":{\"name\":\"n1\"}}";
+
+pub(crate) const MADE: &[u8] =
+    b"HTTP/1.1 201 Created\r\nContent-Type: application/json\r\nContent-Length: 211\r\n\r\n\
+        {\"network\":{\"admin_state_up\":true,\"description\":\"\",\
+        \"id\":\"00000001-0000-8000-8000-000000000006\",\"name\":\"n1\",\"project_id\":\"a\",\
+        \"router:external\":false,\"shared\":false,\"status\":\"ACTIVE\",\"subnets\":[],\
+        \"tenant_id\":\"a\"}}";
 
 /// The same is made again.
 const MADE_NEXT: &[u8] =

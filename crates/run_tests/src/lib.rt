@@ -1,5 +1,5 @@
-//! Tests of the program's call, over a desk in memory: what its arguments, its desk, its input and
-//! its output make of it, with values that were worked out by hand.
+//! Tests of the program's call, over a desk in memory: what it comes to if a call of the outside
+//! fails, and what connections are told, with values that were worked out by hand.
 //!
 //! It promises nothing by itself.
 #![tactic(auto)]
@@ -8,8 +8,6 @@
 mod fails;
 #[cfg(test)]
 mod outcome;
-#[cfg(test)]
-mod runs;
 #[cfg(test)]
 mod served;
 #[cfg(test)]

@@ -3,14 +3,12 @@
 ghost use Rattle.std.specs.Prelude.{◌<◌, IfOk, IsTrue};
 ghost use Rattle.keeper_core.specs.Desk.{IsNoneOut, failing_told, fresh_ends};
 
-use api_types::{Row, Rows};
 use keeper_core::{
-    DeskAsk, EndsList, MemoryDesk, MemorySink, MemorySource, Named, NamedBytes, NamedRows, Source,
+    DeskAsk, EndsList, MemoryDesk, MemorySink, MemorySource, Named, NamedBytes, Source,
 };
 use net_addr::{Bytes, Numbers, OutOfMemory, Seq, Text};
 use neutron_serve::run;
 use std::alloc::Global;
-use test_rows::{add, port};
 
 fn texts(alloc: Global, words: &[&str]) -> Result<Vec<Text>, OutOfMemory> {
     let mut texts = Vec::new(alloc);
@@ -43,19 +41,8 @@ fn files(alloc: Global) -> Result<NamedBytes, OutOfMemory> {
     Ok(files)
 }
 
-fn stores(alloc: Global) -> Result<NamedRows, OutOfMemory> {
-    let mut rows = Rows::empty(alloc)?;
-    add(alloc, &mut rows, Row::Port(port(alloc, 7, 6)?))?;
-    let mut stores = Seq::new(alloc);
-    stores.push(Named {
-        name: Text::of(alloc, "broken")?,
-        value: rows,
-    })?;
-    Ok(stores)
-}
-
-// A desk with two files of settings, one store, and these connections to come, which fails in these
-// calls, and whose stores fail in those.
+// A desk with two files of settings, and these connections to come, which fails in these calls, and
+// whose stores fail in those.
 fn desk(
     alloc: Global,
     ends: EndsList,
@@ -66,10 +53,9 @@ fn desk(
     ensures { IfOk result (λ desk. IsNoneOut (failing_told desk)) }
 {
     let files = files(alloc)?;
-    let stores = stores(alloc)?;
     let failing = numbers(alloc, failing)?;
     let store_failing = numbers(alloc, store_failing)?;
-    MemoryDesk::make(alloc, files, stores, ends, failing, store_failing)
+    MemoryDesk::make(alloc, files, Seq::new(alloc), ends, failing, store_failing)
 }
 
 /// Three connections with these requests, of which one read gives seven bytes. These reads of the
@@ -103,8 +89,6 @@ pub(crate) struct Outcome {
     pub(crate) left: usize,
     /// What was written to each connection that was handed back.
     pub(crate) replies: Vec<Vec<u8>>,
-    /// How many networks the store has that was opened under a name that was new.
-    pub(crate) kept: usize,
 }
 
 fn name_of(ask: &DeskAsk) -> &'static str {
@@ -147,13 +131,6 @@ fn replies_of(
     Ok(replies)
 }
 
-fn kept_by(desk: &MemoryDesk) -> usize {
-    match desk.stores() {
-        [_, kept] => kept.value.networks().rows().len(),
-        _ => 0,
-    }
-}
-
 fn outcome_of(
     alloc: Global,
     status: u8,
@@ -162,7 +139,6 @@ fn outcome_of(
     output: &MemorySink,
 ) -> Result<Outcome, OutOfMemory> {
     let left = left(input);
-    let kept = kept_by(desk);
     let written = Vec::from_slice(alloc, output.as_slice())?;
     let asks = names_of(alloc, desk.asks())?;
     let replies = match desk.ended() {
@@ -175,7 +151,6 @@ fn outcome_of(
         asks,
         left,
         replies,
-        kept,
     })
 }
 

@@ -1,8 +1,8 @@
 //! Runs that serve connections.
 ghost use Rattle.std.specs.Prelude.{◌<◌};
 
+use crate::fails::{MADE, MAKE};
 use crate::outcome::{Outcome, connections, run_alone, run_over};
-use crate::runs::{MADE, MAKE};
 use net_addr::OutOfMemory;
 use std::alloc::Global;
 use std::test::Fail;

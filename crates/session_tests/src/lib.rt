@@ -1,19 +1,12 @@
-//! Tests that cross crates, of what the streams of tests/corpus can't say: requests in pieces, calls
-//! of the outside that fail, limits, rows that no calls make, and the items of changes. Values were
-//! worked out by hand.
+//! Tests that cross crates, of what the streams of tests/corpus can't say: requests in pieces, and a
+//! change that is undone. Values were worked out by hand.
 //!
 //! A crate with tests is proved twice, so they stand here, above all crates, and not in the crates
 //! that they test. It promises nothing by itself.
 #![tactic(auto)]
 
 #[cfg(test)]
-mod kept;
-#[cfg(test)]
-mod limits;
-#[cfg(test)]
 mod machine;
-#[cfg(test)]
-mod opened;
 #[cfg(test)]
 mod outcome;
 #[cfg(test)]

@@ -24,14 +24,11 @@ pub(crate) const NOTHING_FAILS: Failing = Failing {
     writes: &[],
 };
 
-/// What a session comes to: its end, what it writes, the version of the rows, and how many networks
-/// are stored.
+/// What a session comes to: its end, and what it writes.
 #[derive(Drop)]
 pub(crate) struct Outcome {
     pub(crate) end: SessionEnd,
     pub(crate) written: Vec<u8>,
-    pub(crate) version: u64,
-    pub(crate) networks: usize,
 }
 
 fn numbers(alloc: Global, numbers: &[u64]) -> Result<Numbers, OutOfMemory> {
@@ -61,18 +58,10 @@ fn source(
     Ok(MemorySource::make(bytes, piece, numbers(alloc, failing)?))
 }
 
-fn outcome_of(
-    alloc: Global,
-    end: SessionEnd,
-    world: &World,
-    keeper: &MemoryKeeper,
-    output: &MemorySink,
-) -> Result<Outcome, OutOfMemory> {
+fn outcome_of(alloc: Global, end: SessionEnd, output: &MemorySink) -> Result<Outcome, OutOfMemory> {
     Ok(Outcome {
         end,
         written: Vec::from_slice(alloc, output.as_slice())?,
-        version: world.version(),
-        networks: keeper.rows().networks().rows().len(),
     })
 }
 
@@ -101,7 +90,7 @@ pub(crate) fn run_session(
         &mut output,
         u64::MAX,
     );
-    outcome_of(alloc, end, &world, &keeper, &output)
+    outcome_of(alloc, end, &output)
 }
 
 // Whether a session from no rows on, in pieces of this many bytes, writes this and is done.

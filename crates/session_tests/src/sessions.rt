@@ -1,12 +1,5 @@
-//! Requests in pieces, and stores, reads, writes and flushes that fail. What whole requests come to
-//! is in the streams of tests/corpus.
-ghost use Rattle.std.specs.Prelude.{◌<◌};
-
-use crate::outcome::{Failing, run_session, writes_in_pieces};
-use api_types::Rows;
-use net_addr::OutOfMemory;
-use neutron_serve::SessionEnd;
-use std::alloc::Global;
+//! Requests in pieces. What whole requests come to is in the streams of tests/corpus.
+use crate::outcome::writes_in_pieces;
 use std::test::Fail;
 
 /// An input, and what is written to it.
@@ -77,93 +70,6 @@ fn pieces(rt: HostRuntime) -> Result<(), Fail> {
     for (input, wanted) in IN_PIECES {
         let written = writes_in_pieces(alloc, input, wanted)?;
         assert!(rt; written);
-    }
-    Ok(())
-}
-
-// Three times the making of a network.
-const THREE_CREATIONS: &[u8] =
-    b"POST /v2.0/networks HTTP/1.1\r\nX-Project-Id: a\r\nContent-Length: 25\r\n\r\n\
-        {\"network\":{\"name\":\"n1\"}}\
-        POST /v2.0/networks HTTP/1.1\r\nX-Project-Id: a\r\nContent-Length: 25\r\n\r\n\
-        {\"network\":{\"name\":\"n1\"}}\
-        POST /v2.0/networks HTTP/1.1\r\nX-Project-Id: a\r\nContent-Length: 25\r\n\r\n\
-        {\"network\":{\"name\":\"n1\"}}";
-
-// The replies, where the second isn't stored.
-const TWO_CREATED: &[u8] =
-    b"HTTP/1.1 201 Created\r\nContent-Type: application/json\r\nContent-Length: 211\r\n\r\n\
-        {\"network\":{\"admin_state_up\":true,\"description\":\"\",\
-        \"id\":\"00000001-0000-8000-8000-000000000006\",\"name\":\"n1\",\"project_id\":\"a\",\
-        \"router:external\":false,\"shared\":false,\"status\":\"ACTIVE\",\"subnets\":[],\
-        \"tenant_id\":\"a\"}}\
-        HTTP/1.1 503 Service Unavailable\r\nContent-Type: application/json\r\n\
-        Content-Length: 96\r\n\r\n\
-        {\"NeutronError\":{\"detail\":\"\",\"message\":\"The store failed in this request.\",\
-        \"type\":\"StoreFault\"}}\
-        HTTP/1.1 201 Created\r\nContent-Type: application/json\r\nContent-Length: 211\r\n\r\n\
-        {\"network\":{\"admin_state_up\":true,\"description\":\"\",\
-        \"id\":\"00000001-0000-8000-8000-000000000007\",\"name\":\"n1\",\"project_id\":\"a\",\
-        \"router:external\":false,\"shared\":false,\"status\":\"ACTIVE\",\"subnets\":[],\
-        \"tenant_id\":\"a\"}}";
-
-// A store that fails at its second change: the reply says so, and the same request succeeds next.
-#[test]
-fn a_failing_store(rt: HostRuntime) -> Result<(), Fail> {
-    let alloc = rt.alloc();
-    let failing = Failing {
-        store: &[2],
-        reads: &[],
-        writes: &[],
-    };
-    let rows = Rows::empty(alloc)?;
-    let outcome = run_session(alloc, rows, false, failing, THREE_CREATIONS, 100_000)?;
-    assert!(rt; outcome.end == SessionEnd::Done);
-    assert!(rt; outcome.written.as_slice() == TWO_CREATED);
-    assert!(rt; outcome.version == 2 && outcome.networks == 2);
-    Ok(())
-}
-
-// One network is made.
-const MAKE: &[u8] = b"POST /v2.0/networks HTTP/1.1\r\nX-Project-Id: a\r\nContent-Length: 25\r\n\r\n\
-        {\"network\":{\"name\":\"n1\"}}";
-
-const MADE: &[u8] =
-    b"HTTP/1.1 201 Created\r\nContent-Type: application/json\r\nContent-Length: 211\r\n\r\n\
-        {\"network\":{\"admin_state_up\":true,\"description\":\"\",\
-        \"id\":\"00000001-0000-8000-8000-000000000006\",\"name\":\"n1\",\"project_id\":\"a\",\
-        \"router:external\":false,\"shared\":false,\"status\":\"ACTIVE\",\"subnets\":[],\
-        \"tenant_id\":\"a\"}}";
-
-// The reads, and the writes and flushes, that fail while a network is made, how the session ends,
-// and what is written.
-type Case = (&'static [u64], &'static [u64], SessionEnd, &'static [u8]);
-
-const FAILING_ENDS: [Case; 4] = [
-    (&[2], &[], SessionEnd::ReadFault, MADE),
-    (&[1], &[], SessionEnd::ReadFault, b""),
-    (&[], &[1], SessionEnd::WriteFault, b""),
-    (&[], &[2], SessionEnd::WriteFault, MADE),
-];
-
-fn fails_as_wanted(alloc: Global, case: &Case) -> Result<bool, OutOfMemory> {
-    let (reads, writes, end, wanted) = *case;
-    let failing = Failing {
-        store: &[],
-        reads,
-        writes,
-    };
-    let rows = Rows::empty(alloc)?;
-    let outcome = run_session(alloc, rows, false, failing, MAKE, 100_000)?;
-    Ok(outcome.end == end && outcome.written.as_slice() == wanted)
-}
-
-#[test]
-fn failing_ends(rt: HostRuntime) -> Result<(), Fail> {
-    let alloc = rt.alloc();
-    for case in &FAILING_ENDS {
-        let wanted = fails_as_wanted(alloc, case)?;
-        assert!(rt; wanted);
     }
     Ok(())
 }

@@ -1,9 +1,9 @@
-//! Tests of stores that each break one clause of consistency: what `api_check` finds of them, that
-//! no machine is made of them, and that the program's call ends before it answers a request.
+//! Tests of stores that break a clause of consistency: which clause, kind and row `api_check` names.
+//! That such a store isn't opened is in the streams of tests/corpus.
 //!
-//! The clauses, kinds and rows that are to be named were worked out by hand. A crate with tests is
-//! proved twice, so they stand here, above the crates that they test, and not in them. The rows are
-//! made by `test_rows`. It promises nothing by itself.
+//! What is to be named was worked out by hand. A crate with tests is proved twice, so they stand
+//! here, above the crate that they test, and not in it. The rows are made by `test_rows`. It
+//! promises nothing by itself.
 #![tactic(auto)]
 
 #[cfg(test)]
@@ -12,5 +12,3 @@ mod broken;
 mod rows;
 #[cfg(test)]
 mod store;
-#[cfg(test)]
-mod unopened;

@@ -1,7 +1,7 @@
-use api_types::{Action, GroupRow, Item, Kind, NetworkRow, PolicyRow, Row, Rows, Segment};
+use api_types::{Action, GroupRow, Item, Kind, PolicyRow, Row, Rows};
 use net_addr::{Copies, OutOfMemory, Seq, Text};
 use std::alloc::Global;
-use test_rows::{group, network, policy};
+use test_rows::{group, policy};
 
 /// The group `default` of a project.
 pub(crate) fn default_group(alloc: Global, n: u8, project: &str) -> Result<GroupRow, OutOfMemory> {
@@ -9,12 +9,6 @@ pub(crate) fn default_group(alloc: Global, n: u8, project: &str) -> Result<Group
     group.project = Text::of(alloc, project)?;
     group.is_default = true;
     Ok(group)
-}
-
-/// A network of the project a with a tag on `physnet1`.
-pub(crate) fn tagged(alloc: Global, n: u8, tag: u16) -> Result<NetworkRow, OutOfMemory> {
-    let physical = Text::of(alloc, "physnet1")?;
-    network(alloc, n, Segment::Vlan { physical, tag })
 }
 
 /// A policy of the project a that makes a network external to all.

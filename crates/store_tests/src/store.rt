@@ -7,10 +7,10 @@ use test_rows::{
     service_port, subnet,
 };
 
-/// 10.0.0.0/24, and 203.0.113.0/24.
-pub(crate) const INNER: u32 = 0x0a00_0000;
+// 10.0.0.0/24, and 203.0.113.0/24.
+const INNER: u32 = 0x0a00_0000;
 
-pub(crate) const OUTER: u32 = 0xcb00_7100;
+const OUTER: u32 = 0xcb00_7100;
 
 /// The printed id of the router, 40.
 const ROUTER: &str = "00000001-0000-8000-8000-000000000028";
