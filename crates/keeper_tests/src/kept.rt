@@ -1,32 +1,32 @@
-//! What is applied is loaded: rows of each kind that are stored, changed and removed, in their
-//! order, and nothing of a change that fails.
-use crate::rows::{bare_rows, full_numbers, full_rows, gives, other_numbers, push_items};
-use api_types::{Change, Direction, Ethertype, Row, RuleRow, Segment};
+//! What no call makes is stored and loaded: a project with the last ordinal, which is removed again,
+//! and a row that is made again with its id. A count that fits no column makes the whole change fail.
+use crate::rows::{gives, push_items};
+use api_types::{Change, Row, Segment};
 use keeper_core::Keeper;
 use keeper_sql::SqlKeeper;
 use net_addr::{OutOfMemory, Seq, Text};
 use sqlite::{Connection, MemStore};
 use std::alloc::Global;
 use std::test::Fail;
-use test_rows::{group, id, network, project, rule};
+use test_rows::{network, project};
 
-/// Rows that a change makes or takes out, or that a store has after it.
+/// A row that a change makes or takes out, or that a store has after it.
 #[derive(Clone, Copy)]
 enum Part {
-    /// A row of each kind, with the extremes of its columns.
-    Full,
-    /// Rows with the ids of these, with nothing in the columns that may be empty.
-    Bare,
-    /// Such rows with other ids.
-    Other,
+    /// A project with the last ordinal and the last count.
+    Last,
     /// A flat network.
     Flat(u8),
     /// A network of VXLAN with the last number.
     Tunnelled(u8),
-    /// What a project's first network makes.
-    First,
     /// A project whose count fits no column.
     Uncounted,
+}
+
+fn last(alloc: Global) -> Result<Row, OutOfMemory> {
+    let mut row = project(alloc, 0xffff_ffff, "a")?;
+    row.count = 0x3fff_ffff_ffff_ffff;
+    Ok(Row::Project(row))
 }
 
 fn flat(alloc: Global, n: u8) -> Result<Row, OutOfMemory> {
@@ -45,41 +45,13 @@ fn uncounted(alloc: Global) -> Result<Row, OutOfMemory> {
     Ok(Row::Project(row))
 }
 
-fn default_rule(
-    alloc: Global,
-    n: u8,
-    direction: Direction,
-    ethertype: Ethertype,
-) -> Result<RuleRow, OutOfMemory> {
-    let mut row = rule(alloc, n, 1, direction)?;
-    row.ethertype = ethertype;
-    if direction == Direction::Ingress {
-        row.remote_group = Some(id(1));
+fn row_of(alloc: Global, part: Part) -> Result<Row, OutOfMemory> {
+    match part {
+        Part::Last => last(alloc),
+        Part::Flat(n) => flat(alloc, n),
+        Part::Tunnelled(n) => tunnelled(alloc, n),
+        Part::Uncounted => uncounted(alloc),
     }
-    Ok(row)
-}
-
-// The project, its default group with four rules, and the network.
-fn first_rows(alloc: Global) -> Result<Seq<Row>, OutOfMemory> {
-    let mut rows = Seq::new(alloc);
-    let mut owner = project(alloc, 1, "a")?;
-    owner.count = 6;
-    rows.push(Row::Project(owner))?;
-    let mut default = group(alloc, 1, "default")?;
-    default.is_default = true;
-    rows.push(Row::Group(default))?;
-    for (n, direction, ethertype) in [
-        (2, Direction::Egress, Ethertype::Ipv4),
-        (3, Direction::Egress, Ethertype::Ipv6),
-        (4, Direction::Ingress, Ethertype::Ipv4),
-        (5, Direction::Ingress, Ethertype::Ipv6),
-    ] {
-        rows.push(Row::Rule(default_rule(alloc, n, direction, ethertype)?))?;
-    }
-    let mut first = network(alloc, 6, Segment::Vxlan { number: 1 })?;
-    first.name = Text::of(alloc, "n1")?;
-    rows.push(Row::Network(first))?;
-    Ok(rows)
 }
 
 fn one_row(alloc: Global, row: Row) -> Result<Seq<Row>, OutOfMemory> {
@@ -88,54 +60,38 @@ fn one_row(alloc: Global, row: Row) -> Result<Seq<Row>, OutOfMemory> {
     Ok(rows)
 }
 
-fn rows_of(alloc: Global, part: Part) -> Result<Seq<Row>, OutOfMemory> {
-    match part {
-        Part::Full => full_rows(alloc),
-        Part::Bare => bare_rows(alloc, &full_numbers()),
-        Part::Other => bare_rows(alloc, &other_numbers()),
-        Part::Flat(n) => one_row(alloc, flat(alloc, n)?),
-        Part::Tunnelled(n) => one_row(alloc, tunnelled(alloc, n)?),
-        Part::First => first_rows(alloc),
-        Part::Uncounted => one_row(alloc, uncounted(alloc)?),
-    }
-}
-
 fn all_rows(alloc: Global, parts: &[Part]) -> Result<Seq<Row>, OutOfMemory> {
     let mut all = Seq::new(alloc);
     for part in parts {
-        for row in rows_of(alloc, *part)?.into_vec() {
-            all.push(row)?;
-        }
+        all.push(row_of(alloc, *part)?)?;
     }
     Ok(all)
 }
 
-/// A change of a new store, by parts that are made or taken out; how many of its calls fail; and
-/// the rows that it has then.
+/// A change of a new store, by rows that are made or taken out; how many of its calls fail; and the
+/// rows that it has then.
 struct Case {
     change: &'static [(Part, bool)],
     faults: u64,
     rows: &'static [Part],
 }
 
-const CASES: [Case; 6] = [
-    // rows of each kind
+const CASES: [Case; 4] = [
+    // the extremes of a project
     Case {
-        change: &[(Part::Full, true), (Part::Other, true)],
+        change: &[(Part::Last, true), (Part::Flat(1), true)],
         faults: 0,
-        rows: &[Part::Full, Part::Other],
+        rows: &[Part::Last, Part::Flat(1)],
     },
-    // each is changed
+    // it is taken out, as no call does
     Case {
-        change: &[(Part::Bare, true), (Part::Full, true)],
+        change: &[
+            (Part::Last, true),
+            (Part::Flat(1), true),
+            (Part::Last, false),
+        ],
         faults: 0,
-        rows: &[Part::Full],
-    },
-    // each is taken out
-    Case {
-        change: &[(Part::Full, true), (Part::Other, true), (Part::Full, false)],
-        faults: 0,
-        rows: &[Part::Other],
+        rows: &[Part::Flat(1)],
     },
     // a row that is changed keeps its place, and one that is made again comes last
     Case {
@@ -150,15 +106,9 @@ const CASES: [Case; 6] = [
         faults: 0,
         rows: &[Part::Tunnelled(1), Part::Flat(3), Part::Flat(2)],
     },
-    // what a project's first network makes
-    Case {
-        change: &[(Part::First, true)],
-        faults: 0,
-        rows: &[Part::First],
-    },
     // the last row of the change fits no column
     Case {
-        change: &[(Part::First, true), (Part::Uncounted, true)],
+        change: &[(Part::Flat(1), true), (Part::Uncounted, true)],
         faults: 1,
         rows: &[],
     },
@@ -167,7 +117,11 @@ const CASES: [Case; 6] = [
 fn change_of(alloc: Global, parts: &[(Part, bool)]) -> Result<Change, OutOfMemory> {
     let mut change = Seq::new(alloc);
     for (part, is_made) in parts {
-        push_items(&mut change, rows_of(alloc, *part)?, *is_made)?;
+        push_items(
+            &mut change,
+            one_row(alloc, row_of(alloc, *part)?)?,
+            *is_made,
+        )?;
     }
     Ok(change)
 }

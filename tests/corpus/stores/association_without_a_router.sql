@@ -1,0 +1,1 @@
+UPDATE floating_ips SET router_id = NULL;

@@ -1,0 +1,1 @@
+UPDATE format SET number = 3;

@@ -1,0 +1,1 @@
+UPDATE routers SET gateway_port_id = NULL;

@@ -1,0 +1,1 @@
+UPDATE ports SET fixed_ips = '[';

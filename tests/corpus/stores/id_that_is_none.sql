@@ -1,0 +1,1 @@
+UPDATE networks SET id = 'n1' WHERE place = 1;

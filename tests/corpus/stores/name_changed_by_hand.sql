@@ -1,0 +1,1 @@
+UPDATE networks SET name = 'by hand' WHERE place = 2;

@@ -1,0 +1,1 @@
+UPDATE projects SET ordinal = -1;

@@ -1,0 +1,1 @@
+UPDATE subnets SET cidr = '10.0.0.1/24';

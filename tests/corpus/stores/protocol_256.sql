@@ -1,0 +1,1 @@
+UPDATE security_group_rules SET protocol = 256;

@@ -1,0 +1,1 @@
+UPDATE networks SET admin_state_up = 2;

@@ -1,0 +1,1 @@
+UPDATE rbac_policies SET action = 'access_as_owner';

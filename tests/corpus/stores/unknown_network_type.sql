@@ -1,0 +1,1 @@
+UPDATE networks SET network_type = 'gre';
