@@ -1,15 +1,12 @@
 //! Networks, and the tags that a host gave before.
 use api_types::{Row, Rows, Segment};
-use net_addr::{OutOfMemory, Seq, Text};
+use net_addr::{OutOfMemory, Seq};
 use plane_types::{TagRow, Tags};
 use std::alloc::Global;
 use test_rows::{add, id, network};
 
 /// 10.0.0.0.
 pub(crate) const INNER: u32 = 0x0a00_0000;
-
-/// 2001:db8::.
-pub(crate) const SIX: u128 = 0x2001_0db8_0000_0000_0000_0000_0000_0000;
 
 /// Adds a network with a number of VXLAN.
 pub(crate) fn add_vxlan(
@@ -19,13 +16,6 @@ pub(crate) fn add_vxlan(
     number: u32,
 ) -> Result<(), OutOfMemory> {
     let row = network(alloc, n, Segment::Vxlan { number })?;
-    add(alloc, rows, Row::Network(row))
-}
-
-/// Adds a network with a tag on physnet1.
-pub(crate) fn add_vlan(alloc: Global, rows: &mut Rows, n: u8, tag: u16) -> Result<(), OutOfMemory> {
-    let physical = Text::of(alloc, "physnet1")?;
-    let row = network(alloc, n, Segment::Vlan { physical, tag })?;
     add(alloc, rows, Row::Network(row))
 }
 
