@@ -39,7 +39,6 @@ use Rattle.api_types.specs.declared.floating.Target.{Target}
 use Rattle.api_types.specs.declared.policy.PolicyRow.{PolicyRow}
 use Rattle.api_types.specs.declared.policy.Action.{Action}
 use Rattle.api_types.specs.declared.policy.Action.TheVariants.{Shared, External}
-use Rattle.std.specs.Option.{option_or}
 use Rattle.std.proofs.lemmas.Bool.Decides.{nat_tests}
 use Rattle.std.proofs.lemmas.List.Sums.{sum_by-cons}
 use Rattle.std.proofs.lemmas.Option.{slice_get_within}
@@ -49,12 +48,18 @@ use Rattle.api_types.specs.declared.network.Segment.TheVariants.{Local, Flat, Vl
 use Rattle.net_settings.specs.declared.settings.Host.{Host}
 use Rattle.api_check.specs.Broken.{told_at, breaks, first_place, earlier}
 use Rattle.api_ml2.specs.Carrying.{carries}
-use Rattle.api_check_rows.specs.RowTests.{project_numbered, is_numbered, subnet_named, port_named, rule_named, gateway_named, router_named, target_named, floating_named, policy_named, subnet_formed, port_formed, is_held_once, port_alone, segment_alone}
-use Rattle.api_check_services.specs.ServiceTests.{network_served, dhcp_serves, router_port_serves, port_serves, router_served, floating_served, target_alone, floating_leads, project_grouped, port_grouped, rule_grouped, router_permitted, policy_alone}
+use Rattle.api_clauses.specs.Numbers.{project_numbered, is_numbered}
+use Rattle.api_clauses.specs.Names.{subnet_named, port_named, rule_named, gateway_named, router_named, target_named, floating_named, policy_named}
+use Rattle.api_clauses.specs.Forms.{subnet_formed, port_formed}
+use Rattle.api_clauses.specs.Held.{is_held_once, port_alone, segment_alone}
+use Rattle.api_clauses.specs.Services.{network_served, dhcp_serves, router_port_serves, port_serves, router_served, floating_served}
+use Rattle.api_clauses.specs.Floatings.{target_alone, floating_leads}
+use Rattle.api_clauses.specs.Groups.{project_grouped, port_grouped, rule_grouped}
+use Rattle.api_clauses.specs.Permits.{router_permitted, policy_alone}
 use Rattle.api_check.specs.Placing.{port_placed}
 use Rattle.api_check.specs.FirstBroken.{numbers_broken, names_broken, forms_broken, disjoint_broken, too_many, segments_broken, services_broken, groups_broken, outsides_broken, first_broken_of}
 use Rattle.api_check.proofs.Places.{position_first}
-use Rattle.api_check.proofs.FirstBrokenLaw.{at_most, is_at_most, equal_to, is_equal_to, or_both, both_or, no_place_passes, passes_no_place, place_within, there, told_within, told_none, placed_none, none_placed, breaks-none, pass-breaks, once_by_rows}
+use Rattle.api_check.proofs.FirstBrokenLaw.{at_most, is_at_most, equal_to, is_equal_to, all_none, none_all, no_place_passes, passes_no_place, place_within, there, told_within, told_none, placed_none, none_placed, breaks-none, pass-breaks, once_by_rows}
 use Rattle.api_types.proofs.ListLemmas.{some_equal, none_some, false_true, and_both, both_and, none-any, sum-none, count-none, any-at}
 use Rattle.api_types.proofs.NameLemmas.{ident_same, bytes_same, by_test, all-at, at-all}
 
@@ -103,23 +108,16 @@ module _ (rows : RowLists) where
   pub numbers_holds : numbers_broken rows ≡ None → AreNumbered rows
   unfolding numbers_broken
   numbers_holds h =
-      let s1 = or_both (told_at 1 Project project_id rows.projects (first_place (project_numbered rows.projects) 0 rows.projects)) (option_or (breaks 1 Network (λ r. r.id) (λ r. is_numbered rows r.id) rows.networks) (option_or (breaks 1 Subnet (λ r. r.id) (λ r. is_numbered rows r.id) rows.subnets) (option_or (breaks 1 Port (λ r. r.id) (λ r. is_numbered rows r.id) rows.ports) (option_or (breaks 1 Group (λ r. r.id) (λ r. is_numbered rows r.id) rows.groups) (option_or (breaks 1 Rule (λ r. r.id) (λ r. is_numbered rows r.id) rows.rules) (option_or (breaks 1 Router (λ r. r.id) (λ r. is_numbered rows r.id) rows.routers) (option_or (breaks 1 Floating (λ r. r.id) (λ r. is_numbered rows r.id) rows.floatings) (breaks 1 Policy (λ r. r.id) (λ r. is_numbered rows r.id) rows.policies)))))))) h in
-      let s2 = or_both (breaks 1 Network (λ r. r.id) (λ r. is_numbered rows r.id) rows.networks) (option_or (breaks 1 Subnet (λ r. r.id) (λ r. is_numbered rows r.id) rows.subnets) (option_or (breaks 1 Port (λ r. r.id) (λ r. is_numbered rows r.id) rows.ports) (option_or (breaks 1 Group (λ r. r.id) (λ r. is_numbered rows r.id) rows.groups) (option_or (breaks 1 Rule (λ r. r.id) (λ r. is_numbered rows r.id) rows.rules) (option_or (breaks 1 Router (λ r. r.id) (λ r. is_numbered rows r.id) rows.routers) (option_or (breaks 1 Floating (λ r. r.id) (λ r. is_numbered rows r.id) rows.floatings) (breaks 1 Policy (λ r. r.id) (λ r. is_numbered rows r.id) rows.policies))))))) s1.1 in
-      let s3 = or_both (breaks 1 Subnet (λ r. r.id) (λ r. is_numbered rows r.id) rows.subnets) (option_or (breaks 1 Port (λ r. r.id) (λ r. is_numbered rows r.id) rows.ports) (option_or (breaks 1 Group (λ r. r.id) (λ r. is_numbered rows r.id) rows.groups) (option_or (breaks 1 Rule (λ r. r.id) (λ r. is_numbered rows r.id) rows.rules) (option_or (breaks 1 Router (λ r. r.id) (λ r. is_numbered rows r.id) rows.routers) (option_or (breaks 1 Floating (λ r. r.id) (λ r. is_numbered rows r.id) rows.floatings) (breaks 1 Policy (λ r. r.id) (λ r. is_numbered rows r.id) rows.policies)))))) s2.1 in
-      let s4 = or_both (breaks 1 Port (λ r. r.id) (λ r. is_numbered rows r.id) rows.ports) (option_or (breaks 1 Group (λ r. r.id) (λ r. is_numbered rows r.id) rows.groups) (option_or (breaks 1 Rule (λ r. r.id) (λ r. is_numbered rows r.id) rows.rules) (option_or (breaks 1 Router (λ r. r.id) (λ r. is_numbered rows r.id) rows.routers) (option_or (breaks 1 Floating (λ r. r.id) (λ r. is_numbered rows r.id) rows.floatings) (breaks 1 Policy (λ r. r.id) (λ r. is_numbered rows r.id) rows.policies))))) s3.1 in
-      let s5 = or_both (breaks 1 Group (λ r. r.id) (λ r. is_numbered rows r.id) rows.groups) (option_or (breaks 1 Rule (λ r. r.id) (λ r. is_numbered rows r.id) rows.rules) (option_or (breaks 1 Router (λ r. r.id) (λ r. is_numbered rows r.id) rows.routers) (option_or (breaks 1 Floating (λ r. r.id) (λ r. is_numbered rows r.id) rows.floatings) (breaks 1 Policy (λ r. r.id) (λ r. is_numbered rows r.id) rows.policies)))) s4.1 in
-      let s6 = or_both (breaks 1 Rule (λ r. r.id) (λ r. is_numbered rows r.id) rows.rules) (option_or (breaks 1 Router (λ r. r.id) (λ r. is_numbered rows r.id) rows.routers) (option_or (breaks 1 Floating (λ r. r.id) (λ r. is_numbered rows r.id) rows.floatings) (breaks 1 Policy (λ r. r.id) (λ r. is_numbered rows r.id) rows.policies))) s5.1 in
-      let s7 = or_both (breaks 1 Router (λ r. r.id) (λ r. is_numbered rows r.id) rows.routers) (option_or (breaks 1 Floating (λ r. r.id) (λ r. is_numbered rows r.id) rows.floatings) (breaks 1 Policy (λ r. r.id) (λ r. is_numbered rows r.id) rows.policies)) s6.1 in
-      let s8 = or_both (breaks 1 Floating (λ r. r.id) (λ r. is_numbered rows r.id) rows.floatings) (breaks 1 Policy (λ r. r.id) (λ r. is_numbered rows r.id) rows.policies) s7.1 in
-      let p1 = placed_none 1 Project project_id (project_numbered rows.projects) rows.projects s1.0 in
-      let p2 = breaks-none 1 Network (λ r. r.id) (λ r. is_numbered rows r.id) rows.networks s2.0 in
-      let p3 = breaks-none 1 Subnet (λ r. r.id) (λ r. is_numbered rows r.id) rows.subnets s3.0 in
-      let p4 = breaks-none 1 Port (λ r. r.id) (λ r. is_numbered rows r.id) rows.ports s4.0 in
-      let p5 = breaks-none 1 Group (λ r. r.id) (λ r. is_numbered rows r.id) rows.groups s5.0 in
-      let p6 = breaks-none 1 Rule (λ r. r.id) (λ r. is_numbered rows r.id) rows.rules s6.0 in
-      let p7 = breaks-none 1 Router (λ r. r.id) (λ r. is_numbered rows r.id) rows.routers s7.0 in
-      let p8 = breaks-none 1 Floating (λ r. r.id) (λ r. is_numbered rows r.id) rows.floatings s8.0 in
-      let p9 = breaks-none 1 Policy (λ r. r.id) (λ r. is_numbered rows r.id) rows.policies s8.1 in
+      let s = all_none _ h in
+      let p1 = placed_none 1 Project project_id (project_numbered rows.projects) rows.projects s.0 in
+      let p2 = breaks-none _ _ _ _ _ s.1.0 in
+      let p3 = breaks-none _ _ _ _ _ s.1.1.0 in
+      let p4 = breaks-none _ _ _ _ _ s.1.1.1.0 in
+      let p5 = breaks-none _ _ _ _ _ s.1.1.1.1.0 in
+      let p6 = breaks-none _ _ _ _ _ s.1.1.1.1.1.0 in
+      let p7 = breaks-none _ _ _ _ _ s.1.1.1.1.1.1.0 in
+      let p8 = breaks-none _ _ _ _ _ s.1.1.1.1.1.1.1.0 in
+      let p9 = breaks-none _ _ _ _ _ s.1.1.1.1.1.1.1.1.0 in
       record {
         projects = record {
           ordered = λ k p at. let parts = project_parts k p (p1 k p at) in (parts.0, parts.1);
@@ -143,18 +141,37 @@ module _ (rows : RowLists) where
   pub numbers_none : AreNumbered rows → numbers_broken rows ≡ None
   unfolding numbers_broken
   numbers_none c =
-      both_or (told_at 1 Project project_id rows.projects (first_place (project_numbered rows.projects) 0 rows.projects)) (option_or (breaks 1 Network (λ r. r.id) (λ r. is_numbered rows r.id) rows.networks) (option_or (breaks 1 Subnet (λ r. r.id) (λ r. is_numbered rows r.id) rows.subnets) (option_or (breaks 1 Port (λ r. r.id) (λ r. is_numbered rows r.id) rows.ports) (option_or (breaks 1 Group (λ r. r.id) (λ r. is_numbered rows r.id) rows.groups) (option_or (breaks 1 Rule (λ r. r.id) (λ r. is_numbered rows r.id) rows.rules) (option_or (breaks 1 Router (λ r. r.id) (λ r. is_numbered rows r.id) rows.routers) (option_or (breaks 1 Floating (λ r. r.id) (λ r. is_numbered rows r.id) rows.floatings) (breaks 1 Policy (λ r. r.id) (λ r. is_numbered rows r.id) rows.policies)))))))) (none_placed 1 Project project_id (project_numbered rows.projects) rows.projects (λ k p at. let o = c.projects.ordered k p at in
-      both_and (p.ordinal == k + 1) _ (is_equal_to p.ordinal (k + 1) o.0) (both_and (nat_lt p.count (2 ^ 62)) _ (is_below p.count (2 ^ 62) o.1)
-      (both_and (nat_le (count_by (is_named p.name) rows.projects) 1) _ (is_at_most (count_by (is_named p.name) rows.projects) 1 (c.projects.names p.name))
-      (both_and (nat_lt (k + 1) (2 ^ 32)) (not (is_empty p.name)) (is_below (k + 1) (2 ^ 32) (place_fits k (slice_get_within rows.projects k p at) c.projects.few)) (c.projects.named k p at))))))
-      (both_or (breaks 1 Network (λ r. r.id) (λ r. is_numbered rows r.id) rows.networks) (option_or (breaks 1 Subnet (λ r. r.id) (λ r. is_numbered rows r.id) rows.subnets) (option_or (breaks 1 Port (λ r. r.id) (λ r. is_numbered rows r.id) rows.ports) (option_or (breaks 1 Group (λ r. r.id) (λ r. is_numbered rows r.id) rows.groups) (option_or (breaks 1 Rule (λ r. r.id) (λ r. is_numbered rows r.id) rows.rules) (option_or (breaks 1 Router (λ r. r.id) (λ r. is_numbered rows r.id) rows.routers) (option_or (breaks 1 Floating (λ r. r.id) (λ r. is_numbered rows r.id) rows.floatings) (breaks 1 Policy (λ r. r.id) (λ r. is_numbered rows r.id) rows.policies))))))) (pass-breaks 1 Network (λ r. r.id) (λ r. is_numbered rows r.id) rows.networks (numbered_of (λ r. r.id) rows.networks c.ids c.drawn.networks))
-      (both_or (breaks 1 Subnet (λ r. r.id) (λ r. is_numbered rows r.id) rows.subnets) (option_or (breaks 1 Port (λ r. r.id) (λ r. is_numbered rows r.id) rows.ports) (option_or (breaks 1 Group (λ r. r.id) (λ r. is_numbered rows r.id) rows.groups) (option_or (breaks 1 Rule (λ r. r.id) (λ r. is_numbered rows r.id) rows.rules) (option_or (breaks 1 Router (λ r. r.id) (λ r. is_numbered rows r.id) rows.routers) (option_or (breaks 1 Floating (λ r. r.id) (λ r. is_numbered rows r.id) rows.floatings) (breaks 1 Policy (λ r. r.id) (λ r. is_numbered rows r.id) rows.policies)))))) (pass-breaks 1 Subnet (λ r. r.id) (λ r. is_numbered rows r.id) rows.subnets (numbered_of (λ r. r.id) rows.subnets c.ids c.drawn.subnets))
-      (both_or (breaks 1 Port (λ r. r.id) (λ r. is_numbered rows r.id) rows.ports) (option_or (breaks 1 Group (λ r. r.id) (λ r. is_numbered rows r.id) rows.groups) (option_or (breaks 1 Rule (λ r. r.id) (λ r. is_numbered rows r.id) rows.rules) (option_or (breaks 1 Router (λ r. r.id) (λ r. is_numbered rows r.id) rows.routers) (option_or (breaks 1 Floating (λ r. r.id) (λ r. is_numbered rows r.id) rows.floatings) (breaks 1 Policy (λ r. r.id) (λ r. is_numbered rows r.id) rows.policies))))) (pass-breaks 1 Port (λ r. r.id) (λ r. is_numbered rows r.id) rows.ports (numbered_of (λ r. r.id) rows.ports c.ids c.drawn.ports))
-      (both_or (breaks 1 Group (λ r. r.id) (λ r. is_numbered rows r.id) rows.groups) (option_or (breaks 1 Rule (λ r. r.id) (λ r. is_numbered rows r.id) rows.rules) (option_or (breaks 1 Router (λ r. r.id) (λ r. is_numbered rows r.id) rows.routers) (option_or (breaks 1 Floating (λ r. r.id) (λ r. is_numbered rows r.id) rows.floatings) (breaks 1 Policy (λ r. r.id) (λ r. is_numbered rows r.id) rows.policies)))) (pass-breaks 1 Group (λ r. r.id) (λ r. is_numbered rows r.id) rows.groups (numbered_of (λ r. r.id) rows.groups c.ids c.drawn.groups))
-      (both_or (breaks 1 Rule (λ r. r.id) (λ r. is_numbered rows r.id) rows.rules) (option_or (breaks 1 Router (λ r. r.id) (λ r. is_numbered rows r.id) rows.routers) (option_or (breaks 1 Floating (λ r. r.id) (λ r. is_numbered rows r.id) rows.floatings) (breaks 1 Policy (λ r. r.id) (λ r. is_numbered rows r.id) rows.policies))) (pass-breaks 1 Rule (λ r. r.id) (λ r. is_numbered rows r.id) rows.rules (numbered_of (λ r. r.id) rows.rules c.ids c.drawn.rules))
-      (both_or (breaks 1 Router (λ r. r.id) (λ r. is_numbered rows r.id) rows.routers) (option_or (breaks 1 Floating (λ r. r.id) (λ r. is_numbered rows r.id) rows.floatings) (breaks 1 Policy (λ r. r.id) (λ r. is_numbered rows r.id) rows.policies)) (pass-breaks 1 Router (λ r. r.id) (λ r. is_numbered rows r.id) rows.routers (numbered_of (λ r. r.id) rows.routers c.ids c.drawn.routers))
-      (both_or (breaks 1 Floating (λ r. r.id) (λ r. is_numbered rows r.id) rows.floatings) (breaks 1 Policy (λ r. r.id) (λ r. is_numbered rows r.id) rows.policies) (pass-breaks 1 Floating (λ r. r.id) (λ r. is_numbered rows r.id) rows.floatings (numbered_of (λ r. r.id) rows.floatings c.ids c.drawn.floatings))
-      (pass-breaks 1 Policy (λ r. r.id) (λ r. is_numbered rows r.id) rows.policies (numbered_of (λ r. r.id) rows.policies c.ids c.drawn.policies)))))))))
+      none_all _ (
+        none_placed 1 Project project_id (project_numbered rows.projects) rows.projects (λ k p at. let o = c.projects.ordered k p at in
+            both_and (p.ordinal == k + 1) _ (is_equal_to p.ordinal (k + 1) o.0) (both_and (nat_lt p.count (2 ^ 62)) _ (is_below p.count (2 ^ 62) o.1)
+            (both_and (nat_le (count_by (is_named p.name) rows.projects) 1) _ (is_at_most (count_by (is_named p.name) rows.projects) 1 (c.projects.names p.name))
+            (both_and (nat_lt (k + 1) (2 ^ 32)) (not (is_empty p.name)) (is_below (k + 1) (2 ^ 32) (place_fits k (slice_get_within rows.projects k p at) c.projects.few)) (c.projects.named k p at))))),
+        (
+          pass-breaks _ _ _ _ _ (numbered_of (λ r. r.id) rows.networks c.ids c.drawn.networks),
+          (
+            pass-breaks _ _ _ _ _ (numbered_of (λ r. r.id) rows.subnets c.ids c.drawn.subnets),
+            (
+              pass-breaks _ _ _ _ _ (numbered_of (λ r. r.id) rows.ports c.ids c.drawn.ports),
+              (
+                pass-breaks _ _ _ _ _ (numbered_of (λ r. r.id) rows.groups c.ids c.drawn.groups),
+                (
+                  pass-breaks _ _ _ _ _ (numbered_of (λ r. r.id) rows.rules c.ids c.drawn.rules),
+                  (
+                    pass-breaks _ _ _ _ _ (numbered_of (λ r. r.id) rows.routers c.ids c.drawn.routers),
+                    (
+                      pass-breaks _ _ _ _ _ (numbered_of (λ r. r.id) rows.floatings c.ids c.drawn.floatings),
+                      (
+                        pass-breaks _ _ _ _ _ (numbered_of (λ r. r.id) rows.policies c.ids c.drawn.policies),
+                        tt,
+                      ),
+                    ),
+                  ),
+                ),
+              ),
+            ),
+          ),
+        ),
+      )
 
   if_both : {X : Type 0} (p q : X → Bool) (o : Option X) → if_some (λ x. p x && q x) o ≡ true → (if_some p o ≡ true) × (if_some q o ≡ true)
   if_both p q None h = (refl, refl)
@@ -167,21 +184,15 @@ module _ (rows : RowLists) where
   pub names_holds : names_broken rows ≡ None → NamesStand rows
   unfolding names_broken
   names_holds h =
-      let s1 = or_both (breaks 2 Network (λ r. r.id) (λ r. is_registered rows.projects r.project) rows.networks) (option_or (breaks 2 Subnet (λ r. r.id) (subnet_named rows) rows.subnets) (option_or (breaks 2 Port (λ r. r.id) (port_named rows) rows.ports) (option_or (breaks 2 Group (λ r. r.id) (λ r. is_registered rows.projects r.project) rows.groups) (option_or (breaks 2 Rule (λ r. r.id) (rule_named rows) rows.rules) (option_or (breaks 2 Router (λ r. r.id) (router_named rows) rows.routers) (option_or (breaks 2 Floating (λ r. r.id) (floating_named rows) rows.floatings) (breaks 2 Policy (λ r. r.id) (policy_named rows) rows.policies))))))) h in
-      let s2 = or_both (breaks 2 Subnet (λ r. r.id) (subnet_named rows) rows.subnets) (option_or (breaks 2 Port (λ r. r.id) (port_named rows) rows.ports) (option_or (breaks 2 Group (λ r. r.id) (λ r. is_registered rows.projects r.project) rows.groups) (option_or (breaks 2 Rule (λ r. r.id) (rule_named rows) rows.rules) (option_or (breaks 2 Router (λ r. r.id) (router_named rows) rows.routers) (option_or (breaks 2 Floating (λ r. r.id) (floating_named rows) rows.floatings) (breaks 2 Policy (λ r. r.id) (policy_named rows) rows.policies)))))) s1.1 in
-      let s3 = or_both (breaks 2 Port (λ r. r.id) (port_named rows) rows.ports) (option_or (breaks 2 Group (λ r. r.id) (λ r. is_registered rows.projects r.project) rows.groups) (option_or (breaks 2 Rule (λ r. r.id) (rule_named rows) rows.rules) (option_or (breaks 2 Router (λ r. r.id) (router_named rows) rows.routers) (option_or (breaks 2 Floating (λ r. r.id) (floating_named rows) rows.floatings) (breaks 2 Policy (λ r. r.id) (policy_named rows) rows.policies))))) s2.1 in
-      let s4 = or_both (breaks 2 Group (λ r. r.id) (λ r. is_registered rows.projects r.project) rows.groups) (option_or (breaks 2 Rule (λ r. r.id) (rule_named rows) rows.rules) (option_or (breaks 2 Router (λ r. r.id) (router_named rows) rows.routers) (option_or (breaks 2 Floating (λ r. r.id) (floating_named rows) rows.floatings) (breaks 2 Policy (λ r. r.id) (policy_named rows) rows.policies)))) s3.1 in
-      let s5 = or_both (breaks 2 Rule (λ r. r.id) (rule_named rows) rows.rules) (option_or (breaks 2 Router (λ r. r.id) (router_named rows) rows.routers) (option_or (breaks 2 Floating (λ r. r.id) (floating_named rows) rows.floatings) (breaks 2 Policy (λ r. r.id) (policy_named rows) rows.policies))) s4.1 in
-      let s6 = or_both (breaks 2 Router (λ r. r.id) (router_named rows) rows.routers) (option_or (breaks 2 Floating (λ r. r.id) (floating_named rows) rows.floatings) (breaks 2 Policy (λ r. r.id) (policy_named rows) rows.policies)) s5.1 in
-      let s7 = or_both (breaks 2 Floating (λ r. r.id) (floating_named rows) rows.floatings) (breaks 2 Policy (λ r. r.id) (policy_named rows) rows.policies) s6.1 in
-      let p1 = breaks-none 2 Network (λ r. r.id) (λ r. is_registered rows.projects r.project) rows.networks s1.0 in
-      let p2 = breaks-none 2 Subnet (λ r. r.id) (subnet_named rows) rows.subnets s2.0 in
-      let p3 = breaks-none 2 Port (λ r. r.id) (port_named rows) rows.ports s3.0 in
-      let p4 = breaks-none 2 Group (λ r. r.id) (λ r. is_registered rows.projects r.project) rows.groups s4.0 in
-      let p5 = breaks-none 2 Rule (λ r. r.id) (rule_named rows) rows.rules s5.0 in
-      let p6 = breaks-none 2 Router (λ r. r.id) (router_named rows) rows.routers s6.0 in
-      let p7 = breaks-none 2 Floating (λ r. r.id) (floating_named rows) rows.floatings s7.0 in
-      let p8 = breaks-none 2 Policy (λ r. r.id) (policy_named rows) rows.policies s7.1 in
+      let s = all_none _ h in
+      let p1 = breaks-none _ _ _ _ _ s.0 in
+      let p2 = breaks-none _ _ _ _ _ s.1.0 in
+      let p3 = breaks-none _ _ _ _ _ s.1.1.0 in
+      let p4 = breaks-none _ _ _ _ _ s.1.1.1.0 in
+      let p5 = breaks-none _ _ _ _ _ s.1.1.1.1.0 in
+      let p6 = breaks-none _ _ _ _ _ s.1.1.1.1.1.0 in
+      let p7 = breaks-none _ _ _ _ _ s.1.1.1.1.1.1.0 in
+      let p8 = breaks-none _ _ _ _ _ s.1.1.1.1.1.1.1.0 in
       record {
         networks = record {
           of_subnets = λ k r at. (and_both (is_network rows.networks r.network) (is_registered rows.projects r.project) (p2 k r at)).0;
@@ -217,27 +228,41 @@ module _ (rows : RowLists) where
   pub names_none : NamesStand rows → names_broken rows ≡ None
   unfolding names_broken
   names_none c =
-      both_or (breaks 2 Network (λ r. r.id) (λ r. is_registered rows.projects r.project) rows.networks) (option_or (breaks 2 Subnet (λ r. r.id) (subnet_named rows) rows.subnets) (option_or (breaks 2 Port (λ r. r.id) (port_named rows) rows.ports) (option_or (breaks 2 Group (λ r. r.id) (λ r. is_registered rows.projects r.project) rows.groups) (option_or (breaks 2 Rule (λ r. r.id) (rule_named rows) rows.rules) (option_or (breaks 2 Router (λ r. r.id) (router_named rows) rows.routers) (option_or (breaks 2 Floating (λ r. r.id) (floating_named rows) rows.floatings) (breaks 2 Policy (λ r. r.id) (policy_named rows) rows.policies))))))) (pass-breaks 2 Network (λ r. r.id) (λ r. is_registered rows.projects r.project) rows.networks (c.projects.of_networks))
-      (both_or (breaks 2 Subnet (λ r. r.id) (subnet_named rows) rows.subnets) (option_or (breaks 2 Port (λ r. r.id) (port_named rows) rows.ports) (option_or (breaks 2 Group (λ r. r.id) (λ r. is_registered rows.projects r.project) rows.groups) (option_or (breaks 2 Rule (λ r. r.id) (rule_named rows) rows.rules) (option_or (breaks 2 Router (λ r. r.id) (router_named rows) rows.routers) (option_or (breaks 2 Floating (λ r. r.id) (floating_named rows) rows.floatings) (breaks 2 Policy (λ r. r.id) (policy_named rows) rows.policies)))))) (pass-breaks 2 Subnet (λ r. r.id) (subnet_named rows) rows.subnets (λ k r at. both_and _ _ (c.networks.of_subnets k r at) (c.projects.of_subnets k r at)))
-      (both_or (breaks 2 Port (λ r. r.id) (port_named rows) rows.ports) (option_or (breaks 2 Group (λ r. r.id) (λ r. is_registered rows.projects r.project) rows.groups) (option_or (breaks 2 Rule (λ r. r.id) (rule_named rows) rows.rules) (option_or (breaks 2 Router (λ r. r.id) (router_named rows) rows.routers) (option_or (breaks 2 Floating (λ r. r.id) (floating_named rows) rows.floatings) (breaks 2 Policy (λ r. r.id) (policy_named rows) rows.policies))))) (pass-breaks 2 Port (λ r. r.id) (port_named rows) rows.ports (λ k r at. both_and _ _ (c.networks.of_ports k r at) (both_and _ _ (c.subnets.of_ports k r at) (both_and _ _ (c.groups.of_ports k r at) (c.projects.of_ports k r at)))))
-      (both_or (breaks 2 Group (λ r. r.id) (λ r. is_registered rows.projects r.project) rows.groups) (option_or (breaks 2 Rule (λ r. r.id) (rule_named rows) rows.rules) (option_or (breaks 2 Router (λ r. r.id) (router_named rows) rows.routers) (option_or (breaks 2 Floating (λ r. r.id) (floating_named rows) rows.floatings) (breaks 2 Policy (λ r. r.id) (policy_named rows) rows.policies)))) (pass-breaks 2 Group (λ r. r.id) (λ r. is_registered rows.projects r.project) rows.groups (c.projects.of_groups))
-      (both_or (breaks 2 Rule (λ r. r.id) (rule_named rows) rows.rules) (option_or (breaks 2 Router (λ r. r.id) (router_named rows) rows.routers) (option_or (breaks 2 Floating (λ r. r.id) (floating_named rows) rows.floatings) (breaks 2 Policy (λ r. r.id) (policy_named rows) rows.policies))) (pass-breaks 2 Rule (λ r. r.id) (rule_named rows) rows.rules (λ k r at. both_and _ _ (c.groups.of_rules k r at) (both_and _ _ (c.groups.of_remotes k r at) (c.projects.of_rules k r at))))
-      (both_or (breaks 2 Router (λ r. r.id) (router_named rows) rows.routers) (option_or (breaks 2 Floating (λ r. r.id) (floating_named rows) rows.floatings) (breaks 2 Policy (λ r. r.id) (policy_named rows) rows.policies)) (pass-breaks 2 Router (λ r. r.id) (router_named rows) rows.routers (λ k r at. both_and _ _ (both_of_if (λ (g : Gateway). is_network rows.networks g.network) (λ (g : Gateway). is_port rows.ports g.port) r.gateway (c.networks.of_gateways k r at) (c.ports.of_gateways k r at)) (c.projects.of_routers k r at)))
-      (both_or (breaks 2 Floating (λ r. r.id) (floating_named rows) rows.floatings) (breaks 2 Policy (λ r. r.id) (policy_named rows) rows.policies) (pass-breaks 2 Floating (λ r. r.id) (floating_named rows) rows.floatings (λ k r at. both_and _ _ (c.networks.of_floatings k r at) (both_and _ _ (c.ports.of_floatings k r at) (both_and _ _ (both_of_if (λ (t : Target). is_port rows.ports t.port) (λ (t : Target). is_router rows.routers t.router) r.target (c.ports.of_targets k r at) (c.routers.of_targets k r at)) (c.projects.of_floatings k r at)))))
-      (pass-breaks 2 Policy (λ r. r.id) (policy_named rows) rows.policies (λ k r at. both_and _ _ (c.networks.of_policies k r at) (c.projects.of_policies k r at)))))))))
+      none_all _ (
+        pass-breaks _ _ _ _ _ (c.projects.of_networks),
+        (
+          pass-breaks _ _ _ _ _ (λ k r at. both_and _ _ (c.networks.of_subnets k r at) (c.projects.of_subnets k r at)),
+          (
+            pass-breaks _ _ _ _ _ (λ k r at. both_and _ _ (c.networks.of_ports k r at) (both_and _ _ (c.subnets.of_ports k r at) (both_and _ _ (c.groups.of_ports k r at) (c.projects.of_ports k r at)))),
+            (
+              pass-breaks _ _ _ _ _ (c.projects.of_groups),
+              (
+                pass-breaks _ _ _ _ _ (λ k r at. both_and _ _ (c.groups.of_rules k r at) (both_and _ _ (c.groups.of_remotes k r at) (c.projects.of_rules k r at))),
+                (
+                  pass-breaks _ _ _ _ _ (λ k r at. both_and _ _ (both_of_if (λ (g : Gateway). is_network rows.networks g.network) (λ (g : Gateway). is_port rows.ports g.port) r.gateway (c.networks.of_gateways k r at) (c.ports.of_gateways k r at)) (c.projects.of_routers k r at)),
+                  (
+                    pass-breaks _ _ _ _ _ (λ k r at. both_and _ _ (c.networks.of_floatings k r at) (both_and _ _ (c.ports.of_floatings k r at) (both_and _ _ (both_of_if (λ (t : Target). is_port rows.ports t.port) (λ (t : Target). is_router rows.routers t.router) r.target (c.ports.of_targets k r at) (c.routers.of_targets k r at)) (c.projects.of_floatings k r at)))),
+                    (
+                      pass-breaks _ _ _ _ _ (λ k r at. both_and _ _ (c.networks.of_policies k r at) (c.projects.of_policies k r at)),
+                      tt,
+                    ),
+                  ),
+                ),
+              ),
+            ),
+          ),
+        ),
+      )
 
   pub forms_holds : forms_broken rows ≡ None → AreInForm rows.networks rows.subnets rows.ports rows.groups rows.rules rows.routers
   unfolding forms_broken
   forms_holds h =
-      let s1 = or_both (breaks 3 Network (λ r. r.id) (λ r. is_segment r.segment) rows.networks) (option_or (breaks 3 Subnet (λ r. r.id) (subnet_formed rows.networks) rows.subnets) (option_or (breaks 3 Port (λ r. r.id) (port_formed rows.networks) rows.ports) (option_or (breaks 3 Rule (λ r. r.id) (λ r. is_group_of rows.groups r.project r.group) rows.rules) (breaks 3 Router (λ r. r.id) (λ r. nat_le (length r.routes) 30) rows.routers)))) h in
-      let s2 = or_both (breaks 3 Subnet (λ r. r.id) (subnet_formed rows.networks) rows.subnets) (option_or (breaks 3 Port (λ r. r.id) (port_formed rows.networks) rows.ports) (option_or (breaks 3 Rule (λ r. r.id) (λ r. is_group_of rows.groups r.project r.group) rows.rules) (breaks 3 Router (λ r. r.id) (λ r. nat_le (length r.routes) 30) rows.routers))) s1.1 in
-      let s3 = or_both (breaks 3 Port (λ r. r.id) (port_formed rows.networks) rows.ports) (option_or (breaks 3 Rule (λ r. r.id) (λ r. is_group_of rows.groups r.project r.group) rows.rules) (breaks 3 Router (λ r. r.id) (λ r. nat_le (length r.routes) 30) rows.routers)) s2.1 in
-      let s4 = or_both (breaks 3 Rule (λ r. r.id) (λ r. is_group_of rows.groups r.project r.group) rows.rules) (breaks 3 Router (λ r. r.id) (λ r. nat_le (length r.routes) 30) rows.routers) s3.1 in
-      let p1 = breaks-none 3 Network (λ r. r.id) (λ r. is_segment r.segment) rows.networks s1.0 in
-      let p2 = breaks-none 3 Subnet (λ r. r.id) (subnet_formed rows.networks) rows.subnets s2.0 in
-      let p3 = breaks-none 3 Port (λ r. r.id) (port_formed rows.networks) rows.ports s3.0 in
-      let p4 = breaks-none 3 Rule (λ r. r.id) (λ r. is_group_of rows.groups r.project r.group) rows.rules s4.0 in
-      let p5 = breaks-none 3 Router (λ r. r.id) (λ r. nat_le (length r.routes) 30) rows.routers s4.1 in
+      let s = all_none _ h in
+      let p1 = breaks-none _ _ _ _ _ s.0 in
+      let p2 = breaks-none _ _ _ _ _ s.1.0 in
+      let p3 = breaks-none _ _ _ _ _ s.1.1.0 in
+      let p4 = breaks-none _ _ _ _ _ s.1.1.1.0 in
+      let p5 = breaks-none _ _ _ _ _ s.1.1.1.1.0 in
       record {
         segments = p1;
         subnet_owners = λ k r at. (and_both (is_network_of rows.networks r.project r.network) (is_subnet_form r) (p2 k r at)).0;
@@ -251,11 +276,22 @@ module _ (rows : RowLists) where
   pub forms_none : AreInForm rows.networks rows.subnets rows.ports rows.groups rows.rules rows.routers → forms_broken rows ≡ None
   unfolding forms_broken
   forms_none c =
-      both_or (breaks 3 Network (λ r. r.id) (λ r. is_segment r.segment) rows.networks) (option_or (breaks 3 Subnet (λ r. r.id) (subnet_formed rows.networks) rows.subnets) (option_or (breaks 3 Port (λ r. r.id) (port_formed rows.networks) rows.ports) (option_or (breaks 3 Rule (λ r. r.id) (λ r. is_group_of rows.groups r.project r.group) rows.rules) (breaks 3 Router (λ r. r.id) (λ r. nat_le (length r.routes) 30) rows.routers)))) (pass-breaks 3 Network (λ r. r.id) (λ r. is_segment r.segment) rows.networks (c.segments))
-      (both_or (breaks 3 Subnet (λ r. r.id) (subnet_formed rows.networks) rows.subnets) (option_or (breaks 3 Port (λ r. r.id) (port_formed rows.networks) rows.ports) (option_or (breaks 3 Rule (λ r. r.id) (λ r. is_group_of rows.groups r.project r.group) rows.rules) (breaks 3 Router (λ r. r.id) (λ r. nat_le (length r.routes) 30) rows.routers))) (pass-breaks 3 Subnet (λ r. r.id) (subnet_formed rows.networks) rows.subnets (λ k r at. both_and _ _ (c.subnet_owners k r at) (c.subnet_forms k r at)))
-      (both_or (breaks 3 Port (λ r. r.id) (port_formed rows.networks) rows.ports) (option_or (breaks 3 Rule (λ r. r.id) (λ r. is_group_of rows.groups r.project r.group) rows.rules) (breaks 3 Router (λ r. r.id) (λ r. nat_le (length r.routes) 30) rows.routers)) (pass-breaks 3 Port (λ r. r.id) (port_formed rows.networks) rows.ports (λ k r at. both_and _ _ (c.dhcp_owners k r at) (c.port_forms k r at)))
-      (both_or (breaks 3 Rule (λ r. r.id) (λ r. is_group_of rows.groups r.project r.group) rows.rules) (breaks 3 Router (λ r. r.id) (λ r. nat_le (length r.routes) 30) rows.routers) (pass-breaks 3 Rule (λ r. r.id) (λ r. is_group_of rows.groups r.project r.group) rows.rules (c.rule_owners))
-      (pass-breaks 3 Router (λ r. r.id) (λ r. nat_le (length r.routes) 30) rows.routers (c.routes)))))
+      none_all _ (
+        pass-breaks _ _ _ _ _ (c.segments),
+        (
+          pass-breaks _ _ _ _ _ (λ k r at. both_and _ _ (c.subnet_owners k r at) (c.subnet_forms k r at)),
+          (
+            pass-breaks _ _ _ _ _ (λ k r at. both_and _ _ (c.dhcp_owners k r at) (c.port_forms k r at)),
+            (
+              pass-breaks _ _ _ _ _ (c.rule_owners),
+              (
+                pass-breaks _ _ _ _ _ (c.routes),
+                tt,
+              ),
+            ),
+          ),
+        ),
+      )
 
   -- whether a held address is this one
   abbrev holds_at : Addr → Fixed → Bool
@@ -272,7 +308,7 @@ module _ (rows : RowLists) where
 
   held_holds : breaks 4 Port (λ r. r.id) (port_alone rows.ports) rows.ports ≡ None → AreHeldOnce rows.ports
   held_holds h =
-      let p1 = breaks-none 4 Port (λ r. r.id) (port_alone rows.ports) rows.ports h in
+      let p1 = breaks-none _ _ _ _ _ h in
       record {
         macs = λ network mac. once_by_rows (λ (p : PortRow). (p.network, p.mac)) (λ (key : Ident × ℕ) p. has_mac key.0 key.1 p)
             (λ (key : Ident × ℕ) p e. let both = and_both (ident_eq key.0 p.network) (p.mac == key.1) e in
@@ -295,22 +331,27 @@ module _ (rows : RowLists) where
       }
 
   held_none : AreHeldOnce rows.ports → breaks 4 Port (λ r. r.id) (port_alone rows.ports) rows.ports ≡ None
-  held_none c = pass-breaks 4 Port (λ r. r.id) (port_alone rows.ports) rows.ports (λ k p at. both_and _ _ (is_at_most (count_by (has_mac p.network p.mac) rows.ports) 1 (c.macs p.network p.mac))
+  held_none c = pass-breaks _ _ _ _ _ (λ k p at. both_and _ _ (is_at_most (count_by (has_mac p.network p.mac) rows.ports) 1 (c.macs p.network p.mac))
       (at-all (is_held_once rows.ports p.network) p.fixed (λ l f at_f. is_at_most (sum_by (holds_times p.network f.address) rows.ports) 1 (c.addresses p.network f.address))))
 
   pub disjoint_holds : disjoint_broken rows ≡ None → AreDisjoint rows.subnets rows.ports rows.routers
   unfolding disjoint_broken
   disjoint_holds h =
-      let s1 = or_both (breaks 6 Subnet (λ r. r.id) (λ r. not (list_any (subnets_clash r) rows.subnets)) rows.subnets) (breaks 6 Port (λ r. r.id) (λ r. not (list_any (ports_clash rows.routers rows.subnets r) rows.ports)) rows.ports) h in
-      let p1 = breaks-none 6 Subnet (λ r. r.id) (λ r. not (list_any (subnets_clash r) rows.subnets)) rows.subnets s1.0 in
-      let p2 = breaks-none 6 Port (λ r. r.id) (λ r. not (list_any (ports_clash rows.routers rows.subnets r) rows.ports)) rows.ports s1.1 in
+      let s = all_none _ h in
+      let p1 = breaks-none _ _ _ _ _ s.0 in
+      let p2 = breaks-none _ _ _ _ _ s.1.0 in
       record { in_network = p1; at_router = p2 }
 
   pub disjoint_none : AreDisjoint rows.subnets rows.ports rows.routers → disjoint_broken rows ≡ None
   unfolding disjoint_broken
   disjoint_none c =
-      both_or (breaks 6 Subnet (λ r. r.id) (λ r. not (list_any (subnets_clash r) rows.subnets)) rows.subnets) (breaks 6 Port (λ r. r.id) (λ r. not (list_any (ports_clash rows.routers rows.subnets r) rows.ports)) rows.ports) (pass-breaks 6 Subnet (λ r. r.id) (λ r. not (list_any (subnets_clash r) rows.subnets)) rows.subnets (c.in_network))
-      (pass-breaks 6 Port (λ r. r.id) (λ r. not (list_any (ports_clash rows.routers rows.subnets r) rows.ports)) rows.ports (c.at_router))
+      none_all _ (
+        pass-breaks _ _ _ _ _ (c.in_network),
+        (
+          pass-breaks _ _ _ _ _ (c.at_router),
+          tt,
+        ),
+      )
 
   -- segments that meet a third one meet each other
   meets_own : (a b : Segment) → same_segment a b ≡ true → (c : Segment) → same_segment a c ≡ true → same_segment b c ≡ true
@@ -430,24 +471,22 @@ module _ (rows : RowLists) where
 
   placing_holds : (carried : List ℕ → Segment → Bool) → breaks 8 Port (λ r. r.id) (port_placed carried rows) rows.ports ≡ None → AreOnHosts rows.ports rows.routers × AreCarried carried rows.networks rows.ports
   placing_holds carried h =
-      let p1 = breaks-none 8 Port (λ r. r.id) (port_placed carried rows) rows.ports h in (
+      let p1 = breaks-none _ _ _ _ _ h in (
         record { at_router = λ k p at. (either (not (is_bound p.vif)) (stands_so (λ n. n.id) p.network (λ n. carried p.host n.segment) rows.networks) (list_all (λ r. not (is_port_of r p) || is_some_so (bytes_eq p.host) r.host) rows.routers) (p1 k p at)).1 },
         record { at_host = λ k p at. (either (not (is_bound p.vif)) (stands_so (λ n. n.id) p.network (λ n. carried p.host n.segment) rows.networks) (list_all (λ r. not (is_port_of r p) || is_some_so (bytes_eq p.host) r.host) rows.routers) (p1 k p at)).0 },
       )
 
   placing_none : (carried : List ℕ → Segment → Bool) → AreOnHosts rows.ports rows.routers → AreCarried carried rows.networks rows.ports → breaks 8 Port (λ r. r.id) (port_placed carried rows) rows.ports ≡ None
-  placing_none carried c d = pass-breaks 8 Port (λ r. r.id) (port_placed carried rows) rows.ports (λ k p at. both_either (not (is_bound p.vif)) (stands_so (λ n. n.id) p.network (λ n. carried p.host n.segment) rows.networks) (list_all (λ r. not (is_port_of r p) || is_some_so (bytes_eq p.host) r.host) rows.routers) (d.at_host k p at) (c.at_router k p at))
+  placing_none carried c d = pass-breaks _ _ _ _ _ (λ k p at. both_either (not (is_bound p.vif)) (stands_so (λ n. n.id) p.network (λ n. carried p.host n.segment) rows.networks) (list_all (λ r. not (is_port_of r p) || is_some_so (bytes_eq p.host) r.host) rows.routers) (d.at_host k p at) (c.at_router k p at))
 
   pub services_holds : services_broken rows ≡ None → ServicesStand rows.networks rows.subnets rows.ports rows.routers rows.floatings
   unfolding services_broken
   services_holds h =
-      let s1 = or_both (breaks 9 Network (λ r. r.id) (network_served rows) rows.networks) (option_or (breaks 9 Port (λ r. r.id) (port_serves rows) rows.ports) (option_or (breaks 9 Router (λ r. r.id) (router_served rows.ports) rows.routers) (breaks 9 Floating (λ r. r.id) (floating_served rows) rows.floatings))) h in
-      let s2 = or_both (breaks 9 Port (λ r. r.id) (port_serves rows) rows.ports) (option_or (breaks 9 Router (λ r. r.id) (router_served rows.ports) rows.routers) (breaks 9 Floating (λ r. r.id) (floating_served rows) rows.floatings)) s1.1 in
-      let s3 = or_both (breaks 9 Router (λ r. r.id) (router_served rows.ports) rows.routers) (breaks 9 Floating (λ r. r.id) (floating_served rows) rows.floatings) s2.1 in
-      let p1 = breaks-none 9 Network (λ r. r.id) (network_served rows) rows.networks s1.0 in
-      let p2 = breaks-none 9 Port (λ r. r.id) (port_serves rows) rows.ports s2.0 in
-      let p3 = breaks-none 9 Router (λ r. r.id) (router_served rows.ports) rows.routers s3.0 in
-      let p4 = breaks-none 9 Floating (λ r. r.id) (floating_served rows) rows.floatings s3.1 in
+      let s = all_none _ h in
+      let p1 = breaks-none _ _ _ _ _ s.0 in
+      let p2 = breaks-none _ _ _ _ _ s.1.0 in
+      let p3 = breaks-none _ _ _ _ _ s.1.1.0 in
+      let p4 = breaks-none _ _ _ _ _ s.1.1.1.0 in
       record {
         dhcp = record {
           there = λ k n at. equal_to (count_by (is_dhcp_of n.id) rows.ports) (cond (wants_dhcp rows.subnets n.id) 1 0) (p1 k n at);
@@ -473,15 +512,24 @@ module _ (rows : RowLists) where
   pub services_none : ServicesStand rows.networks rows.subnets rows.ports rows.routers rows.floatings → services_broken rows ≡ None
   unfolding services_broken
   services_none c =
-      both_or (breaks 9 Network (λ r. r.id) (network_served rows) rows.networks) (option_or (breaks 9 Port (λ r. r.id) (port_serves rows) rows.ports) (option_or (breaks 9 Router (λ r. r.id) (router_served rows.ports) rows.routers) (breaks 9 Floating (λ r. r.id) (floating_served rows) rows.floatings))) (pass-breaks 9 Network (λ r. r.id) (network_served rows) rows.networks (λ k n at. is_equal_to (count_by (is_dhcp_of n.id) rows.ports) (cond (wants_dhcp rows.subnets n.id) 1 0) (c.dhcp.there k n at)))
-      (both_or (breaks 9 Port (λ r. r.id) (port_serves rows) rows.ports) (option_or (breaks 9 Router (λ r. r.id) (router_served rows.ports) rows.routers) (breaks 9 Floating (λ r. r.id) (floating_served rows) rows.floatings)) (pass-breaks 9 Port (λ r. r.id) (port_serves rows) rows.ports (λ k r at. both_and (dhcp_serves rows.subnets r) (router_port_serves rows.routers r && (not (is_own_port rows.floatings r.id) || not r.secured))
-      (both_either (not (is_dhcp r.owner)) (list_all (leases r) rows.subnets) (list_all (is_leased rows.subnets) r.fixed && not r.secured) (c.dhcp.holds k r at) (both_either (not (is_dhcp r.owner)) (list_all (is_leased rows.subnets) r.fixed) (not r.secured) (c.dhcp.no_other k r at) (c.dhcp.unsecured k r at)))
-      (both_and (router_port_serves rows.routers r) (not (is_own_port rows.floatings r.id) || not r.secured)
-      (both_and (not (is_router_port r.owner) || (list_any (λ q. is_port_of q r) rows.routers && not r.secured)) ((not (is_interface r.owner) || is_one r.fixed) && (not (is_gateway r.owner) || not (is_empty r.fixed))) (both_either (not (is_router_port r.owner)) (list_any (λ q. is_port_of q r) rows.routers) (not r.secured) (c.of_routers.devices k r at) (c.of_routers.unsecured k r at))
-      (both_and (not (is_interface r.owner) || is_one r.fixed) (not (is_gateway r.owner) || not (is_empty r.fixed)) (c.of_routers.interfaces k r at) (c.of_routers.gateways k r at)))
-      (c.of_floatings.unsecured k r at))))
-      (both_or (breaks 9 Router (λ r. r.id) (router_served rows.ports) rows.routers) (breaks 9 Floating (λ r. r.id) (floating_served rows) rows.floatings) (pass-breaks 9 Router (λ r. r.id) (router_served rows.ports) rows.routers (λ k r at. both_and (count_by (is_gateway_of r.id) rows.ports == wanted_gateways r.gateway) (if_some (λ g. list_any (is_named_gateway r g) rows.ports) r.gateway) (is_equal_to (count_by (is_gateway_of r.id) rows.ports) (wanted_gateways r.gateway) (c.of_routers.counts k r at)) (c.of_routers.named k r at)))
-      (pass-breaks 9 Floating (λ r. r.id) (floating_served rows) rows.floatings (λ k r at. both_and (nat_le (count_by (λ g. ident_eq r.own_port g.own_port) rows.floatings) 1) (stands_so (λ p. p.id) r.own_port (is_port_for r) rows.ports) (is_at_most (count_by (λ g. ident_eq r.own_port g.own_port) rows.floatings) 1 (c.of_floatings.once r.own_port)) (c.of_floatings.there k r at)))))
+      none_all _ (
+        pass-breaks _ _ _ _ _ (λ k n at. is_equal_to (count_by (is_dhcp_of n.id) rows.ports) (cond (wants_dhcp rows.subnets n.id) 1 0) (c.dhcp.there k n at)),
+        (
+          pass-breaks _ _ _ _ _ (λ k r at. both_and (dhcp_serves rows.subnets r) (router_port_serves rows.routers r && (not (is_own_port rows.floatings r.id) || not r.secured))
+              (both_either (not (is_dhcp r.owner)) (list_all (leases r) rows.subnets) (list_all (is_leased rows.subnets) r.fixed && not r.secured) (c.dhcp.holds k r at) (both_either (not (is_dhcp r.owner)) (list_all (is_leased rows.subnets) r.fixed) (not r.secured) (c.dhcp.no_other k r at) (c.dhcp.unsecured k r at)))
+              (both_and (router_port_serves rows.routers r) (not (is_own_port rows.floatings r.id) || not r.secured)
+              (both_and (not (is_router_port r.owner) || (list_any (λ q. is_port_of q r) rows.routers && not r.secured)) ((not (is_interface r.owner) || is_one r.fixed) && (not (is_gateway r.owner) || not (is_empty r.fixed))) (both_either (not (is_router_port r.owner)) (list_any (λ q. is_port_of q r) rows.routers) (not r.secured) (c.of_routers.devices k r at) (c.of_routers.unsecured k r at))
+              (both_and (not (is_interface r.owner) || is_one r.fixed) (not (is_gateway r.owner) || not (is_empty r.fixed)) (c.of_routers.interfaces k r at) (c.of_routers.gateways k r at)))
+              (c.of_floatings.unsecured k r at))),
+          (
+            pass-breaks _ _ _ _ _ (λ k r at. both_and (count_by (is_gateway_of r.id) rows.ports == wanted_gateways r.gateway) (if_some (λ g. list_any (is_named_gateway r g) rows.ports) r.gateway) (is_equal_to (count_by (is_gateway_of r.id) rows.ports) (wanted_gateways r.gateway) (c.of_routers.counts k r at)) (c.of_routers.named k r at)),
+            (
+              pass-breaks _ _ _ _ _ (λ k r at. both_and (nat_le (count_by (λ g. ident_eq r.own_port g.own_port) rows.floatings) 1) (stands_so (λ p. p.id) r.own_port (is_port_for r) rows.ports) (is_at_most (count_by (λ g. ident_eq r.own_port g.own_port) rows.floatings) 1 (c.of_floatings.once r.own_port)) (c.of_floatings.there k r at)),
+              tt,
+            ),
+          ),
+        ),
+      )
 
   -- a floating address's target, as its own key
   stands_key : (network port : Ident) (x : ℕ) (f : FloatingRow) (t : Target) → f.target ≡ Some t → stands_for network port x f ≡ true → (network ≡ f.network) × (port ≡ t.port) × (t.fixed ≡ x)
@@ -507,14 +555,14 @@ module _ (rows : RowLists) where
 
   floatings_holds : breaks 10 Floating (λ r. r.id) (floating_leads rows) rows.floatings ≡ None → FloatingsLead rows.ports rows.routers rows.floatings
   floatings_holds h =
-      let p1 = breaks-none 10 Floating (λ r. r.id) (floating_leads rows) rows.floatings h in
+      let p1 = breaks-none _ _ _ _ _ h in
       record {
         once = target_once p1;
         targets = λ k f at. (if_both (target_alone rows.floatings f) (leads_to rows.ports rows.routers f) f.target (p1 k f at)).1;
       }
 
   floatings_none : FloatingsLead rows.ports rows.routers rows.floatings → breaks 10 Floating (λ r. r.id) (floating_leads rows) rows.floatings ≡ None
-  floatings_none c = pass-breaks 10 Floating (λ r. r.id) (floating_leads rows) rows.floatings (λ k f at. both_of_if (target_alone rows.floatings f) (leads_to rows.ports rows.routers f) f.target
+  floatings_none c = pass-breaks _ _ _ _ _ (λ k f at. both_of_if (target_alone rows.floatings f) (leads_to rows.ports rows.routers f) f.target
       (always f.target (λ (t : Target). is_at_most (count_by (stands_for f.network t.port t.fixed) rows.floatings) 1 (c.once f.network t.port t.fixed))) (c.targets k f at))
     where
       always : {X : Type 0} {p : X → Bool} (o : Option X) → ((x : X) → p x ≡ true) → if_some p o ≡ true
@@ -524,11 +572,10 @@ module _ (rows : RowLists) where
   pub groups_holds : groups_broken rows ≡ None → GroupsServe rows.projects rows.ports rows.groups rows.rules
   unfolding groups_broken
   groups_holds h =
-      let s1 = or_both (breaks 11 Project project_id (project_grouped rows.groups) rows.projects) (option_or (breaks 11 Port (λ r. r.id) (port_grouped rows.groups) rows.ports) (breaks 11 Rule (λ r. r.id) (rule_grouped rows.groups rows.rules) rows.rules)) h in
-      let s2 = or_both (breaks 11 Port (λ r. r.id) (port_grouped rows.groups) rows.ports) (breaks 11 Rule (λ r. r.id) (rule_grouped rows.groups rows.rules) rows.rules) s1.1 in
-      let p1 = breaks-none 11 Project project_id (project_grouped rows.groups) rows.projects s1.0 in
-      let p2 = breaks-none 11 Port (λ r. r.id) (port_grouped rows.groups) rows.ports s2.0 in
-      let p3 = breaks-none 11 Rule (λ r. r.id) (rule_grouped rows.groups rows.rules) rows.rules s2.1 in
+      let s = all_none _ h in
+      let p1 = breaks-none _ _ _ _ _ s.0 in
+      let p2 = breaks-none _ _ _ _ _ s.1.0 in
+      let p3 = breaks-none _ _ _ _ _ s.1.1.0 in
       record {
         defaults = λ k p at. equal_to (count_by (is_default_of p.name) rows.groups) 1 (p1 k p at);
         of_ports = λ k r at. (and_both (list_all (is_group_of rows.groups r.project) r.groups) (r.secured || (is_empty r.groups && is_empty r.pairs)) (p2 k r at)).0;
@@ -540,9 +587,16 @@ module _ (rows : RowLists) where
   pub groups_none : GroupsServe rows.projects rows.ports rows.groups rows.rules → groups_broken rows ≡ None
   unfolding groups_broken
   groups_none c =
-      both_or (breaks 11 Project project_id (project_grouped rows.groups) rows.projects) (option_or (breaks 11 Port (λ r. r.id) (port_grouped rows.groups) rows.ports) (breaks 11 Rule (λ r. r.id) (rule_grouped rows.groups rows.rules) rows.rules)) (pass-breaks 11 Project project_id (project_grouped rows.groups) rows.projects (λ k p at. is_equal_to (count_by (is_default_of p.name) rows.groups) 1 (c.defaults k p at)))
-      (both_or (breaks 11 Port (λ r. r.id) (port_grouped rows.groups) rows.ports) (breaks 11 Rule (λ r. r.id) (rule_grouped rows.groups rows.rules) rows.rules) (pass-breaks 11 Port (λ r. r.id) (port_grouped rows.groups) rows.ports (λ k r at. both_and _ _ (c.of_ports k r at) (c.bare k r at)))
-      (pass-breaks 11 Rule (λ r. r.id) (rule_grouped rows.groups rows.rules) rows.rules (λ k r at. both_and _ _ (c.remotes k r at) (c.apart k r at))))
+      none_all _ (
+        pass-breaks _ _ _ _ _ (λ k p at. is_equal_to (count_by (is_default_of p.name) rows.groups) 1 (c.defaults k p at)),
+        (
+          pass-breaks _ _ _ _ _ (λ k r at. both_and _ _ (c.of_ports k r at) (c.bare k r at)),
+          (
+            pass-breaks _ _ _ _ _ (λ k r at. both_and _ _ (c.remotes k r at) (c.apart k r at)),
+            tt,
+          ),
+        ),
+      )
 
   same_key : (p q r : PolicyRow) → same_policy p q ≡ true → same_policy p r ≡ same_policy q r
   same_key p q r h =
@@ -568,52 +622,46 @@ module _ (rows : RowLists) where
   pub outsides_holds : outsides_broken rows ≡ None → OutsidesAreAllowed rows.routers rows.floatings rows.policies
   unfolding outsides_broken
   outsides_holds h =
-      let s1 = or_both (breaks 13 Router (λ r. r.id) (router_permitted rows.policies) rows.routers) (option_or (breaks 13 Floating (λ r. r.id) (λ r. is_external_to rows.policies r.network r.project) rows.floatings) (breaks 13 Policy (λ r. r.id) (policy_alone rows.policies) rows.policies)) h in
-      let s2 = or_both (breaks 13 Floating (λ r. r.id) (λ r. is_external_to rows.policies r.network r.project) rows.floatings) (breaks 13 Policy (λ r. r.id) (policy_alone rows.policies) rows.policies) s1.1 in
-      let p1 = breaks-none 13 Router (λ r. r.id) (router_permitted rows.policies) rows.routers s1.0 in
-      let p2 = breaks-none 13 Floating (λ r. r.id) (λ r. is_external_to rows.policies r.network r.project) rows.floatings s2.0 in
-      let p3 = breaks-none 13 Policy (λ r. r.id) (policy_alone rows.policies) rows.policies s2.1 in
+      let s = all_none _ h in
+      let p1 = breaks-none _ _ _ _ _ s.0 in
+      let p2 = breaks-none _ _ _ _ _ s.1.0 in
+      let p3 = breaks-none _ _ _ _ _ s.1.1.0 in
       record { gateways = p1; addresses = p2; once = policy_once p3 }
 
   pub outsides_none : OutsidesAreAllowed rows.routers rows.floatings rows.policies → outsides_broken rows ≡ None
   unfolding outsides_broken
   outsides_none c =
-      both_or (breaks 13 Router (λ r. r.id) (router_permitted rows.policies) rows.routers) (option_or (breaks 13 Floating (λ r. r.id) (λ r. is_external_to rows.policies r.network r.project) rows.floatings) (breaks 13 Policy (λ r. r.id) (policy_alone rows.policies) rows.policies)) (pass-breaks 13 Router (λ r. r.id) (router_permitted rows.policies) rows.routers (c.gateways))
-      (both_or (breaks 13 Floating (λ r. r.id) (λ r. is_external_to rows.policies r.network r.project) rows.floatings) (breaks 13 Policy (λ r. r.id) (policy_alone rows.policies) rows.policies) (pass-breaks 13 Floating (λ r. r.id) (λ r. is_external_to rows.policies r.network r.project) rows.floatings (c.addresses))
-      (pass-breaks 13 Policy (λ r. r.id) (policy_alone rows.policies) rows.policies (λ k p at. is_at_most (count_by (same_policy p) rows.policies) 1 (c.once p))))
+      none_all _ (
+        pass-breaks _ _ _ _ _ (c.gateways),
+        (
+          pass-breaks _ _ _ _ _ (c.addresses),
+          (
+            pass-breaks _ _ _ _ _ (λ k p at. is_at_most (count_by (same_policy p) rows.policies) 1 (c.once p)),
+            tt,
+          ),
+        ),
+      )
 
   pub consistent_holds : (hosts : List Host) → first_broken_of hosts rows ≡ None → IsConsistent rows × AreCarried (carries hosts) rows.networks rows.ports
   unfolding first_broken_of
   consistent_holds hosts h =
-      let s1 = or_both (numbers_broken rows) (option_or (names_broken rows) (option_or (forms_broken rows) (option_or (breaks 4 Port (λ r. r.id) (port_alone rows.ports) rows.ports) (option_or (breaks 5 Port (λ r. r.id) (λ r. list_all (is_host_in rows.subnets r) r.fixed) rows.ports) (option_or (disjoint_broken rows) (option_or (segments_broken rows) (option_or (breaks 8 Port (λ r. r.id) (port_placed (carries hosts) rows) rows.ports) (option_or (services_broken rows) (option_or (breaks 10 Floating (λ r. r.id) (floating_leads rows) rows.floatings) (option_or (groups_broken rows) (option_or (breaks 12 Port (λ r. r.id) (may_be_there rows.networks rows.policies) rows.ports) (option_or (outsides_broken rows) (breaks 14 Router (λ r. r.id) (λ r. list_all (is_reached rows.subnets rows.ports r) r.routes) rows.routers))))))))))))) h in
-      let s2 = or_both (names_broken rows) (option_or (forms_broken rows) (option_or (breaks 4 Port (λ r. r.id) (port_alone rows.ports) rows.ports) (option_or (breaks 5 Port (λ r. r.id) (λ r. list_all (is_host_in rows.subnets r) r.fixed) rows.ports) (option_or (disjoint_broken rows) (option_or (segments_broken rows) (option_or (breaks 8 Port (λ r. r.id) (port_placed (carries hosts) rows) rows.ports) (option_or (services_broken rows) (option_or (breaks 10 Floating (λ r. r.id) (floating_leads rows) rows.floatings) (option_or (groups_broken rows) (option_or (breaks 12 Port (λ r. r.id) (may_be_there rows.networks rows.policies) rows.ports) (option_or (outsides_broken rows) (breaks 14 Router (λ r. r.id) (λ r. list_all (is_reached rows.subnets rows.ports r) r.routes) rows.routers)))))))))))) s1.1 in
-      let s3 = or_both (forms_broken rows) (option_or (breaks 4 Port (λ r. r.id) (port_alone rows.ports) rows.ports) (option_or (breaks 5 Port (λ r. r.id) (λ r. list_all (is_host_in rows.subnets r) r.fixed) rows.ports) (option_or (disjoint_broken rows) (option_or (segments_broken rows) (option_or (breaks 8 Port (λ r. r.id) (port_placed (carries hosts) rows) rows.ports) (option_or (services_broken rows) (option_or (breaks 10 Floating (λ r. r.id) (floating_leads rows) rows.floatings) (option_or (groups_broken rows) (option_or (breaks 12 Port (λ r. r.id) (may_be_there rows.networks rows.policies) rows.ports) (option_or (outsides_broken rows) (breaks 14 Router (λ r. r.id) (λ r. list_all (is_reached rows.subnets rows.ports r) r.routes) rows.routers))))))))))) s2.1 in
-      let s4 = or_both (breaks 4 Port (λ r. r.id) (port_alone rows.ports) rows.ports) (option_or (breaks 5 Port (λ r. r.id) (λ r. list_all (is_host_in rows.subnets r) r.fixed) rows.ports) (option_or (disjoint_broken rows) (option_or (segments_broken rows) (option_or (breaks 8 Port (λ r. r.id) (port_placed (carries hosts) rows) rows.ports) (option_or (services_broken rows) (option_or (breaks 10 Floating (λ r. r.id) (floating_leads rows) rows.floatings) (option_or (groups_broken rows) (option_or (breaks 12 Port (λ r. r.id) (may_be_there rows.networks rows.policies) rows.ports) (option_or (outsides_broken rows) (breaks 14 Router (λ r. r.id) (λ r. list_all (is_reached rows.subnets rows.ports r) r.routes) rows.routers)))))))))) s3.1 in
-      let s5 = or_both (breaks 5 Port (λ r. r.id) (λ r. list_all (is_host_in rows.subnets r) r.fixed) rows.ports) (option_or (disjoint_broken rows) (option_or (segments_broken rows) (option_or (breaks 8 Port (λ r. r.id) (port_placed (carries hosts) rows) rows.ports) (option_or (services_broken rows) (option_or (breaks 10 Floating (λ r. r.id) (floating_leads rows) rows.floatings) (option_or (groups_broken rows) (option_or (breaks 12 Port (λ r. r.id) (may_be_there rows.networks rows.policies) rows.ports) (option_or (outsides_broken rows) (breaks 14 Router (λ r. r.id) (λ r. list_all (is_reached rows.subnets rows.ports r) r.routes) rows.routers))))))))) s4.1 in
-      let s6 = or_both (disjoint_broken rows) (option_or (segments_broken rows) (option_or (breaks 8 Port (λ r. r.id) (port_placed (carries hosts) rows) rows.ports) (option_or (services_broken rows) (option_or (breaks 10 Floating (λ r. r.id) (floating_leads rows) rows.floatings) (option_or (groups_broken rows) (option_or (breaks 12 Port (λ r. r.id) (may_be_there rows.networks rows.policies) rows.ports) (option_or (outsides_broken rows) (breaks 14 Router (λ r. r.id) (λ r. list_all (is_reached rows.subnets rows.ports r) r.routes) rows.routers)))))))) s5.1 in
-      let s7 = or_both (segments_broken rows) (option_or (breaks 8 Port (λ r. r.id) (port_placed (carries hosts) rows) rows.ports) (option_or (services_broken rows) (option_or (breaks 10 Floating (λ r. r.id) (floating_leads rows) rows.floatings) (option_or (groups_broken rows) (option_or (breaks 12 Port (λ r. r.id) (may_be_there rows.networks rows.policies) rows.ports) (option_or (outsides_broken rows) (breaks 14 Router (λ r. r.id) (λ r. list_all (is_reached rows.subnets rows.ports r) r.routes) rows.routers))))))) s6.1 in
-      let s8 = or_both (breaks 8 Port (λ r. r.id) (port_placed (carries hosts) rows) rows.ports) (option_or (services_broken rows) (option_or (breaks 10 Floating (λ r. r.id) (floating_leads rows) rows.floatings) (option_or (groups_broken rows) (option_or (breaks 12 Port (λ r. r.id) (may_be_there rows.networks rows.policies) rows.ports) (option_or (outsides_broken rows) (breaks 14 Router (λ r. r.id) (λ r. list_all (is_reached rows.subnets rows.ports r) r.routes) rows.routers)))))) s7.1 in
-      let s9 = or_both (services_broken rows) (option_or (breaks 10 Floating (λ r. r.id) (floating_leads rows) rows.floatings) (option_or (groups_broken rows) (option_or (breaks 12 Port (λ r. r.id) (may_be_there rows.networks rows.policies) rows.ports) (option_or (outsides_broken rows) (breaks 14 Router (λ r. r.id) (λ r. list_all (is_reached rows.subnets rows.ports r) r.routes) rows.routers))))) s8.1 in
-      let s10 = or_both (breaks 10 Floating (λ r. r.id) (floating_leads rows) rows.floatings) (option_or (groups_broken rows) (option_or (breaks 12 Port (λ r. r.id) (may_be_there rows.networks rows.policies) rows.ports) (option_or (outsides_broken rows) (breaks 14 Router (λ r. r.id) (λ r. list_all (is_reached rows.subnets rows.ports r) r.routes) rows.routers)))) s9.1 in
-      let s11 = or_both (groups_broken rows) (option_or (breaks 12 Port (λ r. r.id) (may_be_there rows.networks rows.policies) rows.ports) (option_or (outsides_broken rows) (breaks 14 Router (λ r. r.id) (λ r. list_all (is_reached rows.subnets rows.ports r) r.routes) rows.routers))) s10.1 in
-      let s12 = or_both (breaks 12 Port (λ r. r.id) (may_be_there rows.networks rows.policies) rows.ports) (option_or (outsides_broken rows) (breaks 14 Router (λ r. r.id) (λ r. list_all (is_reached rows.subnets rows.ports r) r.routes) rows.routers)) s11.1 in
-      let s13 = or_both (outsides_broken rows) (breaks 14 Router (λ r. r.id) (λ r. list_all (is_reached rows.subnets rows.ports r) r.routes) rows.routers) s12.1 in
-      let placed = placing_holds (carries hosts) s8.0 in (
+      let s = all_none _ h in
+      let placed = placing_holds (carries hosts) s.1.1.1.1.1.1.1.0 in (
         record {
-          numbered = numbers_holds s1.0;
-          named = names_holds s2.0;
-          in_form = forms_holds s3.0;
-          held_once = held_holds s4.0;
-          hosts = record { addresses = breaks-none 5 Port (λ r. r.id) (λ r. list_all (is_host_in rows.subnets r) r.fixed) rows.ports s5.0 };
-          disjoint = disjoint_holds s6.0;
-          segments = segments_holds s7.0;
+          numbered = numbers_holds s.0;
+          named = names_holds s.1.0;
+          in_form = forms_holds s.1.1.0;
+          held_once = held_holds s.1.1.1.0;
+          hosts = record { addresses = breaks-none _ _ _ _ _ s.1.1.1.1.0 };
+          disjoint = disjoint_holds s.1.1.1.1.1.0;
+          segments = segments_holds s.1.1.1.1.1.1.0;
           on_hosts = placed.0;
-          services = services_holds s9.0;
-          floatings = floatings_holds s10.0;
-          groups = groups_holds s11.0;
-          allowed = record { of_ports = breaks-none 12 Port (λ r. r.id) (may_be_there rows.networks rows.policies) rows.ports s12.0 };
-          outsides = outsides_holds s13.0;
-          routes = record { routes = breaks-none 14 Router (λ r. r.id) (λ r. list_all (is_reached rows.subnets rows.ports r) r.routes) rows.routers s13.1 };
+          services = services_holds s.1.1.1.1.1.1.1.1.0;
+          floatings = floatings_holds s.1.1.1.1.1.1.1.1.1.0;
+          groups = groups_holds s.1.1.1.1.1.1.1.1.1.1.0;
+          allowed = record { of_ports = breaks-none _ _ _ _ _ s.1.1.1.1.1.1.1.1.1.1.1.0 };
+          outsides = outsides_holds s.1.1.1.1.1.1.1.1.1.1.1.1.0;
+          routes = record { routes = breaks-none _ _ _ _ _ s.1.1.1.1.1.1.1.1.1.1.1.1.1.0 };
         },
         placed.1,
       )
@@ -621,17 +669,46 @@ module _ (rows : RowLists) where
   pub consistent_none : (hosts : List Host) → IsConsistent rows → AreCarried (carries hosts) rows.networks rows.ports → first_broken_of hosts rows ≡ None
   unfolding first_broken_of
   consistent_none hosts c d =
-      both_or (numbers_broken rows) (option_or (names_broken rows) (option_or (forms_broken rows) (option_or (breaks 4 Port (λ r. r.id) (port_alone rows.ports) rows.ports) (option_or (breaks 5 Port (λ r. r.id) (λ r. list_all (is_host_in rows.subnets r) r.fixed) rows.ports) (option_or (disjoint_broken rows) (option_or (segments_broken rows) (option_or (breaks 8 Port (λ r. r.id) (port_placed (carries hosts) rows) rows.ports) (option_or (services_broken rows) (option_or (breaks 10 Floating (λ r. r.id) (floating_leads rows) rows.floatings) (option_or (groups_broken rows) (option_or (breaks 12 Port (λ r. r.id) (may_be_there rows.networks rows.policies) rows.ports) (option_or (outsides_broken rows) (breaks 14 Router (λ r. r.id) (λ r. list_all (is_reached rows.subnets rows.ports r) r.routes) rows.routers))))))))))))) (numbers_none c.numbered)
-      (both_or (names_broken rows) (option_or (forms_broken rows) (option_or (breaks 4 Port (λ r. r.id) (port_alone rows.ports) rows.ports) (option_or (breaks 5 Port (λ r. r.id) (λ r. list_all (is_host_in rows.subnets r) r.fixed) rows.ports) (option_or (disjoint_broken rows) (option_or (segments_broken rows) (option_or (breaks 8 Port (λ r. r.id) (port_placed (carries hosts) rows) rows.ports) (option_or (services_broken rows) (option_or (breaks 10 Floating (λ r. r.id) (floating_leads rows) rows.floatings) (option_or (groups_broken rows) (option_or (breaks 12 Port (λ r. r.id) (may_be_there rows.networks rows.policies) rows.ports) (option_or (outsides_broken rows) (breaks 14 Router (λ r. r.id) (λ r. list_all (is_reached rows.subnets rows.ports r) r.routes) rows.routers)))))))))))) (names_none c.named)
-      (both_or (forms_broken rows) (option_or (breaks 4 Port (λ r. r.id) (port_alone rows.ports) rows.ports) (option_or (breaks 5 Port (λ r. r.id) (λ r. list_all (is_host_in rows.subnets r) r.fixed) rows.ports) (option_or (disjoint_broken rows) (option_or (segments_broken rows) (option_or (breaks 8 Port (λ r. r.id) (port_placed (carries hosts) rows) rows.ports) (option_or (services_broken rows) (option_or (breaks 10 Floating (λ r. r.id) (floating_leads rows) rows.floatings) (option_or (groups_broken rows) (option_or (breaks 12 Port (λ r. r.id) (may_be_there rows.networks rows.policies) rows.ports) (option_or (outsides_broken rows) (breaks 14 Router (λ r. r.id) (λ r. list_all (is_reached rows.subnets rows.ports r) r.routes) rows.routers))))))))))) (forms_none c.in_form)
-      (both_or (breaks 4 Port (λ r. r.id) (port_alone rows.ports) rows.ports) (option_or (breaks 5 Port (λ r. r.id) (λ r. list_all (is_host_in rows.subnets r) r.fixed) rows.ports) (option_or (disjoint_broken rows) (option_or (segments_broken rows) (option_or (breaks 8 Port (λ r. r.id) (port_placed (carries hosts) rows) rows.ports) (option_or (services_broken rows) (option_or (breaks 10 Floating (λ r. r.id) (floating_leads rows) rows.floatings) (option_or (groups_broken rows) (option_or (breaks 12 Port (λ r. r.id) (may_be_there rows.networks rows.policies) rows.ports) (option_or (outsides_broken rows) (breaks 14 Router (λ r. r.id) (λ r. list_all (is_reached rows.subnets rows.ports r) r.routes) rows.routers)))))))))) (held_none c.held_once)
-      (both_or (breaks 5 Port (λ r. r.id) (λ r. list_all (is_host_in rows.subnets r) r.fixed) rows.ports) (option_or (disjoint_broken rows) (option_or (segments_broken rows) (option_or (breaks 8 Port (λ r. r.id) (port_placed (carries hosts) rows) rows.ports) (option_or (services_broken rows) (option_or (breaks 10 Floating (λ r. r.id) (floating_leads rows) rows.floatings) (option_or (groups_broken rows) (option_or (breaks 12 Port (λ r. r.id) (may_be_there rows.networks rows.policies) rows.ports) (option_or (outsides_broken rows) (breaks 14 Router (λ r. r.id) (λ r. list_all (is_reached rows.subnets rows.ports r) r.routes) rows.routers))))))))) (pass-breaks 5 Port (λ r. r.id) (λ r. list_all (is_host_in rows.subnets r) r.fixed) rows.ports c.hosts.addresses)
-      (both_or (disjoint_broken rows) (option_or (segments_broken rows) (option_or (breaks 8 Port (λ r. r.id) (port_placed (carries hosts) rows) rows.ports) (option_or (services_broken rows) (option_or (breaks 10 Floating (λ r. r.id) (floating_leads rows) rows.floatings) (option_or (groups_broken rows) (option_or (breaks 12 Port (λ r. r.id) (may_be_there rows.networks rows.policies) rows.ports) (option_or (outsides_broken rows) (breaks 14 Router (λ r. r.id) (λ r. list_all (is_reached rows.subnets rows.ports r) r.routes) rows.routers)))))))) (disjoint_none c.disjoint)
-      (both_or (segments_broken rows) (option_or (breaks 8 Port (λ r. r.id) (port_placed (carries hosts) rows) rows.ports) (option_or (services_broken rows) (option_or (breaks 10 Floating (λ r. r.id) (floating_leads rows) rows.floatings) (option_or (groups_broken rows) (option_or (breaks 12 Port (λ r. r.id) (may_be_there rows.networks rows.policies) rows.ports) (option_or (outsides_broken rows) (breaks 14 Router (λ r. r.id) (λ r. list_all (is_reached rows.subnets rows.ports r) r.routes) rows.routers))))))) (segments_none c.segments)
-      (both_or (breaks 8 Port (λ r. r.id) (port_placed (carries hosts) rows) rows.ports) (option_or (services_broken rows) (option_or (breaks 10 Floating (λ r. r.id) (floating_leads rows) rows.floatings) (option_or (groups_broken rows) (option_or (breaks 12 Port (λ r. r.id) (may_be_there rows.networks rows.policies) rows.ports) (option_or (outsides_broken rows) (breaks 14 Router (λ r. r.id) (λ r. list_all (is_reached rows.subnets rows.ports r) r.routes) rows.routers)))))) (placing_none (carries hosts) c.on_hosts d)
-      (both_or (services_broken rows) (option_or (breaks 10 Floating (λ r. r.id) (floating_leads rows) rows.floatings) (option_or (groups_broken rows) (option_or (breaks 12 Port (λ r. r.id) (may_be_there rows.networks rows.policies) rows.ports) (option_or (outsides_broken rows) (breaks 14 Router (λ r. r.id) (λ r. list_all (is_reached rows.subnets rows.ports r) r.routes) rows.routers))))) (services_none c.services)
-      (both_or (breaks 10 Floating (λ r. r.id) (floating_leads rows) rows.floatings) (option_or (groups_broken rows) (option_or (breaks 12 Port (λ r. r.id) (may_be_there rows.networks rows.policies) rows.ports) (option_or (outsides_broken rows) (breaks 14 Router (λ r. r.id) (λ r. list_all (is_reached rows.subnets rows.ports r) r.routes) rows.routers)))) (floatings_none c.floatings)
-      (both_or (groups_broken rows) (option_or (breaks 12 Port (λ r. r.id) (may_be_there rows.networks rows.policies) rows.ports) (option_or (outsides_broken rows) (breaks 14 Router (λ r. r.id) (λ r. list_all (is_reached rows.subnets rows.ports r) r.routes) rows.routers))) (groups_none c.groups)
-      (both_or (breaks 12 Port (λ r. r.id) (may_be_there rows.networks rows.policies) rows.ports) (option_or (outsides_broken rows) (breaks 14 Router (λ r. r.id) (λ r. list_all (is_reached rows.subnets rows.ports r) r.routes) rows.routers)) (pass-breaks 12 Port (λ r. r.id) (may_be_there rows.networks rows.policies) rows.ports c.allowed.of_ports)
-      (both_or (outsides_broken rows) (breaks 14 Router (λ r. r.id) (λ r. list_all (is_reached rows.subnets rows.ports r) r.routes) rows.routers) (outsides_none c.outsides)
-      (pass-breaks 14 Router (λ r. r.id) (λ r. list_all (is_reached rows.subnets rows.ports r) r.routes) rows.routers c.routes.routes)))))))))))))
+      none_all _ (
+        numbers_none c.numbered,
+        (
+          names_none c.named,
+          (
+            forms_none c.in_form,
+            (
+              held_none c.held_once,
+              (
+                pass-breaks _ _ _ _ _ c.hosts.addresses,
+                (
+                  disjoint_none c.disjoint,
+                  (
+                    segments_none c.segments,
+                    (
+                      placing_none (carries hosts) c.on_hosts d,
+                      (
+                        services_none c.services,
+                        (
+                          floatings_none c.floatings,
+                          (
+                            groups_none c.groups,
+                            (
+                              pass-breaks _ _ _ _ _ c.allowed.of_ports,
+                              (
+                                outsides_none c.outsides,
+                                (
+                                  pass-breaks _ _ _ _ _ c.routes.routes,
+                                  tt,
+                                ),
+                              ),
+                            ),
+                          ),
+                        ),
+                      ),
+                    ),
+                  ),
+                ),
+              ),
+            ),
+          ),
+        ),
+      )

@@ -1,15 +1,13 @@
 -- No clause is broken exactly where each holds.
 use Rattle.std.proofs.Common.{◌≡◌, ℕ, ◌+◌, ◌<◌, ◌≤◌, zero, suc, List, [], ◌∷◌, Bool, true, false, cond, Option, Some, None, length, slice_get, refl, ap, sym, ◌∙◌, arith}
-use Rattle.std.specs.Prelude.{◌==◌, nat_le, count_by, option_map, option_and_then}
-use Rattle.std.specs.List.{list_any}
-use Rattle.std.specs.Option.{option_or}
+use Rattle.std.specs.Prelude.{◌==◌, not, nat_le, count_by, find, option_map, option_and_then}
+use Rattle.std.specs.List.{list_any, AllByRecursion}
 use Rattle.std.proofs.lemmas.Bool.Decides.{nat_tests}
 use Rattle.api_types.specs.Ident.{Ident}
 use Rattle.api_types.specs.Lists.{Pass}
 use Rattle.api_types.specs.declared.kind.Kind.{Kind}
 use Rattle.api_check.specs.declared.broken.Inconsistent.{Inconsistent}
-use Rattle.api_check.specs.Broken.{told_at, breaks, first_place}
-use Rattle.api_check.proofs.Places.{position_first}
+use Rattle.api_check.specs.Broken.{told, told_at, breaks, first_some, first_place}
 use Rattle.api_types.proofs.ListLemmas.{none_some, some_equal, any-at, none-any, count-none}
 use Rattle.api_types.proofs.NameLemmas.{by_test}
 
@@ -25,12 +23,21 @@ equal_to a b h = grind (arith, nat_tests)
 pub is_equal_to : (a b : ℕ) → a ≡ b → (a == b) ≡ true
 is_equal_to a b h = grind (arith, nat_tests)
 
-pub or_both : {X : Type 0} (a b : Option X) → option_or a b ≡ None → (a ≡ None) × (b ≡ None)
-or_both None b h = (refl, h)
-or_both (Some x) b h = cc
+-- nothing is first exactly where nothing is there
+pub all_none : {X : Type 0} (os : List (Option X)) → first_some os ≡ None → AllByRecursion (λ o. o ≡ None) os
+unfolding first_some
+all_none [] h = tt
+all_none (None ∷ rest) h = (refl, all_none rest h)
+all_none (Some x ∷ rest) h = cc
 
-pub both_or : {X : Type 0} (a b : Option X) → a ≡ None → b ≡ None → option_or a b ≡ None
-both_or a b p q = λ j. option_or (p j) (q j)
+pub none_all : {X : Type 0} (os : List (Option X)) → AllByRecursion (λ o. o ≡ None) os → first_some os ≡ None
+unfolding first_some
+none_all [] all = refl
+none_all (o ∷ rest) all = ap (λ o. first_some (o ∷ rest)) all.0 ∙ none_all rest all.1
+
+map_none : {X Y : Type 0} (f : X → Y) (o : Option X) → option_map f o ≡ None → o ≡ None
+map_none f None h = refl
+map_none f (Some x) h = cc
 
 -- each row passes where no place fails, and back
 module _ {R : Type 0} where
@@ -73,16 +80,14 @@ module _ {R : Type 0} where
 
   -- what is told of a place within is something
   pub told_within : (rule : ℕ) (kind : Kind) (id_of : R → Ident) (xs : List R) (o : Option ℕ) → ((n : ℕ) → o ≡ Some n → n < length xs) → told_at rule kind id_of xs o ≡ None → o ≡ None
-  unfolding told_at
+  unfolding told_at told
   told_within rule kind id_of xs None within h = refl
   told_within rule kind id_of xs (Some n) within h =
       let r = there xs n (within n refl) in
-      let told : option_map {U = Inconsistent} (λ x. record { rule = rule; kind = kind; id = id_of x }) (slice_get xs n) ≡ Some (record { rule = rule; kind = kind; id = id_of r.0 })
-      = ap (option_map {U = Inconsistent} (λ x. record { rule = rule; kind = kind; id = id_of x })) r.1 in
-      none_some _ _ (sym h ∙ told)
+      none_some _ _ (sym (map_none {Y = Inconsistent} (λ x. record { rule = rule; kind = kind; id = id_of x }) (slice_get xs n) h) ∙ r.1)
 
   pub told_none : (rule : ℕ) (kind : Kind) (id_of : R → Ident) (xs : List R) (o : Option ℕ) → o ≡ None → told_at rule kind id_of xs o ≡ None
-  unfolding told_at
+  unfolding told_at told
   told_none rule kind id_of xs o e = ap (λ p. option_map {U = Inconsistent} (λ x. record { rule = rule; kind = kind; id = id_of x }) (option_and_then (slice_get xs) p)) e
 
   pub placed_none : (rule : ℕ) (kind : Kind) (id_of : R → Ident) (test : ℕ → R → Bool) (xs : List R) → told_at rule kind id_of xs (first_place test 0 xs) ≡ None
@@ -95,11 +100,28 @@ module _ {R : Type 0} where
       → told_at rule kind id_of xs (first_place test 0 xs) ≡ None
   none_placed rule kind id_of test xs all = told_none rule kind id_of xs (first_place test 0 xs) (passes_no_place test 0 xs (λ i x at. let z : 0 + i ≡ i = omega arith in ap (λ n. test n x) z ∙ all i x at))
 
+  -- no row fails exactly where each passes
+  none_fails : (test : R → Bool) (xs : List R) → find (λ r. not (test r)) xs ≡ None → Pass test xs
+  none_fails test [] h i x at = none_some x _ at
+  none_fails test (a ∷ xs) h i x at = by (test a) refl h i at (none_fails test xs)
+    where
+      by : (b : Bool) → test a ≡ b → cond (not b) (Some a) (find (λ r. not (test r)) xs) ≡ None → (i : ℕ) → slice_get (a ∷ xs) i ≡ Some x
+          → (find (λ r. not (test r)) xs ≡ None → (i : ℕ) (x : R) → slice_get xs i ≡ Some x → test x ≡ true) → test x ≡ true
+      by false e h i at rest = cc
+      by true e h zero at rest = ap test (sym (some_equal a x at)) ∙ e
+      by true e h (suc i) at rest = rest h i x at
+
+  all_pass : (test : R → Bool) (xs : List R) → Pass test xs → find (λ r. not (test r)) xs ≡ None
+  all_pass test [] all = refl
+  all_pass test (a ∷ xs) all = ap (λ b. cond (not b) (Some a) (find (λ r. not (test r)) xs)) (all 0 a refl) ∙ all_pass test xs (λ i x at. all (suc i) x at)
+
   pub breaks-none : (rule : ℕ) (kind : Kind) (id_of : R → Ident) (test : R → Bool) (xs : List R) → breaks rule kind id_of test xs ≡ None → Pass test xs
-  breaks-none rule kind id_of test xs h = placed_none rule kind id_of (λ k. test) xs (ap (told_at rule kind id_of xs) (sym (position_first test xs)) ∙ h)
+  unfolding breaks told
+  breaks-none rule kind id_of test xs h = none_fails test xs (map_none {Y = Inconsistent} (λ r. record { rule = rule; kind = kind; id = id_of r }) (find (λ r. not (test r)) xs) h)
 
   pub pass-breaks : (rule : ℕ) (kind : Kind) (id_of : R → Ident) (test : R → Bool) (xs : List R) → Pass test xs → breaks rule kind id_of test xs ≡ None
-  pass-breaks rule kind id_of test xs all = ap (told_at rule kind id_of xs) (position_first test xs) ∙ none_placed rule kind id_of (λ k. test) xs all
+  unfolding breaks told
+  pass-breaks rule kind id_of test xs all = ap (option_map {U = Inconsistent} (λ r. record { rule = rule; kind = kind; id = id_of r })) (all_pass test xs all)
 
   -- a value is held at most once, where each row's own value is
   pub once_by_rows : {K : Type 0} (key : R → K) (test : K → R → Bool) → ((k : K) (r : R) → test k r ≡ true → k ≡ key r) → (xs : List R)

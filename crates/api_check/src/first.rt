@@ -6,65 +6,35 @@ ghost use Rattle.api_types.specs.Consistent.Carried.{AreCarried};
 ghost use Rattle.api_ml2.specs.Carrying.{carries};
 ghost use Rattle.api_check.specs.FirstBroken.{first_broken_of};
 
-use crate::broken::Inconsistent;
-use crate::disjoint::broken_disjoint;
-use crate::floating::broken_target;
-use crate::forms::broken_form;
-use crate::groups::broken_group;
-use crate::held::{broken_host, broken_twice};
+use crate::broken::{Inconsistent, first_broken_row};
+use crate::clauses::{
+    broken_disjoint, broken_form, broken_group, broken_name, broken_number, broken_outside,
+    broken_service,
+};
 use crate::hosts::broken_placing;
-use crate::named::broken_name;
-use crate::numbered::broken_number;
-use crate::permitted::{broken_outside, broken_port, broken_route};
 use crate::segments::broken_segment;
-use crate::services::broken_service;
+use api_clauses::{AllowedPort, HostAddresses, LeadingFloating, OnlyHolder, ReachedRoutes};
 use api_types::Rows;
 use net_settings::Settings;
 
-#[tactic(auto, unfolding(crate::specs::FirstBroken::first_broken_of))]
+#[tactic(auto, unfolding(crate::specs::FirstBroken::first_broken_of, crate::specs::Broken::first_some))]
 fn first_of(rows: &Rows, settings: &Settings) -> Option<Inconsistent>
     ensures { result ≡ first_broken_of settings.now.hosts rows.now }
 {
-    if let Some(broken) = broken_number(rows) {
-        return Some(broken);
-    }
-    if let Some(broken) = broken_name(rows) {
-        return Some(broken);
-    }
-    if let Some(broken) = broken_form(rows) {
-        return Some(broken);
-    }
-    if let Some(broken) = broken_twice(rows) {
-        return Some(broken);
-    }
-    if let Some(broken) = broken_host(rows) {
-        return Some(broken);
-    }
-    if let Some(broken) = broken_disjoint(rows) {
-        return Some(broken);
-    }
-    if let Some(broken) = broken_segment(rows) {
-        return Some(broken);
-    }
-    if let Some(broken) = broken_placing(settings, rows) {
-        return Some(broken);
-    }
-    if let Some(broken) = broken_service(rows) {
-        return Some(broken);
-    }
-    if let Some(broken) = broken_target(rows) {
-        return Some(broken);
-    }
-    if let Some(broken) = broken_group(rows) {
-        return Some(broken);
-    }
-    if let Some(broken) = broken_port(rows) {
-        return Some(broken);
-    }
-    if let Some(broken) = broken_outside(rows) {
-        return Some(broken);
-    }
-    broken_route(rows)
+    broken_number(rows)
+        .or_else(|| broken_name(rows))
+        .or_else(|| broken_form(rows))
+        .or_else(|| first_broken_row::<OnlyHolder>(rows))
+        .or_else(|| first_broken_row::<HostAddresses>(rows))
+        .or_else(|| broken_disjoint(rows))
+        .or_else(|| broken_segment(rows))
+        .or_else(|| broken_placing(settings, rows))
+        .or_else(|| broken_service(rows))
+        .or_else(|| first_broken_row::<LeadingFloating>(rows))
+        .or_else(|| broken_group(rows))
+        .or_else(|| first_broken_row::<AllowedPort>(rows))
+        .or_else(|| broken_outside(rows))
+        .or_else(|| first_broken_row::<ReachedRoutes>(rows))
 }
 
 /// The first broken clause with the first row that breaks it, kinds in the order of `Kind`, or

@@ -1,25 +1,25 @@
 //! Clause 7: segments differ, and there are at most 4,000 networks.
 
 ghost use Rattle.std.specs.Prelude.{◌≡◌, not, position};
-ghost use Rattle.api_check.specs.Broken.{earlier as earlier_of};
-ghost use Rattle.api_check_rows.specs.RowTests.{segment_alone};
-ghost use Rattle.api_check.specs.FirstBroken.{too_many as too_many_in, segments_broken};
+ghost use Rattle.api_check.specs.Broken as told;
+ghost use Rattle.api_check.specs.FirstBroken as breaking;
+ghost use Rattle.api_clauses.specs.Held as held;
 
-use crate::broken::{Inconsistent, told};
-use api_check_rows::has_own_segment;
-use api_types::{Kind, NetworkRow, Rows, Shared};
+use crate::broken::{Inconsistent, tell_at};
+use api_clauses::{Clause, OwnSegment};
+use api_types::{NetworkRow, Rows, Shared};
 
-fn first_double(networks: &[Shared<NetworkRow>]) -> Option<usize>
-    ensures { result ≡ position (λ r. not (segment_alone networks.now r)) networks.now }
+fn first_double(rows: &Rows, networks: &[Shared<NetworkRow>]) -> Option<usize>
+    ensures { result ≡ position (λ r. not (held.segment_alone rows.now.networks r)) networks.now }
 {
     networks
         .iter()
-        .position(|network| !has_own_segment(networks, network))
+        .position(|network| !OwnSegment::meets(rows, network))
 }
 
 #[tactic(auto, unfolding(crate::specs::FirstBroken::too_many))]
 fn too_many(networks: &[Shared<NetworkRow>]) -> Option<usize>
-    ensures { result ≡ too_many_in networks.now }
+    ensures { result ≡ breaking.too_many networks.now }
 {
     if networks.len() > 4000 {
         return Some(4000);
@@ -29,7 +29,7 @@ fn too_many(networks: &[Shared<NetworkRow>]) -> Option<usize>
 
 #[tactic(auto, unfolding(crate::specs::Broken::earlier))]
 fn earlier(a: Option<usize>, b: Option<usize>) -> Option<usize>
-    ensures { result ≡ earlier_of a b }
+    ensures { result ≡ told.earlier a b }
 {
     match (a, b) {
         (None, b) => b,
@@ -41,9 +41,9 @@ fn earlier(a: Option<usize>, b: Option<usize>) -> Option<usize>
 /// Equal segments, and networks that are too many.
 #[tactic(auto, unfolding(crate::specs::FirstBroken::segments_broken))]
 pub(crate) fn broken_segment(rows: &Rows) -> Option<Inconsistent>
-    ensures { result ≡ segments_broken rows.now }
+    ensures { result ≡ breaking.segments_broken rows.now }
 {
     let networks = rows.networks().rows();
-    let place = earlier(first_double(networks), too_many(networks));
-    told(7, Kind::Network, networks, place)
+    let place = earlier(first_double(rows, networks), too_many(networks));
+    tell_at(OwnSegment::RULE, networks, place)
 }

@@ -3,7 +3,8 @@
 ghost use Rattle.std.specs.Prelude.{◌≡◌, IfOk, not, option_copied, true};
 ghost use Rattle.api_types.specs.Lists.{Pass, if_some};
 ghost use Rattle.api_ipam.specs.Euis.{fits_eui};
-ghost use Rattle.api_ipam.specs.FixedChoice.{addresses_of as addresses_of_of, all_filled as all_filled_of, asked_places as asked_places_of, first_addresses as first_addresses_of, first_known as first_known_of, is_eui_of as is_eui_of_of, is_in, known_addresses as known_addresses_of, next_addresses as next_addresses_of, next_known as next_known_of, old_renewed as old_renewed_of, renewed as renewed_of};
+ghost use Rattle.api_ipam.specs.FixedChoice.{is_in};
+ghost use Rattle.api_ipam.specs.FixedChoice as fixed_choice;
 
 use crate::euis::{eui_of, is_eui};
 use crate::filling::all_filled;
@@ -16,7 +17,7 @@ use std::alloc::Global;
 
 /// The addresses of a list.
 pub fn addresses_of(alloc: Global, fixed: &[Fixed]) -> Result<Seq<Addr>, OutOfMemory>
-    ensures { IfOk result (λ xs. xs ≡ addresses_of_of fixed.now) }
+    ensures { IfOk result (λ xs. xs ≡ fixed_choice.addresses_of fixed.now) }
 {
     let mut addresses = Seq::new(alloc);
     for one in fixed {
@@ -36,8 +37,8 @@ pub(crate) fn known_of(
     requires { Pass fits_eui subnets.now }
     ensures { IfOk result
         (λ xs. xs
-        ≡ known_addresses_of
-        (asked_places_of subnets.now mac old.now items.now)) }
+        ≡ fixed_choice.known_addresses
+        (fixed_choice.asked_places subnets.now mac old.now items.now)) }
 {
     let places = asked_places(alloc, subnets, mac, old, items)?;
     known_addresses(alloc, places.as_slice())
@@ -55,8 +56,8 @@ pub(crate) fn filled_of(
     requires { Pass fits_eui subnets.now }
     ensures { IfOk result
         (λ o. o
-        ≡ all_filled_of (λ x. not (is_in held x))
-        (asked_places_of subnets.now mac old.now items.now)) }
+        ≡ fixed_choice.all_filled (λ x. not (is_in held x))
+        (fixed_choice.asked_places subnets.now mac old.now items.now)) }
 {
     let places = asked_places(alloc, subnets, mac, old, items)?;
     all_filled(alloc, held, places.as_slice())
@@ -71,7 +72,7 @@ pub fn first_known(
     asked: &Given<Seq<FixedAsked>>,
 ) -> Result<Seq<Addr>, OutOfMemory>
     requires { Pass fits_eui subnets.now }
-    ensures { IfOk result (λ xs. xs ≡ first_known_of subnets.now mac asked.now) }
+    ensures { IfOk result (λ xs. xs ≡ fixed_choice.first_known subnets.now mac asked.now) }
 {
     match asked {
         Given::Is(items) => known_of(alloc, subnets, mac, &[], items.as_slice()),
@@ -95,7 +96,7 @@ pub fn first_addresses(
     requires { Pass fits_eui subnets.now }
     ensures { IfOk result
         (λ o. o
-        ≡ first_addresses_of (λ x. not (is_in held x)) subnets.now mac asked.now) }
+        ≡ fixed_choice.first_addresses (λ x. not (is_in held x)) subnets.now mac asked.now) }
 {
     match asked {
         Given::Is(items) => filled_of(alloc, held, subnets, mac, &[], items.as_slice()),
@@ -107,7 +108,7 @@ pub fn first_addresses(
 }
 
 fn is_eui_in(mac: Mac, address: &Addr, subnet: &SubnetRow) -> bool
-    ensures { result ≡ is_eui_of_of mac address.now subnet.now }
+    ensures { result ≡ fixed_choice.is_eui_of mac address.now subnet.now }
 {
     is_eui(subnet) && subnet.prefix.is_eui(mac, *address)
 }
@@ -117,7 +118,7 @@ fn renewed(old: Mac, new: Mac, fixed: &Fixed, subnet: Option<&Shared<SubnetRow>>
     requires { if_some fits_eui
         (option_copied subnet) ≡ true }
     ensures { result
-        ≡ renewed_of old new fixed.now (option_copied subnet.entry) }
+        ≡ fixed_choice.renewed old new fixed.now (option_copied subnet.entry) }
 {
     if let Some(subnet) = subnet {
         if is_eui_in(old, &fixed.address, subnet) {
@@ -139,7 +140,7 @@ pub fn old_renewed(
     mac: Mac,
 ) -> Result<FixedList, OutOfMemory>
     requires { Pass fits_eui subnets.now }
-    ensures { IfOk result (λ list. list ≡ old_renewed_of subnets.now port.now mac) }
+    ensures { IfOk result (λ list. list ≡ fixed_choice.old_renewed subnets.now port.now mac) }
 {
     let mut list = Seq::new(alloc);
     for fixed in port.fixed.as_slice() {
@@ -159,7 +160,7 @@ pub fn next_known(
     asked: &Given<Seq<FixedAsked>>,
 ) -> Result<Seq<Addr>, OutOfMemory>
     requires { Pass fits_eui subnets.now }
-    ensures { IfOk result (λ xs. xs ≡ next_known_of subnets.now port.now mac asked.now) }
+    ensures { IfOk result (λ xs. xs ≡ fixed_choice.next_known subnets.now port.now mac asked.now) }
 {
     let old = old_renewed(alloc, subnets, port, mac)?;
     match asked {
@@ -182,7 +183,8 @@ pub fn next_addresses(
     requires { Pass fits_eui subnets.now }
     ensures { IfOk result
         (λ o. o
-        ≡ next_addresses_of (λ x. not (is_in held x)) subnets.now port.now mac asked.now) }
+        ≡ fixed_choice.next_addresses
+        (λ x. not (is_in held x)) subnets.now port.now mac asked.now) }
 {
     let old = old_renewed(alloc, subnets, port, mac)?;
     match asked {

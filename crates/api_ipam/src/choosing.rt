@@ -3,10 +3,11 @@
 ghost use Rattle.std.specs.Prelude.{◌≡◌, ◌∷◌, [], IfErr, IfOk, None, Ok, OnOk, Some, find, not, option_copied, option_map};
 ghost use Rattle.net_addr.specs.declared.address.Addr.{Addr as Address};
 ghost use Rattle.api_types.specs.Consistent.{IsConsistent};
-ghost use Rattle.api_types.specs.HeldAddresses.{holds_address as holds_address_of};
+ghost use Rattle.api_types.specs.HeldAddresses as held_addresses;
 ghost use Rattle.api_types.specs.Lists.{Pass};
 ghost use Rattle.api_types.specs.declared.form.Given.TheVariants.{Absent as NoneGiven, Is as GivenAs};
-ghost use Rattle.api_ipam.specs.Choosing.{IsRefusalOf, chosen, chosen_for, fixed_so, given_fixed, held_by as held_by_of, holder as holder_of, is_placed_so, known_given, known_so, old_of as old_of_of};
+ghost use Rattle.api_ipam.specs.Choosing.{IsRefusalOf, chosen, chosen_for, fixed_so, given_fixed, is_placed_so, known_given, known_so};
+ghost use Rattle.api_ipam.specs.Choosing as choosing;
 ghost use Rattle.api_ipam.specs.Euis.{fits_eui};
 ghost use Rattle.api_ipam.specs.declared.choosing.IpamRefusal.TheVariants.{AddressInUse as InUse, PoolsSpent as SpentPools};
 ghost use Rattle.api_ipam.specs.FixedChoice.{is_in};
@@ -61,7 +62,7 @@ impl From<OutOfMemory> for IpamRefusal {
 }
 
 fn holds(network: Id, address: &Addr, port: &PortRow) -> bool
-    ensures { result ≡ holds_address_of network address.now port.now }
+    ensures { result ≡ held_addresses.holds_address network address.now port.now }
 {
     network == port.network && port.holds(address)
 }
@@ -71,7 +72,8 @@ fn holder_at<'r>(
     network: Id,
     address: &Addr,
 ) -> Option<&'r Shared<PortRow>>
-    ensures { option_copied result ≡ find (holds_address_of network address.now) ports.now }
+    ensures { option_copied result
+        ≡ find (held_addresses.holds_address network address.now) ports.now }
 {
     ports.iter().find(|port| holds(network, address, port))
 }
@@ -82,7 +84,7 @@ fn holder<'r>(
     network: Id,
     old: &[Fixed],
 ) -> Option<&'r Shared<PortRow>>
-    ensures { option_copied result ≡ holder_of ports.now network old.now }
+    ensures { option_copied result ≡ choosing.holder ports.now network old.now }
 {
     match old {
         [first, ..] => holder_at(ports, network, &first.address),
@@ -99,7 +101,7 @@ fn held_by(
 ) -> Result<HeldAddresses, OutOfMemory>
     ensures { IfOk result
         (λ held. (x : Address)
-        → is_in held x ≡ held_by_of ports.now network (option_copied port.entry) x) }
+        → is_in held x ≡ choosing.held_by ports.now network (option_copied port.entry) x) }
 {
     match port {
         Some(port) => HeldAddresses::by_others(alloc, ports, port),
@@ -115,7 +117,7 @@ pub fn first_held<'x>(held: &HeldAddresses, addresses: &'x [Addr]) -> Option<&'x
 }
 
 // Refuses the first of these addresses that is held.
-fn unless_held(held: &HeldAddresses, addresses: &[Addr]) -> Result<(), IpamRefusal>
+fn ensure_free(held: &HeldAddresses, addresses: &[Addr]) -> Result<(), IpamRefusal>
     ensures free { OnOk result (find (is_in held.now) addresses.now ≡ None) }
     ensures taken { IfErr result
         (λ e. option_map InUse (find (is_in held.now) addresses.now) ≡ Some e) }
@@ -126,7 +128,7 @@ fn unless_held(held: &HeldAddresses, addresses: &[Addr]) -> Result<(), IpamRefus
     }
 }
 
-fn unless_spent(fixed: Option<FixedList>, network: Id) -> Result<FixedList, IpamRefusal>
+fn ensure_filled(fixed: Option<FixedList>, network: Id) -> Result<FixedList, IpamRefusal>
     ensures there { IfOk result (λ list. fixed ≡ Some list) }
     ensures spent { IfErr result (λ e. (fixed ≡ None) × (e ≡ SpentPools network)) }
 {
@@ -145,7 +147,7 @@ fn old_of(
 ) -> Result<FixedList, OutOfMemory>
     requires { Pass fits_eui subnets.now }
     ensures { IfOk result
-        (λ old. old ≡ old_of_of subnets.now mac (option_copied port.entry)) }
+        (λ old. old ≡ choosing.old_of subnets.now mac (option_copied port.entry)) }
 {
     match port {
         Some(port) => old_renewed(alloc, subnets, port, mac),
@@ -328,9 +330,9 @@ fn choose_for(
     }
     let held = held_by(alloc, ports, network, port)?;
     let known = known(alloc, subnets, mac, port, wanted)?;
-    unless_held(&held, known.as_slice())?;
+    ensure_free(&held, known.as_slice())?;
     let fixed = all_fixed(alloc, held, subnets, mac, port, wanted)?;
-    unless_spent(fixed, network)
+    ensure_filled(fixed, network)
 }
 
 /// The addresses that a port of the network takes, by its MAC address as it will be. A port that is

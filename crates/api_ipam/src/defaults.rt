@@ -4,7 +4,8 @@ ghost use Rattle.std.specs.Prelude.{◌≡◌, ◌<◌, ◌≤◌, ◌+◌, ◌-
 ghost use Rattle.net_addr.specs.Addresses.{number};
 ghost use Rattle.net_addr.specs.Spans.{is_within};
 ghost use Rattle.api_types.specs.Consistent.InForm.{longest_of};
-ghost use Rattle.api_ipam.specs.Addresses.{default_gateway as default_gateway_of, default_pools as default_pools_of, span as span_of, span_without};
+ghost use Rattle.api_ipam.specs.Addresses.{span_without};
+ghost use Rattle.api_ipam.specs.Addresses as addresses;
 
 use crate::least::number_of;
 use net_addr::{Addr, OutOfMemory, Prefix, Seq, Span, Spans};
@@ -13,7 +14,7 @@ use std::alloc::Global;
 /// The first address after the one that names the network.
 pub fn default_gateway(prefix: Prefix) -> Addr
     requires { prefix.len ≤ longest_of prefix.base }
-    ensures { result ≡ default_gateway_of prefix }
+    ensures { result ≡ addresses.default_gateway prefix }
 {
     match prefix.hosts() {
         Some(hosts) => hosts.first,
@@ -32,7 +33,7 @@ fn below(span: &Span, address: &Addr) -> Option<Span>
     requires inside { is_within span.now address.now ≡ true }
     requires above_none { 0 < number span.now.first }
     ensures { option_to_list result
-        ≡ span_of span.now.first (number span.now.first) (number address.now - 1) }
+        ≡ addresses.span span.now.first (number span.now.first) (number address.now - 1) }
 {
     let last = address.previous()?;
     if !has(span, &last) {
@@ -48,7 +49,7 @@ fn below(span: &Span, address: &Addr) -> Option<Span>
 fn above(span: &Span, address: &Addr) -> Option<Span>
     requires inside { is_within span.now address.now ≡ true }
     ensures { option_to_list result
-        ≡ span_of span.now.first (number address.now + 1) (number span.now.last) }
+        ≡ addresses.span span.now.first (number address.now + 1) (number span.now.last) }
 {
     let _last = number_of(&span.last); // for the proof: it fits its version
     let first = address.next()?;
@@ -91,7 +92,7 @@ pub fn default_pools(
     prefix: Prefix,
     gateway: &Option<Addr>,
 ) -> Result<Spans, OutOfMemory>
-    ensures { IfOk result (λ pools. pools ≡ default_pools_of prefix gateway.now) }
+    ensures { IfOk result (λ pools. pools ≡ addresses.default_pools prefix gateway.now) }
 {
     let mut pools = Seq::new(alloc);
     let Some(hosts) = prefix.hosts() else {

@@ -2,7 +2,7 @@
 
 ghost use Rattle.std.specs.Prelude.{◌≡◌, true};
 ghost use Rattle.net_addr.specs.Prefixes.{eui};
-ghost use Rattle.api_types.specs.Consistent.InForm.{is_eui as is_eui_of, makes_eui as makes_eui_of};
+ghost use Rattle.api_types.specs.Consistent.InForm as in_form;
 ghost use Rattle.api_ipam.specs.Euis.{fits_eui};
 
 use api_types::{Ipv6Mode, SubnetRow};
@@ -10,7 +10,7 @@ use net_addr::{Addr, Mac};
 
 /// Whether ports of a subnet with this mode make their addresses of their MAC addresses.
 pub fn makes_eui(mode: Ipv6Mode) -> bool
-    ensures { result ≡ makes_eui_of mode }
+    ensures { result ≡ in_form.makes_eui mode }
 {
     match mode {
         Ipv6Mode::Slaac => true,
@@ -21,7 +21,7 @@ pub fn makes_eui(mode: Ipv6Mode) -> bool
 
 /// Whether the ports of a subnet make their addresses of their MAC addresses.
 pub fn is_eui(subnet: &SubnetRow) -> bool
-    ensures { result ≡ is_eui_of subnet.now }
+    ensures { result ≡ in_form.is_eui subnet.now }
 {
     match subnet.address_mode {
         Some(mode) => makes_eui(mode),
@@ -31,7 +31,7 @@ pub fn is_eui(subnet: &SubnetRow) -> bool
 
 /// The address that a port with this MAC address has in such a subnet.
 pub fn eui_of(subnet: &SubnetRow, mac: Mac) -> Addr
-    requires made { is_eui_of subnet.now ≡ true }
+    requires made { in_form.is_eui subnet.now ≡ true }
     requires fits { fits_eui subnet.now ≡ true }
     ensures { result ≡ eui subnet.now.prefix mac }
 {

@@ -2,8 +2,9 @@
 
 ghost use Rattle.std.specs.Prelude.{◌≡◌, ◌||◌, IfOk, OnOk, not};
 ghost use Rattle.net_addr.specs.declared.address.Addr.{Addr as Address};
-ghost use Rattle.api_ipam.specs.Filling.{given_at as given_at_of, given_in_turn as given_in_turn_of};
-ghost use Rattle.api_ipam.specs.FixedChoice.{all_filled as all_filled_of, is_in, known_addresses};
+ghost use Rattle.api_ipam.specs.Filling as filling;
+ghost use Rattle.api_ipam.specs.FixedChoice.{is_in, known_addresses};
+ghost use Rattle.api_ipam.specs.FixedChoice as fixed_choice;
 
 use crate::held::HeldAddresses;
 use crate::least::least_free_address;
@@ -26,7 +27,7 @@ fn take_known(held: &mut HeldAddresses, places: &[Place]) -> Result<(), OutOfMem
 
 // The known address, or else the least of the subnet's pools that isn't held.
 fn given_at(held: &HeldAddresses, place: &Place) -> Option<Addr>
-    ensures { result ≡ given_at_of (is_in held.now) place.now.known place.now.subnet }
+    ensures { result ≡ filling.given_at (is_in held.now) place.now.known place.now.subnet }
 {
     if let Some(address) = place.known() {
         return Some(address);
@@ -40,7 +41,7 @@ fn given_in_turn(
     mut held: HeldAddresses,
     places: &[Place],
 ) -> Result<Option<FixedList>, OutOfMemory>
-    ensures { IfOk result (λ o. o ≡ given_in_turn_of (is_in held) places.now) }
+    ensures { IfOk result (λ o. o ≡ filling.given_in_turn (is_in held) places.now) }
 {
     let mut fixed = Seq::new(alloc);
     for place in places {
@@ -65,7 +66,7 @@ pub fn all_filled(
     places: &[Place],
 ) -> Result<Option<FixedList>, OutOfMemory>
     ensures { IfOk result
-        (λ o. o ≡ all_filled_of (λ x. not (is_in held x)) places.now) }
+        (λ o. o ≡ fixed_choice.all_filled (λ x. not (is_in held x)) places.now) }
 {
     let mut held = held;
     take_known(&mut held, places)?;

@@ -4,7 +4,8 @@ ghost use Rattle.std.specs.Prelude.{◌≡◌, ◌++◌, ◌+◌, ◌-◌, IfOk,
 ghost use Rattle.std.specs.List.{list_any};
 ghost use Rattle.api_types.specs.Lists.{Pass};
 ghost use Rattle.api_ipam.specs.Euis.{fits_eui};
-ghost use Rattle.api_ipam.specs.FixedChoice.{all_euis as all_euis_of, any_address as any_address_of, any_of_each as any_of_each_of, first_euis as first_euis_of, first_free as first_free_of, floating_address as floating_address_of, gateway_addresses as gateway_addresses_of, gateway_euis as gateway_euis_of, is_in, is_pool_four as is_pool_four_of, is_pool_six as is_pool_six_of, one_if_any as one_if_any_of, with_euis as with_euis_of};
+ghost use Rattle.api_ipam.specs.FixedChoice.{is_in};
+ghost use Rattle.api_ipam.specs.FixedChoice as fixed_choice;
 
 use crate::euis::{eui_of, is_eui};
 use crate::held::HeldAddresses;
@@ -14,13 +15,13 @@ use net_addr::{Copies, Mac, OutOfMemory, Seq};
 use std::alloc::Global;
 
 fn is_pool_four(subnet: &SubnetRow) -> bool
-    ensures { result ≡ is_pool_four_of subnet.now }
+    ensures { result ≡ fixed_choice.is_pool_four subnet.now }
 {
     subnet.prefix.base.is_v4() && !is_eui(subnet)
 }
 
 fn is_pool_six(subnet: &SubnetRow) -> bool
-    ensures { result ≡ is_pool_six_of subnet.now }
+    ensures { result ≡ fixed_choice.is_pool_six subnet.now }
 {
     !subnet.prefix.base.is_v4() && !is_eui(subnet)
 }
@@ -29,7 +30,7 @@ fn pool_fours(
     alloc: Global,
     subnets: &[Shared<SubnetRow>],
 ) -> Result<Seq<Shared<SubnetRow>>, OutOfMemory>
-    ensures { IfOk result (λ found. found ≡ filter is_pool_four_of subnets.now) }
+    ensures { IfOk result (λ found. found ≡ filter fixed_choice.is_pool_four subnets.now) }
 {
     let mut found = Seq::new(alloc);
     for subnet in subnets {
@@ -44,7 +45,7 @@ fn pool_sixes(
     alloc: Global,
     subnets: &[Shared<SubnetRow>],
 ) -> Result<Seq<Shared<SubnetRow>>, OutOfMemory>
-    ensures { IfOk result (λ found. found ≡ filter is_pool_six_of subnets.now) }
+    ensures { IfOk result (λ found. found ≡ filter fixed_choice.is_pool_six subnets.now) }
 {
     let mut found = Seq::new(alloc);
     for subnet in subnets {
@@ -57,7 +58,7 @@ fn pool_sixes(
 
 // The least free pool address of the first of these subnets that has one.
 fn first_free(held: &HeldAddresses, subnets: &[Shared<SubnetRow>]) -> Option<Fixed>
-    ensures { result ≡ first_free_of (λ x. not (is_in held.now x)) subnets.now }
+    ensures { result ≡ fixed_choice.first_free (λ x. not (is_in held.now x)) subnets.now }
 {
     for subnet in subnets {
         if let Some(address) = least_free_address(held, subnet.pools.as_slice()) {
@@ -77,7 +78,7 @@ fn any_address(
     subnets: &[Shared<SubnetRow>],
 ) -> Result<Option<FixedList>, OutOfMemory>
     ensures { IfOk result
-        (λ o. o ≡ any_address_of (λ x. not (is_in held.now x)) subnets.now) }
+        (λ o. o ≡ fixed_choice.any_address (λ x. not (is_in held.now x)) subnets.now) }
 {
     let mut fixed = Seq::new(alloc);
     if subnets.len() == 0 {
@@ -111,7 +112,7 @@ fn any_of_each(
     subnets: &[Shared<SubnetRow>],
 ) -> Result<Option<FixedList>, OutOfMemory>
     ensures { IfOk result
-        (λ o. o ≡ any_of_each_of (λ x. not (is_in held.now x)) subnets.now) }
+        (λ o. o ≡ fixed_choice.any_of_each (λ x. not (is_in held.now x)) subnets.now) }
 {
     let subnets_four = pool_fours(alloc, subnets)?;
     let Some(fours) = any_address(alloc, held, subnets_four.as_slice())? else {
@@ -132,7 +133,7 @@ fn few_euis(
     most: usize,
 ) -> Result<FixedList, OutOfMemory>
     requires { Pass fits_eui subnets.now }
-    ensures { IfOk result (λ euis. euis ≡ take most (all_euis_of mac subnets.now)) }
+    ensures { IfOk result (λ euis. euis ≡ take most (fixed_choice.all_euis mac subnets.now)) }
 {
     let mut euis = Seq::new(alloc);
     for subnet in subnets {
@@ -150,13 +151,13 @@ fn few_euis(
 }
 
 fn any_four(subnets: &[Shared<SubnetRow>]) -> bool
-    ensures { result ≡ list_any is_pool_four_of subnets.now }
+    ensures { result ≡ list_any fixed_choice.is_pool_four subnets.now }
 {
     subnets.iter().any(|subnet| is_pool_four(subnet))
 }
 
 fn any_six(subnets: &[Shared<SubnetRow>]) -> bool
-    ensures { result ≡ list_any is_pool_six_of subnets.now }
+    ensures { result ≡ list_any fixed_choice.is_pool_six subnets.now }
 {
     subnets.iter().any(|subnet| is_pool_six(subnet))
 }
@@ -169,7 +170,7 @@ pub fn first_euis(
     mac: Mac,
 ) -> Result<FixedList, OutOfMemory>
     requires { Pass fits_eui subnets.now }
-    ensures { IfOk result (λ euis. euis ≡ first_euis_of mac subnets.now) }
+    ensures { IfOk result (λ euis. euis ≡ fixed_choice.first_euis mac subnets.now) }
 {
     let pooled = usize::from(any_four(subnets)) + usize::from(any_six(subnets));
     few_euis(alloc, subnets, mac, 5 - pooled)
@@ -183,7 +184,7 @@ pub fn gateway_euis(
     mac: Mac,
 ) -> Result<FixedList, OutOfMemory>
     requires { Pass fits_eui subnets.now }
-    ensures { IfOk result (λ euis. euis ≡ gateway_euis_of mac subnets.now) }
+    ensures { IfOk result (λ euis. euis ≡ fixed_choice.gateway_euis mac subnets.now) }
 {
     if any_six(subnets) {
         return Ok(Seq::new(alloc));
@@ -201,7 +202,7 @@ pub fn with_euis(
     euis: &[Fixed],
 ) -> Result<Option<FixedList>, OutOfMemory>
     ensures { IfOk result
-        (λ o. o ≡ with_euis_of (λ x. not (is_in held.now x)) subnets.now euis.now) }
+        (λ o. o ≡ fixed_choice.with_euis (λ x. not (is_in held.now x)) subnets.now euis.now) }
 {
     let Some(chosen) = any_of_each(alloc, held, subnets)? else {
         return Ok(None);
@@ -219,7 +220,7 @@ pub fn gateway_addresses(
 ) -> Result<Option<FixedList>, OutOfMemory>
     requires { Pass fits_eui subnets.now }
     ensures { IfOk result
-        (λ o. o ≡ gateway_addresses_of (λ x. not (is_in held.now x)) subnets.now mac) }
+        (λ o. o ≡ fixed_choice.gateway_addresses (λ x. not (is_in held.now x)) subnets.now mac) }
 {
     if subnets.len() == 0 {
         return Ok(None);
@@ -236,7 +237,7 @@ pub fn floating_address(
     subnets: &[Shared<SubnetRow>],
 ) -> Result<Option<Fixed>, OutOfMemory>
     ensures { IfOk result
-        (λ o. o ≡ floating_address_of (λ x. not (is_in held.now x)) subnets.now) }
+        (λ o. o ≡ fixed_choice.floating_address (λ x. not (is_in held.now x)) subnets.now) }
 {
     let fours = pool_fours(alloc, subnets)?;
     Ok(first_free(held, fours.as_slice()))

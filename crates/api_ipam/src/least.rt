@@ -2,7 +2,7 @@
 
 ghost use Rattle.std.specs.Prelude.{◌≡◌, ◌<◌, ◌^◌, not};
 ghost use Rattle.net_addr.specs.Addresses.{number, width};
-ghost use Rattle.api_ipam.specs.Addresses.{least_free_address as least_free_of, least_within as least_within_of, lesser as lesser_of};
+ghost use Rattle.api_ipam.specs.Addresses as addresses;
 ghost use Rattle.api_ipam.specs.FixedChoice.{is_in};
 
 use crate::held::HeldAddresses;
@@ -22,7 +22,7 @@ pub(crate) fn number_of(address: &Addr) -> u128
 // The least address of a span that isn't held. No address is looked at but the held ones in front
 // of it.
 fn least_within(held: &HeldAddresses, span: &Span) -> Option<Addr>
-    ensures { result ≡ least_within_of (λ x. not (is_in held.now x)) span.now }
+    ensures { result ≡ addresses.least_within (λ x. not (is_in held.now x)) span.now }
 {
     let _last = number_of(&span.last); // for the proof: it fits its version
     let mut address = span.first;
@@ -36,7 +36,7 @@ fn least_within(held: &HeldAddresses, span: &Span) -> Option<Addr>
 }
 
 fn lesser(one: Option<Addr>, other: Option<Addr>) -> Option<Addr>
-    ensures { result ≡ lesser_of one other }
+    ensures { result ≡ addresses.lesser one other }
 {
     match (one, other) {
         (Some(one), Some(other)) => Some(if other < one { other } else { one }),
@@ -49,7 +49,7 @@ fn lesser(one: Option<Addr>, other: Option<Addr>) -> Option<Addr>
 /// grows with the pools and the held addresses that stand first in them, and not with the pools'
 /// size.
 pub fn least_free_address(held: &HeldAddresses, pools: &[Span]) -> Option<Addr>
-    ensures { result ≡ least_free_of (λ x. not (is_in held.now x)) pools.now }
+    ensures { result ≡ addresses.least_free_address (λ x. not (is_in held.now x)) pools.now }
 {
     let mut least = None;
     for pool in pools {

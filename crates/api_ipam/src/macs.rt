@@ -1,7 +1,7 @@
 //! Which MAC address a port takes.
 
 ghost use Rattle.std.specs.Prelude.{◌≡◌, ◌+◌, ◌-◌, ◌<◌, ◌≤◌, ◌^◌, false, not};
-ghost use Rattle.api_types.specs.Consistent.HeldOnce.{has_mac as has_mac_of};
+ghost use Rattle.api_types.specs.Consistent.HeldOnce as held_once;
 ghost use Rattle.api_types.specs.HeldAddresses.{is_mac_held};
 ghost use Rattle.api_types.specs.Least.{least_from};
 ghost use Rattle.api_ipam.specs.MacChoice.{first_mac, free_mac};
@@ -17,7 +17,7 @@ const END: u64 = 0xfa16_3f00_0000;
 
 fn has_mac(port: &PortRow, network: Id, mac: u64) -> bool
     requires { mac < 2 ^ 48 }
-    ensures { result ≡ has_mac_of network mac port.now }
+    ensures { result ≡ held_once.has_mac network mac port.now }
 {
     network == port.network && port.mac == Mac(mac)
 }

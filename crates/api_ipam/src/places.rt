@@ -5,15 +5,15 @@ ghost use Rattle.std.specs.Prelude.{◌≡◌, ◌&&◌, ◌||◌, ◌++◌, IfO
 ghost use Rattle.std.specs.List.{list_all};
 ghost use Rattle.net_addr.specs.Addresses.{addr_eq};
 ghost use Rattle.net_addr.specs.Prefixes.{contains, eui};
-ghost use Rattle.api_types.specs.Consistent.InForm.{is_eui as is_eui_of};
+ghost use Rattle.api_types.specs.Consistent.InForm as in_form;
 ghost use Rattle.api_types.specs.Lists.{Pass, if_some};
-ghost use Rattle.api_types.specs.HeldAddresses.{subnets_on as subnets_on_of};
+ghost use Rattle.api_types.specs.HeldAddresses as held_addresses;
 ghost use Rattle.api_types.specs.Table.{ident_eq, row_of};
 ghost use Rattle.api_types.specs.declared.port.Fixed.{Fixed as TheFixed};
 ghost use Rattle.api_types.specs.declared.subnet.SubnetRow.{SubnetRow as TheSubnet};
 ghost use Rattle.api_ipam.specs.Euis.{fits_eui};
 ghost use Rattle.api_ipam.specs.Filling.{place_for};
-ghost use Rattle.api_ipam.specs.FixedChoice.{are_different as are_different_of, are_placed as are_placed_of, asked_places as asked_places_of, eui_if_any as eui_if_any_of, is_in as is_in_of, is_placed as is_placed_of, item_subnet as item_subnet_of, known_addresses as known_addresses_of, known_at as known_at_of, may_be_named as may_be_named_of, named_addresses as named_addresses_of, old_address as old_address_of};
+ghost use Rattle.api_ipam.specs.FixedChoice as fixed_choice;
 
 use crate::euis::{eui_of, is_eui};
 use api_types::{Fixed, FixedAsked, Id, Shared, SubnetRow};
@@ -58,7 +58,7 @@ pub fn subnets_on(
     subnets: &[Shared<SubnetRow>],
     network: Id,
 ) -> Result<Seq<Shared<SubnetRow>>, OutOfMemory>
-    ensures { IfOk result (λ found. found ≡ subnets_on_of subnets.now network) }
+    ensures { IfOk result (λ found. found ≡ held_addresses.subnets_on subnets.now network) }
 {
     let mut found = Seq::new(alloc);
     for subnet in subnets {
@@ -93,7 +93,7 @@ fn item_subnet<'s>(
     subnets: &'s [Shared<SubnetRow>],
     item: &FixedAsked,
 ) -> Option<&'s Shared<SubnetRow>>
-    ensures { option_copied result ≡ item_subnet_of subnets.now item.now }
+    ensures { option_copied result ≡ fixed_choice.item_subnet subnets.now item.now }
 {
     if let Some(id) = item.subnet {
         return subnet_with(subnets, id);
@@ -106,26 +106,26 @@ fn item_subnet<'s>(
 
 /// Whether the address is one of these. Its cost grows with them.
 pub(crate) fn is_in(addresses: &[Addr], address: &Addr) -> bool
-    ensures { result ≡ is_in_of addresses.now address.now }
+    ensures { result ≡ fixed_choice.is_in addresses.now address.now }
 {
     addresses.iter().any(|other| *other == *address)
 }
 
 fn is_eui_or_free(mac: Mac, subnet: &SubnetRow, address: &Addr) -> bool
     ensures { result
-        ≡ (not (is_eui_of subnet.now) || addr_eq address.now (eui subnet.now.prefix mac)) }
+        ≡ (not (in_form.is_eui subnet.now) || addr_eq address.now (eui subnet.now.prefix mac)) }
 {
     !is_eui(subnet) || subnet.prefix.is_eui(mac, *address)
 }
 
 fn may_be_named(mac: Mac, subnet: &SubnetRow, address: &Addr) -> bool
-    ensures { result ≡ may_be_named_of mac subnet.now address.now }
+    ensures { result ≡ fixed_choice.may_be_named mac subnet.now address.now }
 {
     subnet.prefix.is_host(*address) && is_eui_or_free(mac, subnet, address)
 }
 
 fn may_have(mac: Mac, subnet: &SubnetRow, address: &Option<Addr>) -> bool
-    ensures { result ≡ if_some (may_be_named_of mac subnet.now) address.now }
+    ensures { result ≡ if_some (fixed_choice.may_be_named mac subnet.now) address.now }
 {
     match address {
         Some(address) => may_be_named(mac, subnet, address),
@@ -135,7 +135,7 @@ fn may_have(mac: Mac, subnet: &SubnetRow, address: &Option<Addr>) -> bool
 
 // Whether the item has a subnet, where its address may be named.
 fn is_placed(subnets: &[Shared<SubnetRow>], mac: Mac, item: &FixedAsked) -> bool
-    ensures { result ≡ is_placed_of subnets.now mac item.now }
+    ensures { result ≡ fixed_choice.is_placed subnets.now mac item.now }
 {
     match item_subnet(subnets, item) {
         Some(subnet) => may_have(mac, subnet, &item.address),
@@ -144,13 +144,13 @@ fn is_placed(subnets: &[Shared<SubnetRow>], mac: Mac, item: &FixedAsked) -> bool
 }
 
 fn all_placed(subnets: &[Shared<SubnetRow>], mac: Mac, items: &[FixedAsked]) -> bool
-    ensures { result ≡ list_all (is_placed_of subnets.now mac) items.now }
+    ensures { result ≡ list_all (fixed_choice.is_placed subnets.now mac) items.now }
 {
     items.iter().all(|item| is_placed(subnets, mac, item))
 }
 
 fn named_addresses(alloc: Global, items: &[FixedAsked]) -> Result<Seq<Addr>, OutOfMemory>
-    ensures { IfOk result (λ xs. xs ≡ named_addresses_of items.now) }
+    ensures { IfOk result (λ xs. xs ≡ fixed_choice.named_addresses items.now) }
 {
     let mut named = Seq::new(alloc);
     for item in items {
@@ -164,7 +164,7 @@ fn named_addresses(alloc: Global, items: &[FixedAsked]) -> Result<Seq<Addr>, Out
 fn old_in<'f>(old: &'f [Fixed], taken: &[Addr], subnet: Id) -> Option<&'f Fixed>
     ensures { option_copied result
         ≡ find
-        (λ (f : TheFixed). ident_eq subnet f.subnet && not (is_in_of taken.now f.address))
+        (λ (f : TheFixed). ident_eq subnet f.subnet && not (fixed_choice.is_in taken.now f.address))
         old.now }
 {
     old.iter().find(|fixed| subnet == fixed.subnet && !is_in(taken, &fixed.address))
@@ -172,7 +172,7 @@ fn old_in<'f>(old: &'f [Fixed], taken: &[Addr], subnet: Id) -> Option<&'f Fixed>
 
 // The first old address of the subnet that isn't taken.
 fn old_address(old: &[Fixed], taken: &[Addr], subnet: &SubnetRow) -> Option<Addr>
-    ensures { result ≡ old_address_of old.now taken.now subnet.now }
+    ensures { result ≡ fixed_choice.old_address old.now taken.now subnet.now }
 {
     match old_in(old, taken, subnet.id) {
         Some(fixed) => Some(fixed.address),
@@ -182,7 +182,7 @@ fn old_address(old: &[Fixed], taken: &[Addr], subnet: &SubnetRow) -> Option<Addr
 
 fn eui_if_any(mac: Mac, subnet: &SubnetRow) -> Option<Addr>
     requires { fits_eui subnet.now ≡ true }
-    ensures { result ≡ eui_if_any_of mac subnet.now }
+    ensures { result ≡ fixed_choice.eui_if_any mac subnet.now }
 {
     if is_eui(subnet) {
         Some(eui_of(subnet, mac))
@@ -200,7 +200,7 @@ fn known_at(
     subnet: &SubnetRow,
 ) -> Option<Addr>
     requires { fits_eui subnet.now ≡ true }
-    ensures { result ≡ known_at_of mac old.now taken.now named.now subnet.now }
+    ensures { result ≡ fixed_choice.known_at mac old.now taken.now named.now subnet.now }
 {
     if let Some(address) = named {
         return Some(*address);
@@ -236,12 +236,14 @@ fn add_place(
     ensures places { OnOk result
         (places.new.items
         ≡ places.old.items
-        ++ place_for mac old.now taken.old item.now (item_subnet_of subnets.now item.now)) }
+        ++ place_for mac old.now taken.old item.now
+        (fixed_choice.item_subnet subnets.now item.now)) }
     ensures taken { OnOk result
         (taken.new
         ≡ taken.old
-        ++ known_addresses_of
-        (place_for mac old.now taken.old item.now (item_subnet_of subnets.now item.now))) }
+        ++ fixed_choice.known_addresses
+        (place_for mac old.now taken.old item.now
+        (fixed_choice.item_subnet subnets.now item.now))) }
 {
     let Some(subnet) = item_subnet(subnets, item) else {
         return Ok(());
@@ -268,7 +270,7 @@ pub fn asked_places(
 ) -> Result<Vec<Place>, OutOfMemory>
     requires { Pass fits_eui subnets.now }
     ensures { IfOk result
-        (λ places. places.items ≡ asked_places_of subnets.now mac old.now items.now) }
+        (λ places. places.items ≡ fixed_choice.asked_places subnets.now mac old.now items.now) }
 {
     let mut taken = named_addresses(alloc, items)?;
     let mut places = Vec::new(alloc);
@@ -280,7 +282,7 @@ pub fn asked_places(
 
 /// The addresses of these places that are known.
 pub fn known_addresses(alloc: Global, places: &[Place]) -> Result<Seq<Addr>, OutOfMemory>
-    ensures { IfOk result (λ xs. xs ≡ known_addresses_of places.now) }
+    ensures { IfOk result (λ xs. xs ≡ fixed_choice.known_addresses places.now) }
 {
     let mut known = Seq::new(alloc);
     for place in places {
@@ -290,7 +292,7 @@ pub fn known_addresses(alloc: Global, places: &[Place]) -> Result<Seq<Addr>, Out
 }
 
 fn are_different(addresses: &[Addr]) -> bool
-    ensures { result ≡ are_different_of addresses.now }
+    ensures { result ≡ fixed_choice.are_different addresses.now }
 {
     for place in 0..addresses.len() {
         if is_in(&addresses[place + 1..], &addresses[place]) {
@@ -312,7 +314,7 @@ pub fn are_placed(
 ) -> Result<bool, OutOfMemory>
     requires { Pass fits_eui subnets.now }
     ensures { IfOk result
-        (λ b. b ≡ are_placed_of subnets.now mac old.now items.now) }
+        (λ b. b ≡ fixed_choice.are_placed subnets.now mac old.now items.now) }
 {
     let places = asked_places(alloc, subnets, mac, old, items)?;
     let known = known_addresses(alloc, places.as_slice())?;

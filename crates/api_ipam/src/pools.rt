@@ -3,9 +3,9 @@
 ghost use Rattle.std.specs.Prelude.{◌≡◌, not};
 ghost use Rattle.std.specs.List.{list_all};
 ghost use Rattle.net_addr.specs.Spans.{are_apart, is_within};
-ghost use Rattle.api_types.specs.Consistent.InForm.{all_apart as all_apart_of};
+ghost use Rattle.api_types.specs.Consistent.InForm as in_form;
 ghost use Rattle.api_types.specs.Lists.{if_some};
-ghost use Rattle.api_ipam.specs.Addresses.{are_pools as are_pools_of, is_pool as is_pool_of};
+ghost use Rattle.api_ipam.specs.Addresses as addresses;
 
 use net_addr::{Addr, Prefix, Span};
 
@@ -19,7 +19,7 @@ fn is_without(pool: &Span, address: &Option<Addr>) -> bool
 }
 
 fn is_pool(prefix: &Prefix, gateway: &Option<Addr>, pool: &Span) -> bool
-    ensures { result ≡ is_pool_of prefix.now gateway.now pool.now }
+    ensures { result ≡ addresses.is_pool prefix.now gateway.now pool.now }
 {
     prefix.is_host(pool.first) && prefix.is_host(pool.last) && is_without(pool, gateway)
 }
@@ -31,7 +31,7 @@ fn is_apart_from(pool: &Span, pools: &[Span]) -> bool
 }
 
 fn all_apart(pools: &[Span]) -> bool
-    ensures { result ≡ all_apart_of pools.now }
+    ensures { result ≡ in_form.all_apart pools.now }
 {
     for place in 0..pools.len() {
         if !is_apart_from(&pools[place], &pools[place + 1..]) {
@@ -42,7 +42,7 @@ fn all_apart(pools: &[Span]) -> bool
 }
 
 fn all_pools(prefix: &Prefix, gateway: &Option<Addr>, pools: &[Span]) -> bool
-    ensures { result ≡ list_all (is_pool_of prefix.now gateway.now) pools.now }
+    ensures { result ≡ list_all (addresses.is_pool prefix.now gateway.now) pools.now }
 {
     pools.iter().all(|pool| is_pool(prefix, gateway, pool))
 }
@@ -50,7 +50,7 @@ fn all_pools(prefix: &Prefix, gateway: &Option<Addr>, pools: &[Span]) -> bool
 /// Whether the spans are of the prefix's host addresses and without the gateway, and no address is
 /// in two of them. Its cost grows with their number, times itself.
 pub fn are_pools(prefix: &Prefix, gateway: &Option<Addr>, pools: &[Span]) -> bool
-    ensures { result ≡ are_pools_of prefix.now gateway.now pools.now }
+    ensures { result ≡ addresses.are_pools prefix.now gateway.now pools.now }
 {
     all_pools(prefix, gateway, pools) && all_apart(pools)
 }

@@ -1,25 +1,25 @@
 -- Each accepted call keeps rows consistent, by its kind.
 use Rattle.std.proofs.Common.{List, Option, None, Some, ℕ, ◌≡◌}
-use Rattle.api_machine.proofs.FloatingMade.{floating_created_kept}
-use Rattle.api_machine.proofs.FloatingsKept.{floating_deleted_kept, floating_updated_kept}
-use Rattle.api_machine.proofs.InterfacesKept.{interface_added_kept}
-use Rattle.api_machine.proofs.NetworksKept.{network_created_kept, network_deleted_kept, network_updated_kept}
-use Rattle.api_machine.proofs.PolicyKept.{created_kept as policy_created_kept, deleted_kept as policy_deleted_kept, updated_kept as policy_updated_kept}
-use Rattle.api_machine.proofs.PortCreated.{created_kept as port_created_kept}
-use Rattle.api_machine.proofs.PortDeleted.{deleted_kept as port_deleted_kept}
-use Rattle.api_machine.proofs.PortUpdated.{updated_kept as port_updated_kept}
-use Rattle.api_machine.proofs.RouterLeaves.{interface_removed_kept, router_deleted_kept}
-use Rattle.api_machine.proofs.RoutersKept.{router_created_kept, router_updated_kept}
-use Rattle.api_machine.proofs.RulesKept.{group_created_kept, group_deleted_kept, group_updated_kept, rule_created_kept, rule_deleted_kept}
-use Rattle.api_machine.proofs.SubnetCreated.{created_kept as subnet_created_kept}
-use Rattle.api_machine.proofs.SubnetDeleted.{deleted_kept as subnet_deleted_kept}
-use Rattle.api_machine.proofs.SubnetUpdated.{updated_kept as subnet_updated_kept}
-use Rattle.api_machine.proofs.TypedKept.{HaveKept}
+use Rattle.plan_floatings.proofs.FloatingMade.{floating_created_kept}
+use Rattle.plan_floatings.proofs.FloatingsKept.{floating_deleted_kept, floating_updated_kept}
+use Rattle.plan_routers.proofs.InterfacesKept.{interface_added_kept}
+use Rattle.plan_networks.proofs.NetworksKept.{network_created_kept, network_deleted_kept, network_updated_kept}
+use Rattle.plan_policies.proofs.PolicyKept.{created_kept as policy_created_kept, deleted_kept as policy_deleted_kept, updated_kept as policy_updated_kept}
+use Rattle.plan_ports.proofs.PortCreated.{created_kept as port_created_kept}
+use Rattle.plan_ports.proofs.PortDeleted.{deleted_kept as port_deleted_kept}
+use Rattle.plan_ports.proofs.PortUpdated.{updated_kept as port_updated_kept}
+use Rattle.plan_routers.proofs.RouterLeaves.{interface_removed_kept, router_deleted_kept}
+use Rattle.plan_routers.proofs.RoutersKept.{router_created_kept, router_updated_kept}
+use Rattle.plan_groups.proofs.RulesKept.{group_created_kept, group_deleted_kept, group_updated_kept, rule_created_kept, rule_deleted_kept}
+use Rattle.plan_subnets.proofs.SubnetCreated.{created_kept as subnet_created_kept}
+use Rattle.plan_subnets.proofs.SubnetDeleted.{deleted_kept as subnet_deleted_kept}
+use Rattle.plan_subnets.proofs.SubnetUpdated.{updated_kept as subnet_updated_kept}
+use Rattle.kept_laws.proofs.TypedKept.{HaveKept}
 use Rattle.call_parts.specs.InForm.{IsInForm}
-use Rattle.api_machine.specs.Kept.{KeepsRows}
+use Rattle.kept_laws.specs.Kept.{KeepsRows}
 use Rattle.call_parts.specs.Typed.{AreTyped}
 use Rattle.api_machine.specs.WholeStep.{api_step, row_shown}
-use Rattle.api_machine.proofs.OutcomeLemmas.{needing_moved}
+use Rattle.kept_laws.proofs.OutcomeLemmas.{needing_moved}
 use Rattle.api_types.specs.Refusing.{at_name, not_found, unless}
 use Rattle.api_policy.specs.Floatings.{floating_members}
 use Rattle.api_policy.specs.Groups.{group_members, rule_members}

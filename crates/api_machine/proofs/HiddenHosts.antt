@@ -23,10 +23,10 @@ use Rattle.api_types.specs.declared.router.RouterRow.{RouterRow}
 use Rattle.net_settings.specs.Settings.{SettingsParts}
 use Rattle.api_policy.specs.Served.{held_port}
 use Rattle.api_policy.specs.Visibility.{seen_networks, sees_port}
-use Rattle.api_machine.specs.Footing.{blank_port, blank_router, footing, guard, held_of, is_close, is_held_by, is_of_router, near_of}
+use Rattle.apart_laws.specs.Footing.{blank_port, blank_router, footing, guard, held_of, is_close, is_held_by, is_of_router, near_of}
 use Rattle.call_parts.specs.State.{State}
-use Rattle.api_machine.proofs.ListLemmas.{any-map, filter-map, find-map, map-each, map-twice}
-use Rattle.api_machine.proofs.OwnAlike.{map-then}
+use Rattle.apart_laws.proofs.ListLemmas.{any-map, filter-map, find-map, map-each, map-twice}
+use Rattle.apart_laws.proofs.OwnAlike.{map-then}
 
 module _ (rows : RowLists) (host : PortRow → List ℕ) (vif : PortRow → Vif) (stand : RouterRow → Option (List ℕ)) where
   abbrev moved_port : PortRow → PortRow

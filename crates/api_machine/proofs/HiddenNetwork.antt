@@ -21,13 +21,13 @@ use Rattle.api_types.specs.declared.port.PortRow.{PortRow}
 use Rattle.net_settings.specs.Settings.{SettingsParts}
 use Rattle.row_laws.specs.NewRows.{with_network}
 use Rattle.api_policy.specs.Visibility.{is_own, owns_network, seen_networks, seen_ports, seen_subnets, sees_network, sees_port, sees_subnet, uses_network}
-use Rattle.api_machine.specs.Footing.{blank, blank_port, footing, guard, held_of, is_close, is_held_by, is_near, near_of}
+use Rattle.apart_laws.specs.Footing.{blank, blank_port, footing, guard, held_of, is_close, is_held_by, is_near, near_of}
 use Rattle.api_ml2.specs.Numbers.{least_free}
 use Rattle.call_parts.specs.State.{State}
 use Rattle.api_types.proofs.ListLemmas.{any-filter_none, any-none, any-push, none-any, none-counted, or_false}
 use Rattle.api_types.proofs.NameLemmas.{and_fails, by_test, first_fails, ident_same, unnamed}
-use Rattle.api_machine.proofs.FootingLemmas.{network_id}
-use Rattle.api_machine.proofs.ListLemmas.{filter-each}
+use Rattle.apart_laws.proofs.FootingLemmas.{network_id}
+use Rattle.apart_laws.proofs.ListLemmas.{filter-each}
 
 -- a row that passes no test, behind others
 

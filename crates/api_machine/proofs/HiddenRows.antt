@@ -29,13 +29,13 @@ use Rattle.net_settings.specs.Settings.{SettingsParts}
 use Rattle.row_laws.specs.NewRows.{with_floating, with_group, with_policy, with_port, with_router, with_rule, with_subnet}
 use Rattle.api_policy.specs.Visibility.{owns_network, seen_networks, seen_ports, seen_subnets, sees_network, sees_port, sees_subnet, uses_network}
 use Rattle.api_policy.specs.Networks.{is_open, permits_all}
-use Rattle.api_machine.specs.Footing.{blank, blank_port, blank_router, footing, guard, held_of, is_close, is_held_by, is_near, is_of_router, near_of}
+use Rattle.apart_laws.specs.Footing.{blank, blank_port, blank_router, footing, guard, held_of, is_close, is_held_by, is_near, is_of_router, near_of}
 use Rattle.api_policy.specs.Served.{held_port}
 use Rattle.call_parts.specs.State.{State}
 use Rattle.api_types.proofs.ListLemmas.{and_both, any-filter_kept, at_filter, or_none}
 use Rattle.api_types.proofs.NameLemmas.{and_fails, any-push_other, by_test, fails_by, first_fails, ident_same}
 use Rattle.api_machine.proofs.HiddenNetwork.{filter-push, find-push, guard_either}
-use Rattle.api_machine.proofs.ListLemmas.{filter-each, map-each, or_cases, or_left, or_right}
+use Rattle.apart_laws.proofs.ListLemmas.{filter-each, map-each, or_cases, or_left, or_right}
 
 abbrev at : RowLists → ℕ → State
 at rows version = record { rows = rows; version = version }

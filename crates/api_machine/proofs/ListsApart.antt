@@ -25,14 +25,14 @@ use Rattle.api_policy.specs.Listed.{behind, behind_id, behind_marker, cut, has_m
 use Rattle.api_policy.specs.Networks.{network_members}
 use Rattle.api_policy.specs.Ports.{port_members}
 use Rattle.api_policy.specs.Shown.{shown_as}
-use Rattle.api_machine.specs.Footing.{Near, blank, blank_port, footing, is_near}
+use Rattle.apart_laws.specs.Footing.{Near, blank, blank_port, footing, is_near}
 use Rattle.api_machine.specs.Reads.{marker_text, rows_listed}
 use Rattle.api_types.specs.Refusing.{not_found, answer_alone, unless, when}
 use Rattle.call_parts.specs.State.{State}
 use Rattle.api_types.proofs.ListLemmas.{and_both, any-at, none_some, one_row}
-use Rattle.api_machine.proofs.FootingLemmas.{bound_here, near_same, network_id, port_id, port_near, seen_near, subnets_same, unless_alike}
-use Rattle.api_machine.proofs.ListLemmas.{any-map, any-then, at_map, filter-map, filter-then, map-each, map-twice}
-use Rattle.api_machine.proofs.ShownAlike.{is_up, live_by, network_printed, port_printed, up_at}
+use Rattle.apart_laws.proofs.FootingLemmas.{bound_here, near_same, network_id, port_id, port_near, seen_near, subnets_same, unless_alike}
+use Rattle.apart_laws.proofs.ListLemmas.{any-map, any-then, at_map, filter-map, filter-then, map-each, map-twice}
+use Rattle.apart_laws.proofs.ShownAlike.{is_up, live_by, network_printed, port_printed, up_at}
 
 -- the rows behind one
 

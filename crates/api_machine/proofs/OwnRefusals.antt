@@ -17,15 +17,15 @@ use Rattle.net_settings.specs.Settings.{SettingsParts}
 use Rattle.call_parts.specs.State.{State}
 use Rattle.api_machine.specs.WholeStep.{api_step, row_created, row_deleted, row_shown, row_updated}
 use Rattle.api_machine.specs.Reads.{rows_listed}
-use Rattle.api_machine.proofs.Own.{is_own_outcome}
-use Rattle.api_machine.proofs.OwnFloatings.{own_floating_created, own_floating_deleted, own_floating_updated}
-use Rattle.api_machine.proofs.OwnGroups.{own_group_created, own_group_deleted, own_group_updated, own_rule_created, own_rule_deleted}
-use Rattle.api_machine.proofs.OwnInterfaces.{own_interface_added, own_interface_removed}
-use Rattle.api_machine.proofs.OwnNetworks.{own_network_created, own_network_deleted, own_network_updated}
-use Rattle.api_machine.proofs.OwnPolicies.{own_policy_created, own_policy_deleted, own_policy_updated}
-use Rattle.api_machine.proofs.OwnPorts.{own_port_created, own_port_deleted, own_port_updated}
-use Rattle.api_machine.proofs.OwnRouters.{own_router_created, own_router_deleted, own_router_updated}
-use Rattle.api_machine.proofs.OwnSubnets.{own_subnet_created, own_subnet_deleted, own_subnet_updated}
+use Rattle.kept_laws.proofs.Own.{is_own_outcome}
+use Rattle.plan_floatings.proofs.OwnFloatings.{own_floating_created, own_floating_deleted, own_floating_updated}
+use Rattle.plan_groups.proofs.OwnGroups.{own_group_created, own_group_deleted, own_group_updated, own_rule_created, own_rule_deleted}
+use Rattle.plan_routers.proofs.OwnInterfaces.{own_interface_added, own_interface_removed}
+use Rattle.plan_networks.proofs.OwnNetworks.{own_network_created, own_network_deleted, own_network_updated}
+use Rattle.plan_policies.proofs.OwnPolicies.{own_policy_created, own_policy_deleted, own_policy_updated}
+use Rattle.plan_ports.proofs.OwnPorts.{own_port_created, own_port_deleted, own_port_updated}
+use Rattle.plan_routers.proofs.OwnRouters.{own_router_created, own_router_deleted, own_router_updated}
+use Rattle.plan_subnets.proofs.OwnSubnets.{own_subnet_created, own_subnet_deleted, own_subnet_updated}
 
 module _ (settings : SettingsParts) (state : State) (caller : Caller) where
   own_created : (form : Form) → is_own_outcome (row_created settings state caller form) ≡ true

@@ -1,46 +1,29 @@
--- From the rows that a draft leads to, to what a plan says of the step; and what a tenant is told of it.
+-- What is answered of a call is planned, and what a tenant is told of it.
 use Rattle.std.proofs.Common.{◌≡◌, ◌∙◌, ◌<◌, ◌-◌, ◌^◌, ap, arith, sym, subst, inl, inr, Bool, true, false, List, Option, Some, None, Result, Ok, Err, IfOk, IfErr, if◌then◌else◌}
 use Rattle.std.specs.Prelude.{not}
 use Rattle.std.proofs.lemmas.Bool.Decides.{nat_tests}
 use Rattle.api_types.specs.Consistent.{IsConsistent}
 use Rattle.api_types.specs.Lists.{is_empty}
-use Rattle.api_types.specs.Outcome.{Outcome, Moved, Refused, Told}
-use Rattle.api_types.specs.Printed.{Reply, ShownRow, reply_of}
+use Rattle.api_types.specs.Outcome.{Outcome, Told}
+use Rattle.api_types.specs.Printed.{Reply}
 use Rattle.api_types.specs.Refusing.{answer_alone}
-use Rattle.api_types.specs.Rows.{Fits, after}
+use Rattle.api_types.specs.Rows.{after}
 use Rattle.api_types.specs.declared.call.Call.{Call}
 use Rattle.api_types.specs.declared.call.Caller.{Caller}
 use Rattle.api_types.specs.declared.change.Item.{Item}
 use Rattle.api_types.specs.declared.refusal.Refusal.{Refusal}
 use Rattle.net_settings.specs.Rules.{MeetsRules}
 use Rattle.net_settings.specs.Settings.{SettingsParts}
-use Rattle.call_parts.specs.Drafts.{DraftParts}
 use Rattle.call_parts.specs.InForm.{IsInForm}
 use Rattle.call_parts.specs.State.{State, is_last}
 use Rattle.call_parts.specs.Typed.{AreTyped}
-use Rattle.api_machine.specs.Alike.{AreAlike}
+use Rattle.apart_laws.specs.Alike.{AreAlike}
 use Rattle.call_parts.specs.Answers.{IsRefusalOf}
-use Rattle.api_machine.specs.Plan.{Answers, AnswersAs, IsDrafted, IsDraftedAs, PlansAs}
+use Rattle.api_machine.specs.Plan.{AnswersAs, PlansAs}
 use Rattle.api_machine.specs.WholeStep.{api_step}
-use Rattle.api_machine.specs.declared.planned.Planned.{Planned}
 use Rattle.api_machine.proofs.CallsKept.{call_kept}
 use Rattle.api_machine.proofs.RoomLeft.{call_room}
 use Rattle.api_machine.proofs.WholeStepApart.{step_apart}
-
--- a draft from the rows of now, to where the step leads
-pub drafted : (state : State) (outcome : Outcome) (draft : DraftParts) (reply given : Reply) (change : Option (List Item)) → draft.start ≡ state.rows → outcome ≡ Moved draft.rows reply
-    → IsDraftedAs draft reply change given → AnswersAs state outcome change given
-drafted state outcome draft reply given None start moved is = absurd is
-drafted state outcome draft reply given (Some change) start moved is = record {
-  fits = subst (λ rows. Fits rows change) start is.0.fits;
-  moved = moved ∙ (λ j. Moved ((sym is.0.leads ∙ ap (λ rows. after rows change) start) j) (sym is.1 j));
-}
-
--- and where the answer shows a row as it is then
-pub shown_so : (state : State) (outcome : Outcome) (draft : DraftParts) (reply : ShownRow → Reply) (shown row : ShownRow) (planned : Planned) → draft.start ≡ state.rows
-    → outcome ≡ Moved draft.rows (reply row) → shown ≡ row → IsDrafted draft (reply shown) planned → Answers state outcome planned
-shown_so state outcome draft reply shown row planned start moved is drafts =
-    drafted state outcome draft (reply shown) (reply_of planned.answer) planned.change start (moved ∙ ap (λ s. Moved draft.rows (reply s)) (sym is)) drafts
 
 room_of : (state : State) → state.version < 2 ^ 64 → is_last state ≡ false → state.version < 2 ^ 64 - 1
 room_of state within last = grind (arith, nat_tests)

@@ -13,7 +13,7 @@ use Rattle.api_policy.specs.Policies.{policy_members}
 use Rattle.api_policy.specs.Routers.{router_members}
 use Rattle.api_policy.specs.Shown.{shown_as}
 use Rattle.api_policy.specs.Subnets.{subnet_members}
-use Rattle.api_machine.specs.Footing.{blank_router, footing}
+use Rattle.apart_laws.specs.Footing.{blank_router, footing}
 use Rattle.api_machine.specs.Reads.{marker_text, row_told, rows_listed}
 use Rattle.api_types.specs.Refusing.{not_found, answer_alone, unless, when}
 use Rattle.call_parts.specs.State.{State}
@@ -36,16 +36,19 @@ use Rattle.api_types.specs.declared.router.RouterRow.{RouterRow}
 use Rattle.api_types.specs.declared.subnet.SubnetRow.{SubnetRow}
 use Rattle.net_settings.specs.Settings.{SettingsParts}
 use Rattle.api_types.proofs.ListLemmas.{at_filter}
-use Rattle.api_machine.proofs.ListLemmas.{any-map, any-then, map-each, map-twice, map_pairs}
+use Rattle.apart_laws.proofs.ListLemmas.{any-map, any-then, map-each, map-twice, map_pairs}
 use Rattle.api_machine.proofs.ListsApart.{cards, cards_of, cards_printed, marker-filter, marker-map, networks_listed_apart, ports_listed_apart, seen_cards}
-use Rattle.api_machine.proofs.NetworksApart.{network_shown_apart}
-use Rattle.api_machine.proofs.PortsApart.{port_shown_apart}
-use Rattle.api_machine.proofs.ApartLemmas.{unless_same}
-use Rattle.api_machine.proofs.FootingLemmas.{needing_by}
-use Rattle.api_machine.proofs.GroupsApart.{group_id, group_printed, group_shown_apart, rule_shown_apart, group_rules}
-use Rattle.api_machine.proofs.OwnAlike.{floatings_alike, groups_alike, own_here, policies_alike, router_id, routers_alike, routers_found, rules_alike, when_true}
-use Rattle.api_machine.proofs.PoliciesApart.{policy_id, policy_shown_apart}
-use Rattle.api_machine.proofs.ServedAlike.{router_members_alike}
+use Rattle.api_machine.proofs.NetworksShown.{network_shown_apart}
+use Rattle.api_machine.proofs.PortsShown.{port_shown_apart}
+use Rattle.apart_laws.proofs.ApartLemmas.{unless_same}
+use Rattle.apart_laws.proofs.FootingLemmas.{needing_by}
+use Rattle.apart_laws.proofs.GroupAlike.{group_id}
+use Rattle.plan_groups.proofs.GroupsApart.{group_printed, group_rules}
+use Rattle.api_machine.proofs.GroupsShown.{group_shown_apart, rule_shown_apart}
+use Rattle.apart_laws.proofs.OwnAlike.{floatings_alike, groups_alike, own_here, policies_alike, router_id, routers_alike, routers_found, rules_alike, when_true}
+use Rattle.plan_policies.proofs.PoliciesApart.{policy_id}
+use Rattle.api_machine.proofs.PoliciesShown.{policy_shown_apart}
+use Rattle.apart_laws.proofs.ServedAlike.{router_members_alike}
 
 abbrev subnet_id : SubnetRow → Ident
 subnet_id r = r.id

@@ -47,13 +47,13 @@ use Rattle.plan_policies.specs.PolicyCalls as policies
 use Rattle.plan_ports.specs.PortCalls as ports
 use Rattle.api_machine.specs.WholeStep.{api_step, row_shown}
 use Rattle.api_machine.proofs.CallsKept.{listed_nothing, refused_nothing, told_row}
-use Rattle.api_machine.proofs.EditedRows.{none_refused}
-use Rattle.api_machine.proofs.RoomOfFloatings.{floating_created_room, floating_deleted_room, floating_updated_room}
-use Rattle.api_machine.proofs.RoomOfRouters.{interface_added_room, interface_removed_room, router_created_room, router_deleted_room, router_updated_room}
-use Rattle.api_machine.proofs.RoomOfPorts.{port_created_room, port_deleted_room, port_updated_room}
-use Rattle.api_machine.proofs.RoomOfSubnets.{subnet_created_room, subnet_deleted_room, subnet_updated_room}
-use Rattle.api_machine.proofs.RoomOfGroups.{group_created_room, group_deleted_room, group_updated_room, rule_created_room, rule_deleted_room}
-use Rattle.api_machine.proofs.OutcomeLemmas.{if_some, needing_moved, not_when, unless_moved}
+use Rattle.kept_laws.proofs.EditedRows.{none_refused}
+use Rattle.plan_floatings.proofs.RoomOfFloatings.{floating_created_room, floating_deleted_room, floating_updated_room}
+use Rattle.plan_routers.proofs.RoomOfRouters.{interface_added_room, interface_removed_room, router_created_room, router_deleted_room, router_updated_room}
+use Rattle.plan_ports.proofs.RoomOfPorts.{port_created_room, port_deleted_room, port_updated_room}
+use Rattle.plan_subnets.proofs.RoomOfSubnets.{subnet_created_room, subnet_deleted_room, subnet_updated_room}
+use Rattle.plan_groups.proofs.RoomOfGroups.{group_created_room, group_deleted_room, group_updated_room, rule_created_room, rule_deleted_room}
+use Rattle.kept_laws.proofs.OutcomeLemmas.{if_some, needing_moved, not_when, unless_moved}
 use Rattle.api_policy.specs.Reserved.{policy_for_admin}
 
 module _ (settings : SettingsParts) (state : State) (caller : Caller) (rows : RowLists) (reply : Reply) where

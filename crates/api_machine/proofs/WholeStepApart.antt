@@ -1,7 +1,7 @@
 -- A tenant is told the same of each call wherever its footing is the same.
 use Rattle.std.proofs.Common.{◌≡◌, true, false, not, refl}
 use Rattle.api_machine.specs.WholeStep.{api_step, row_created, row_deleted, row_updated}
-use Rattle.api_machine.specs.Footing.{footing}
+use Rattle.apart_laws.specs.Footing.{footing}
 use Rattle.api_types.specs.Refusing.{answer_alone}
 use Rattle.call_parts.specs.State.{State}
 use Rattle.api_types.specs.Consistent.{IsConsistent}
@@ -15,15 +15,15 @@ use Rattle.api_types.specs.declared.form.Form.{Form}
 use Rattle.api_types.specs.declared.kind.Kind.TheVariants.{Project, Network, Subnet, Port, Group, Rule, Router, Floating, Policy}
 use Rattle.api_types.specs.declared.kind.Kind.{Kind}
 use Rattle.net_settings.specs.Settings.{SettingsParts}
-use Rattle.api_machine.proofs.FloatingCallsApart.{floating_created_apart, floating_deleted_apart, floating_updated_apart}
-use Rattle.api_machine.proofs.GroupsApart.{group_created_apart, group_deleted_apart, group_updated_apart, rule_created_apart, rule_deleted_apart}
-use Rattle.api_machine.proofs.InterfacesApart.{interface_added_apart, interface_removed_apart}
-use Rattle.api_machine.proofs.NetworkCallsApart.{network_created_apart, network_deleted_apart, network_updated_apart}
-use Rattle.api_machine.proofs.PoliciesApart.{policy_created_apart, policy_deleted_apart, policy_updated_apart}
-use Rattle.api_machine.proofs.PortCallsApart.{port_created_apart, port_deleted_apart, port_updated_apart}
+use Rattle.plan_floatings.proofs.FloatingCallsApart.{floating_created_apart, floating_deleted_apart, floating_updated_apart}
+use Rattle.plan_groups.proofs.GroupsApart.{group_created_apart, group_deleted_apart, group_updated_apart, rule_created_apart, rule_deleted_apart}
+use Rattle.plan_routers.proofs.InterfacesApart.{interface_added_apart, interface_removed_apart}
+use Rattle.plan_networks.proofs.NetworkCallsApart.{network_created_apart, network_deleted_apart, network_updated_apart}
+use Rattle.plan_policies.proofs.PoliciesApart.{policy_created_apart, policy_deleted_apart, policy_updated_apart}
+use Rattle.plan_ports.proofs.PortCallsApart.{port_created_apart, port_deleted_apart, port_updated_apart}
 use Rattle.api_machine.proofs.ReadsApart.{listed_apart, shown_apart}
-use Rattle.api_machine.proofs.RouterCallsApart.{router_created_apart, router_deleted_apart, router_updated_apart}
-use Rattle.api_machine.proofs.SubnetsApart.{subnet_created_apart, subnet_deleted_apart, subnet_updated_apart}
+use Rattle.plan_routers.proofs.RouterCallsApart.{router_created_apart, router_deleted_apart, router_updated_apart}
+use Rattle.plan_subnets.proofs.SubnetsApart.{subnet_created_apart, subnet_deleted_apart, subnet_updated_apart}
 
 module _ (settings : SettingsParts) (caller : Caller) (s t : State) (tenant : caller.admin ≡ false) (named : not (is_empty caller.project) ≡ true) (c : IsConsistent s.rows) (d : IsConsistent t.rows) (same : footing settings s caller ≡ footing settings t caller) where
   created_apart : (form : Form) → answer_alone (row_created settings s caller form) ≡ answer_alone (row_created settings t caller form)

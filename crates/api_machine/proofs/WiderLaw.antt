@@ -19,12 +19,12 @@ use Rattle.api_types.proofs.ListLemmas.{and_both, any-filter, both_and}
 use Rattle.net_settings.specs.Settings.{SettingsParts}
 use Rattle.api_policy.specs.Visibility.{seen_networks, seen_ports, sees_port}
 use Rattle.call_parts.specs.State.{State}
-use Rattle.api_machine.specs.Alike.{KeepsApart}
-use Rattle.api_machine.specs.Footing.{Footing, blank, blank_port, blank_router, footing, guard, is_close, is_near, is_of_router, near_of, owned}
+use Rattle.apart_laws.specs.Alike.{KeepsApart}
+use Rattle.apart_laws.specs.Footing.{Footing, blank, blank_port, blank_router, footing, guard, is_close, is_near, is_of_router, near_of, owned}
 use Rattle.api_machine.specs.WholeStep.{api_step}
 use Rattle.api_machine.specs.WiderFooting.{NearSegment, WiderFooting, is_closer, is_nearer, is_of_floating, near_segment_of, wider_footing, without_number}
-use Rattle.api_machine.proofs.ApartLemmas.{filter-kept}
-use Rattle.api_machine.proofs.ListLemmas.{any-map, filter-each, or_cases, or_left, or_right}
+use Rattle.apart_laws.proofs.ApartLemmas.{filter-kept}
+use Rattle.apart_laws.proofs.ListLemmas.{any-map, filter-each, or_cases, or_left, or_right}
 use Rattle.api_machine.proofs.WholeStepApart.{step_apart}
 
 -- lists and tests

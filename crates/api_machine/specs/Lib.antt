@@ -1,6 +1,3 @@
-pub mod Alike
-pub mod Footing
-pub mod Kept
 pub mod Machine
 pub mod Plan
 pub mod Reads

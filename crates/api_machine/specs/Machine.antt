@@ -4,7 +4,7 @@ use Rattle.api_types.specs.Consistent.{IsConsistent}
 use Rattle.api_types.specs.RowLists.{RowLists}
 use Rattle.net_settings.specs.Rules.{MeetsRules}
 use Rattle.net_settings.specs.Settings.{SettingsParts}
-use Rattle.api_machine.specs.Kept.{HostsCarry}
+use Rattle.kept_laws.specs.Kept.{HostsCarry}
 use Rattle.call_parts.specs.State.{State}
 use Rattle.call_parts.specs.Typed.{AreTyped}
 

@@ -7,7 +7,7 @@ use Rattle.api_types.specs.Rows.{Fits, after}
 use Rattle.api_types.specs.declared.change.Item.{Item}
 use Rattle.api_types.specs.declared.refusal.Refusal.{Refusal}
 use Rattle.net_settings.specs.Settings.{SettingsParts}
-use Rattle.api_machine.specs.Kept.{AreKept}
+use Rattle.kept_laws.specs.Kept.{AreKept}
 use Rattle.api_machine.specs.declared.planned.Planned.{Planned}
 use Rattle.call_parts.specs.Drafts.{DraftParts, LeadsTo}
 use Rattle.call_parts.specs.State.{State}

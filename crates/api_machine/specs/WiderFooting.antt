@@ -24,7 +24,7 @@ use Rattle.net_settings.specs.Settings.{SettingsParts}
 use Rattle.api_policy.specs.Visibility.{seen_networks, seen_ports, seen_subnets}
 use Rattle.api_ml2.specs.Numbers.{least_free}
 use Rattle.call_parts.specs.State.{State, is_last}
-use Rattle.api_machine.specs.Footing.{Drawer, Held, Near, drawer_of, guard, held_of, is_close, is_held_by, is_of_router, near_of, owned}
+use Rattle.apart_laws.specs.Footing.{Drawer, Held, Near, drawer_of, guard, held_of, is_close, is_held_by, is_of_router, near_of, owned}
 
 -- a network without its vxlan number
 abbrev pub unnumbered : Segment → Segment

@@ -1,9 +1,9 @@
 //! The laws of calls.
 ghost use Rattle.net_settings.specs.Rules.{MeetsRules};
 ghost use Rattle.net_settings.specs.Settings.{SettingsParts};
-ghost use Rattle.api_machine.specs.Alike.{KeepsApart};
-ghost use Rattle.api_machine.specs.Footing.{footing};
-ghost use Rattle.api_machine.specs.Kept.{KeepsRows};
+ghost use Rattle.apart_laws.specs.Alike.{KeepsApart};
+ghost use Rattle.apart_laws.specs.Footing.{footing};
+ghost use Rattle.kept_laws.specs.Kept.{KeepsRows};
 ghost use Rattle.api_machine.specs.WholeStep.{api_step};
 ghost use Rattle.api_machine.specs.WiderFooting.{wider_footing};
 

@@ -11,17 +11,10 @@
 #![tactic(auto)]
 
 mod calls;
-mod floatings;
-mod groups;
 mod laws;
 mod machine;
-mod networks;
 mod planned;
-mod policies;
-mod ports;
 mod reads;
-mod routers;
-mod subnets;
 
 pub use laws::{calls_keep, tenants_stay_apart};
 pub use machine::{Machine, Ready};

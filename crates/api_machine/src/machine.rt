@@ -8,11 +8,11 @@ ghost use Rattle.api_types.specs.Rows.{Fits, after};
 ghost use Rattle.api_check.specs.FirstBroken.{first_broken_of};
 ghost use Rattle.net_settings.specs.Rules.{MeetsRules};
 ghost use Rattle.call_parts.specs.InForm.{IsInForm};
-ghost use Rattle.call_parts.specs.State.{State};
+ghost use Rattle.call_parts.specs.State.{State as TheState};
 ghost use Rattle.call_parts.specs.Typed.{AreTyped};
-ghost use Rattle.api_machine.specs.Alike.{AreAlike};
+ghost use Rattle.apart_laws.specs.Alike.{AreAlike};
 ghost use Rattle.api_machine.specs.WholeStep.{api_step};
-ghost use Rattle.api_machine.specs.Kept.{AreKept, HostsCarry};
+ghost use Rattle.kept_laws.specs.Kept.{AreKept, HostsCarry};
 ghost use Rattle.api_machine.specs.Machine.{state_of};
 ghost use Rattle.call_parts.specs.Answers.{IsRefusalOf};
 ghost use Rattle.api_machine.specs.Plan.{Plans};
@@ -21,7 +21,7 @@ use crate::calls::plan_call;
 use crate::planned::Planned;
 use api_check::{Inconsistent, first_broken};
 use api_types::{Call, Caller, Change, Refusal, Rows};
-use call_parts::are_typed;
+use call_parts::{Asking, State, are_typed};
 use net_addr::{Copies, OutOfMemory};
 use net_settings::Settings;
 use std::alloc::Global;
@@ -31,8 +31,7 @@ use std::marker::Model;
 #[derive(Drop)]
 pub struct Machine {
     settings: Settings,
-    rows: Rows,
-    version: u64,
+    state: State,
 }
 
 impl Model for Machine {
@@ -41,10 +40,11 @@ impl Model for Machine {
     ghost Value = { MachineParts };
 
     ghost view = { λ m.
-        record { settings = m.settings; rows = m.rows; version = m.version } };
+        record { settings = m.settings; rows = m.state.rows; version = m.state.version } };
 
     ghost invariant = { λ m.
-        IsSound (record { settings = m.settings; rows = m.rows; version = m.version }) };
+        IsSound
+        (record { settings = m.settings; rows = m.state.rows; version = m.state.version }) };
 }
 
 /// Rows that can be put in place of those of a version.
@@ -88,8 +88,7 @@ impl Machine {
         let _rules = settings.hosts(); // for the proof: the settings meet their rules
         Ok(Machine {
             settings,
-            rows,
-            version: 0,
+            state: State::make(rows, 0),
         })
     }
 
@@ -100,7 +99,7 @@ impl Machine {
         ensures typed { AreTyped self.now.rows }
         ensures carried { HostsCarry self.now.settings self.now.rows }
     {
-        &self.rows
+        self.state.rows()
     }
 
     /// The settings.
@@ -115,7 +114,7 @@ impl Machine {
     pub fn version(&self) -> u64
         ensures { result ≡ self.now.version }
     {
-        self.version
+        self.state.version()
     }
 
     /// What a call comes to: its answer, and the change that leads to the rows after it, which
@@ -130,18 +129,20 @@ impl Machine {
         ensures err { IfErr result
             (IsRefusalOf
             (api_step self.now.settings (state_of self.now) caller.now call.now)) }
-        ensures answer_apart { (other : State)
+        ensures answer_apart { (other : TheState)
             → AreAlike self.now.settings caller.now (state_of self.now) other
             → IfOk result
             (λ p. answer_alone (api_step self.now.settings other caller.now call.now)
             ≡ Told (reply_of p.answer)) }
-        ensures refusal_apart { (other : State)
+        ensures refusal_apart { (other : TheState)
             → AreAlike self.now.settings caller.now (state_of self.now) other
             → IfErr result
             (IsRefusalOf (answer_alone (api_step self.now.settings other caller.now call.now))) }
     {
-        let rows = self.rows();
-        plan_call(alloc, self.settings(), rows, self.version(), caller, call)
+        let _rows = self.rows(); // for the proof: the rows are typed
+        let _version = self.version(); // for the proof: it is a number of 64 bits
+        let asking = Asking::make(self.settings(), &self.state, caller);
+        plan_call(alloc, &asking, call)
     }
 
     /// The rows after a change that fits, ready to be put in place. Nothing changes. Its cost
@@ -153,12 +154,10 @@ impl Machine {
             ≡ record { rows = after self.old.rows change.now; version = self.old.version }) }
         ensures same { self.new ≡ self.old }
     {
-        let mut rows = self.rows.copy(alloc)?;
+        let mut rows = self.rows().copy(alloc)?;
         rows.apply_change(alloc, change)?;
-        Ok(Ready {
-            rows,
-            version: self.version,
-        })
+        let version = self.version();
+        Ok(Ready { rows, version })
     }
 
     /// Puts rows in place that were made ready at this version and are as sound as the current
@@ -175,7 +174,6 @@ impl Machine {
             } }
     {
         let Ready { rows, version } = ready;
-        self.rows = rows;
-        self.version = version + 1;
+        self.state = State::make(rows, version + 1);
     }
 }

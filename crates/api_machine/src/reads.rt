@@ -7,48 +7,51 @@ ghost use Rattle.call_parts.specs.Answers.{IsRefusalOf};
 
 use api_policy::{Visible, named};
 use api_shown::{ListRefusal, Shows, listed, shown_of};
-use api_types::{Answer, Caller, IdText, Kind, Query, Refusal, Rows, Table};
-use call_parts::not_found;
+use api_types::{Answer, IdText, Kind, Query, Refusal, RowKind};
+use call_parts::{Asking, not_found};
 use net_addr::Names;
 use std::alloc::Global;
 
-/// What a caller is shown of the row of a table that a text names. Its cost is that of printing.
-pub fn show<R: Shows + Visible>(
+/// What the caller is shown of the row of a kind that a text names. Its cost is that of printing.
+pub fn show<R: RowKind + Shows + Visible>(
     alloc: Global,
-    rows: &Rows,
-    caller: &Caller,
-    kind: Kind,
-    table: &Table<R>,
+    asking: &Asking<'_>,
     name: &IdText,
     fields: &Names,
 ) -> Result<Answer, Refusal>
     ensures ok { IfOk result
-        (λ a. row_told kind R.id_of (R.members_of rows.now caller.now) caller.now name.now
-        fields.now (filter (R.seen rows.now caller.now) table.now) ≡ Told (reply_of a)) }
+        (λ a. row_told R.kind_is R.id_of (R.members_of asking.now.state.rows asking.now.caller)
+        asking.now.caller name.now fields.now
+        (filter (R.seen asking.now.state.rows asking.now.caller)
+        (R.list_of asking.now.state.rows)) ≡ Told (reply_of a)) }
     ensures err { IfErr result
         (IsRefusalOf
-        (row_told kind R.id_of (R.members_of rows.now caller.now) caller.now name.now
-        fields.now (filter (R.seen rows.now caller.now) table.now))) }
+        (row_told R.kind_is R.id_of (R.members_of asking.now.state.rows asking.now.caller)
+        asking.now.caller name.now fields.now
+        (filter (R.seen asking.now.state.rows asking.now.caller)
+        (R.list_of asking.now.state.rows)))) }
 {
-    let Some(row) = named(rows, caller, table, name.id) else {
-        return Err(not_found(alloc, kind, &name.text));
+    let (rows, caller) = (asking.rows(), asking.caller());
+    let Some(row) = named(rows, caller, R::table(rows), name.id) else {
+        return Err(not_found(alloc, R::kind(), &name.text));
     };
-    Ok(Answer::One(shown_of(alloc, rows, caller, kind, row, fields)?))
+    Ok(Answer::One(shown_of(alloc, rows, caller, R::kind(), row, fields)?))
 }
 
-/// What a caller is listed of a kind. Its cost is that of printing the rows of the kind.
+/// What the caller is listed of a kind. Its cost is that of printing the rows of the kind.
 pub fn list(
     alloc: Global,
-    rows: &Rows,
-    caller: &Caller,
+    asking: &Asking<'_>,
     kind: Kind,
     query: &Query,
 ) -> Result<Answer, Refusal>
     ensures ok { IfOk result
-        (λ a. rows_listed rows.now caller.now kind query.now ≡ Told (reply_of a)) }
-    ensures err { IfErr result (IsRefusalOf (rows_listed rows.now caller.now kind query.now)) }
+        (λ a. rows_listed asking.now.state.rows asking.now.caller kind query.now
+        ≡ Told (reply_of a)) }
+    ensures err { IfErr result
+        (IsRefusalOf (rows_listed asking.now.state.rows asking.now.caller kind query.now)) }
 {
-    match listed(alloc, rows, caller, kind, query) {
+    match listed(alloc, asking.rows(), asking.caller(), kind, query) {
         Ok(rows) => Ok(Answer::Many { kind, rows }),
         Err(ListRefusal::NoMarker(text)) => Err(not_found(alloc, kind, &text)),
         Err(ListRefusal::OutOfMemory) => Err(Refusal::OutOfMemory),

@@ -2,7 +2,7 @@
 
 ghost use Rattle.std.specs.Prelude.{◌≡◌, IfOk, [], false};
 ghost use Rattle.api_types.specs.Given.{value_of, value_or};
-ghost use Rattle.api_ml2.specs.Segments.{asked_segment as asked_segment_of, fits_type as fits_type_of, is_bad_number as is_bad_number_of, is_bad_physical as is_bad_physical_of, is_wired as is_wired_of};
+ghost use Rattle.api_ml2.specs.Segments as segments;
 
 use api_types::{Given, NetworkForm, NetworkType, Segment};
 use net_addr::{Copies, OutOfMemory, Text};
@@ -31,7 +31,7 @@ fn number_of(form: &NetworkForm) -> Option<u32>
 
 /// Whether the body asks for a network on a physical network: a flat or a vlan one.
 pub fn is_wired(form: &NetworkForm) -> bool
-    ensures { result ≡ is_wired_of (value_of form.now.provider_network_type) }
+    ensures { result ≡ segments.is_wired (value_of form.now.provider_network_type) }
 {
     match type_of(form) {
         Some(NetworkType::Flat) => true,
@@ -43,7 +43,7 @@ pub fn is_wired(form: &NetworkForm) -> bool
 /// Whether `provider:physical_network` is absent where the type needs it, or is there where the
 /// type has none.
 pub fn is_bad_physical(form: &NetworkForm) -> bool
-    ensures { result ≡ is_bad_physical_of form.now }
+    ensures { result ≡ segments.is_bad_physical form.now }
 {
     let is_named = match &form.provider_physical_network {
         Given::Is(_) => true,
@@ -53,7 +53,7 @@ pub fn is_bad_physical(form: &NetworkForm) -> bool
 }
 
 fn fits_type(kind: Option<NetworkType>, number: Option<u32>) -> bool
-    ensures { result ≡ fits_type_of kind number }
+    ensures { result ≡ segments.fits_type kind number }
 {
     match kind {
         Some(NetworkType::Vlan) => match number {
@@ -71,7 +71,7 @@ fn fits_type(kind: Option<NetworkType>, number: Option<u32>) -> bool
 /// Whether `provider:segmentation_id` doesn't fit the type: a vlan has a tag from 1 to 4094, a
 /// vxlan network a number from 1 to 16777215 or none, and no other type has one.
 pub fn is_bad_number(form: &NetworkForm) -> bool
-    ensures { result ≡ is_bad_number_of form.now }
+    ensures { result ≡ segments.is_bad_number form.now }
 {
     !fits_type(type_of(form), number_of(form))
 }
@@ -89,8 +89,8 @@ fn physical_of(alloc: Global, form: &NetworkForm) -> Result<Text, OutOfMemory>
 /// The segment that the provider attributes name (Neutron's `provider` extension). A vlan's tag has
 /// been looked at before.
 pub fn asked_segment(alloc: Global, form: &NetworkForm) -> Result<AskedSegment, OutOfMemory>
-    requires fits { is_bad_number_of form.now ≡ false }
-    ensures { IfOk result (λ asked. asked ≡ asked_segment_of form.now) }
+    requires fits { segments.is_bad_number form.now ≡ false }
+    ensures { IfOk result (λ asked. asked ≡ segments.asked_segment form.now) }
 {
     let Some(kind) = type_of(form) else {
         return Ok(None);

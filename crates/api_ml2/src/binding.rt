@@ -4,7 +4,8 @@ ghost use Rattle.std.specs.Prelude.{◌≡◌};
 ghost use Rattle.std.specs.List.{list_any};
 ghost use Rattle.net_settings.specs.Drivers.{is_driver};
 ghost use Rattle.net_settings.specs.declared.settings.Driver.TheVariants.{Openvswitch};
-ghost use Rattle.api_ml2.specs.Binding.{binds as binds_by, bound};
+ghost use Rattle.api_ml2.specs.Binding.{bound};
+ghost use Rattle.api_ml2.specs.Binding as binding;
 
 use crate::carrying::carries;
 use api_types::{Segment, Vif};
@@ -21,7 +22,7 @@ fn has_openvswitch(drivers: &[Driver]) -> bool
 }
 
 fn binds(settings: &Settings, segment: &Segment, host: &Text) -> bool
-    ensures { result ≡ binds_by settings.now segment.now host.now }
+    ensures { result ≡ binding.binds settings.now segment.now host.now }
 {
     has_openvswitch(settings.drivers()) && carries(settings.hosts(), host, segment)
 }

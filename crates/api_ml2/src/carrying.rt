@@ -3,7 +3,7 @@
 ghost use Rattle.std.specs.Prelude.{◌≡◌};
 ghost use Rattle.std.specs.List.{list_any};
 ghost use Rattle.std.specs.Str.{bytes_eq};
-ghost use Rattle.api_ml2.specs.Carrying.{can_carry as carried_by, carries as carried_at};
+ghost use Rattle.api_ml2.specs.Carrying as carrying;
 
 use api_types::Segment;
 use net_addr::Text;
@@ -17,7 +17,7 @@ pub fn is_on(host: &Host, physical: &Text) -> bool
 }
 
 pub(crate) fn can_carry(host: &Host, segment: &Segment) -> bool
-    ensures { result ≡ carried_by host.now segment.now }
+    ensures { result ≡ carrying.can_carry host.now segment.now }
 {
     match segment {
         Segment::Local => true,
@@ -29,7 +29,7 @@ pub(crate) fn can_carry(host: &Host, segment: &Segment) -> bool
 
 /// Whether a host of this name is there that can carry the segment. Its cost grows with the hosts.
 pub fn carries(hosts: &[Host], name: &Text, segment: &Segment) -> bool
-    ensures { result ≡ carried_at hosts.now name.now segment.now }
+    ensures { result ≡ carrying.carries hosts.now name.now segment.now }
 {
     hosts
         .iter()

@@ -5,7 +5,7 @@ ghost use Rattle.api_types.specs.Consistent.Segments.{is_vxlan};
 ghost use Rattle.api_types.specs.Least.{least_from};
 ghost use Rattle.api_ml2.specs.Marks.{AreMarked};
 ghost use Rattle.api_ml2.specs.Numbers.{is_taken};
-ghost use Rattle.api_ml2.specs.Segments.{least_number as least_number_of};
+ghost use Rattle.api_ml2.specs.Segments as segments;
 
 use api_types::{NetworkRow, Segment, Shared};
 use net_addr::OutOfMemory;
@@ -70,7 +70,7 @@ pub(crate) fn least_number(
     networks: &[Shared<NetworkRow>],
     settings: &Settings,
 ) -> Result<Option<u32>, OutOfMemory>
-    ensures { IfOk result (λ n. n ≡ least_number_of settings.now networks.now) }
+    ensures { IfOk result (λ n. n ≡ segments.least_number settings.now networks.now) }
 {
     let first = settings.vxlan_first();
     let last = settings.vxlan_last();

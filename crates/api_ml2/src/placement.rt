@@ -2,7 +2,7 @@
 
 ghost use Rattle.std.specs.Prelude.{◌≡◌, ◌&&◌, find, option_copied};
 ghost use Rattle.net_settings.specs.declared.settings.Host.{Host as HostOf};
-ghost use Rattle.api_ml2.specs.Carrying.{can_carry as can_carry_of};
+ghost use Rattle.api_ml2.specs.Carrying as carrying;
 ghost use Rattle.api_ml2.specs.Placement.{dhcp_host, router_host};
 
 use crate::carrying::can_carry;
@@ -18,7 +18,7 @@ fn first_for_routers(hosts: &[Host]) -> Option<&Host>
 
 fn first_for_dhcp<'a>(hosts: &'a [Host], segment: &Segment) -> Option<&'a Host>
     ensures { option_copied result
-        ≡ find (λ (h : HostOf). h.dhcp && can_carry_of h segment.now) hosts.now }
+        ≡ find (λ (h : HostOf). h.dhcp && carrying.can_carry h segment.now) hosts.now }
 {
     hosts
         .iter()

@@ -3,7 +3,8 @@
 ghost use Rattle.std.specs.Prelude.{◌≡◌, IfOk, IfErr, Ok, option_copied};
 ghost use Rattle.api_types.specs.Consistent.Segments.{same_segment};
 ghost use Rattle.api_ml2.specs.Picking.{IsRefusalOf, picked};
-ghost use Rattle.api_ml2.specs.Segments.{chosen_segment as chosen_segment_of, network_with, segment_in_use as segment_in_use_of};
+ghost use Rattle.api_ml2.specs.Segments.{network_with};
+ghost use Rattle.api_ml2.specs.Segments as segments;
 ghost use Rattle.api_ml2.specs.declared.segments.SegmentRefusal.TheVariants.{OutOfMemory as MemoryRefusal};
 
 use crate::asked::AskedSegment;
@@ -74,7 +75,7 @@ pub fn segment_in_use(
     networks: &[Shared<NetworkRow>],
     asked: &AskedSegment,
 ) -> Result<Option<Refusal>, OutOfMemory>
-    ensures { IfOk result (λ refusal. refusal ≡ segment_in_use_of networks.now asked.now) }
+    ensures { IfOk result (λ refusal. refusal ≡ segments.segment_in_use networks.now asked.now) }
 {
     let Some(segment) = asked else {
         return Ok(None);
@@ -98,7 +99,7 @@ pub fn chosen_segment(
     asked: &AskedSegment,
 ) -> Result<Option<Segment>, OutOfMemory>
     ensures { IfOk result
-        (λ segment. segment ≡ chosen_segment_of settings.now networks.now asked.now) }
+        (λ segment. segment ≡ segments.chosen_segment settings.now networks.now asked.now) }
 {
     if networks.len() >= MOST_NETWORKS {
         return Ok(None);

@@ -3,10 +3,11 @@
 ghost use Rattle.std.specs.Prelude.{◌≡◌, ◌==◌, ◌&&◌, find, if◌then◌else◌, option_copied};
 ghost use Rattle.net_addr.specs.Addresses.{number};
 ghost use Rattle.api_types.specs.Association.{Aim};
-ghost use Rattle.api_types.specs.Consistent.Floating.{stands_for as stands_at};
+ghost use Rattle.api_types.specs.Consistent.Floating as consistent_floating;
 ghost use Rattle.api_policy.specs.Checks.{IsAnswerOf};
-ghost use Rattle.api_policy.specs.OtherFloatings.{is_other as is_other_floating, other_floatings};
-ghost use Rattle.api_policy.specs.Uses.{aim_in_use as aim_in_use_of};
+ghost use Rattle.api_policy.specs.OtherFloatings.{other_floatings};
+ghost use Rattle.api_policy.specs.OtherFloatings as other_floatings_specs;
+ghost use Rattle.api_policy.specs.Uses as uses;
 
 use crate::told::told_user;
 use api_types::{Caller, Fixed, FloatingRow, Id, Kind, PortRow, Refusal, Rows, Shared, UseRule};
@@ -23,7 +24,8 @@ fn is_number(fixed: Addr4, address: &Addr) -> bool
 
 // Whether the floating address is of the network and stands for this address of the port.
 fn stands_for(network: Id, port: Id, address: &Addr, floating: &FloatingRow) -> bool
-    ensures { result ≡ stands_at network port (number address.now) floating.now }
+    ensures { result ≡ consistent_floating.stands_for network port
+        (number address.now) floating.now }
 {
     let there = match &floating.target {
         Some(target) => port == target.port && is_number(target.fixed, address),
@@ -33,7 +35,7 @@ fn stands_for(network: Id, port: Id, address: &Addr, floating: &FloatingRow) -> 
 }
 
 fn is_other(own: &Option<Id>, floating: &FloatingRow) -> bool
-    ensures { result ≡ is_other_floating own.now floating.now }
+    ensures { result ≡ other_floatings_specs.is_other own.now floating.now }
 {
     match own {
         Some(own) => *own != floating.id,
@@ -51,7 +53,7 @@ pub fn leading<'r>(
     address: &Addr,
 ) -> Option<&'r FloatingRow>
     ensures { option_copied result
-        ≡ find (stands_at network port (number address.now))
+        ≡ find (consistent_floating.stands_for network port (number address.now))
         (other_floatings own.now floatings.now) }
 {
     for floating in floatings {
@@ -75,7 +77,7 @@ pub fn aim_in_use(
 ) -> Result<(), Refusal>
     ensures { let aim : Aim = record { port = port.now; fixed = fixed.now } in
         IsAnswerOf
-        (aim_in_use_of rows.now caller.now (other_floatings own rows.now.floatings) network aim)
+        (uses.aim_in_use rows.now caller.now (other_floatings own rows.now.floatings) network aim)
         result }
 {
     let floatings = rows.floatings().rows();

@@ -1,11 +1,11 @@
 //! Ports of services, which the row that their device names uses.
 
 ghost use Rattle.std.specs.Prelude.{◌≡◌, find, if◌then◌else◌, None, option_copied};
-ghost use Rattle.api_types.specs.Owners.{device_is as names_id, is_service as service_of};
+ghost use Rattle.api_types.specs.Owners as owners;
 ghost use Rattle.api_types.specs.declared.floating.FloatingRow.{FloatingRow as TheFloating};
 ghost use Rattle.api_types.specs.declared.router.RouterRow.{RouterRow as TheRouter};
 ghost use Rattle.api_policy.specs.Checks.{IsAnswerOf};
-ghost use Rattle.api_policy.specs.Uses.{named_by_device as named_by, port_in_use as port_in_use_of, service_in_use as service_in_use_of, told_user as told_user_of};
+ghost use Rattle.api_policy.specs.Uses as uses;
 
 use crate::empty::is_empty;
 use crate::told::told_user;
@@ -19,7 +19,7 @@ fn router_named<'r>(
     device: &Text,
 ) -> Option<&'r Shared<RouterRow>>
     ensures { option_copied result
-        ≡ find (λ (r : TheRouter). names_id device.now r.id) routers.now }
+        ≡ find (λ (r : TheRouter). owners.device_is device.now r.id) routers.now }
 {
     routers.iter().find(|router| router.id.is_printed(device))
 }
@@ -29,7 +29,7 @@ fn floating_named<'r>(
     device: &Text,
 ) -> Option<&'r Shared<FloatingRow>>
     ensures { option_copied result
-        ≡ find (λ (f : TheFloating). names_id device.now f.id) floatings.now }
+        ≡ find (λ (f : TheFloating). owners.device_is device.now f.id) floatings.now }
 {
     floatings
         .iter()
@@ -39,7 +39,7 @@ fn floating_named<'r>(
 /// The router, or else the floating address, that a device names. Its cost grows with the routers
 /// and the floating addresses.
 pub fn named_by_device(rows: &Rows, device: &Text) -> Option<(Kind, Id)>
-    ensures { result ≡ named_by rows.now device.now }
+    ensures { result ≡ uses.named_by_device rows.now device.now }
 {
     if let Some(router) = router_named(rows.routers().rows(), device) {
         return Some((Kind::Router, router.id));
@@ -58,7 +58,7 @@ pub fn service_in_use(
     touched: bool,
     port: &PortRow,
 ) -> Result<(), Refusal>
-    ensures { IsAnswerOf (service_in_use_of rows.now caller.now touched port.now) result }
+    ensures { IsAnswerOf (uses.service_in_use rows.now caller.now touched port.now) result }
 {
     if !(touched && port.is_service()) {
         return Ok(());
@@ -74,8 +74,8 @@ pub fn service_in_use(
 // Of a service's port the row that it names, where the caller sees it.
 fn service_told(rows: &Rows, caller: &Caller, port: &PortRow) -> Option<(Kind, Id)>
     ensures { result
-        ≡ (if service_of port.now.owner
-        then told_user_of rows.now caller.now (named_by rows.now port.now.device)
+        ≡ (if owners.is_service port.now.owner
+        then uses.told_user rows.now caller.now (uses.named_by_device rows.now port.now.device)
         else None) }
 {
     if port.is_service() {
@@ -93,7 +93,7 @@ pub fn port_in_use(
     router: &RouterRow,
     port: &PortRow,
 ) -> Result<(), Refusal>
-    ensures { IsAnswerOf (port_in_use_of rows.now caller.now router.now port.now) result }
+    ensures { IsAnswerOf (uses.port_in_use rows.now caller.now router.now port.now) result }
 {
     if !(port.is_service() || !is_empty(&port.device)) {
         return Ok(());

@@ -6,7 +6,7 @@
 //! networks that are its own or shared with it, and each port on its own networks. `may` names the
 //! rule of policy that forbids a call; `admin_only` and its like refuse by one rule. `within_quota`
 //! counts what a project has. The others refuse what a row uses, each by one use, and tell the
-//! using row where the caller sees it; `unless_last` refuses a change for which no version is left.
+//! using row where the caller sees it; `ensure_version_left` refuses a change for which no version is left.
 //! What is printed of rows, and what is shown and listed of them, is defined in specs/. No call
 //! takes memory.
 #![tactic(auto)]
@@ -52,5 +52,5 @@ pub use seen::{
     subnet_seen,
 };
 pub use standing::Standing;
-pub use versions::unless_last;
+pub use versions::ensure_version_left;
 pub use visible::{Visible, sees};

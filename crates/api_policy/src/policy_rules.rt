@@ -2,9 +2,9 @@
 
 ghost use Rattle.std.specs.Prelude.{◌≡◌, None, Some, IfErr, OnOk, option_and_then};
 ghost use Rattle.api_types.specs.Given.{value_of};
-ghost use Rattle.api_policy.specs.Seen.{network_seen as network_at, port_seen as port_at};
+ghost use Rattle.api_policy.specs.Seen as seen;
 ghost use Rattle.api_types.specs.declared.refusal.Refusal.TheVariants.{Forbidden as ForbiddenBy};
-ghost use Rattle.api_policy.specs.May.{access_rule as access_of, admin_rule as admin_of, change_of_port as port_change_of, creation_rule as creation_of, deletion_rule as deletion_of, floating_owned as floating_of, forbidden_by as forbidden_by_of, gone_by as gone_of, group_owned as group_of, interface_rule as interface_of, named_by as named_of, network_owned as network_of, network_rule as network_rule_of, on_network as on_network_of, owner_rule as owner_of, policy_owned as policy_of, port_changed_by as port_changed_of, port_made_by as port_made_of, port_on as port_on_of, port_owned as port_of, router_owned as router_of, rule_if as rule_if_of, rule_owned as rule_of, subnet_owned as subnet_of, update_rule as update_of};
+ghost use Rattle.api_policy.specs.May as may_specs;
 
 use crate::permits::{
     breaks_admin_only, breaks_network_access, breaks_network_owner, breaks_owner_only,
@@ -41,39 +41,39 @@ impl From<Forbidden> for Refusal {
 }
 
 fn rule_if(broken: bool, rule: PolicyRule) -> Option<PolicyRule>
-    ensures { result ≡ rule_if_of broken rule }
+    ensures { result ≡ may_specs.rule_if broken rule }
 {
     if broken { Some(rule) } else { None }
 }
 
 fn admin_rule(caller: &Caller, needed: bool) -> Option<PolicyRule>
-    ensures { result ≡ admin_of caller.now needed }
+    ensures { result ≡ may_specs.admin_rule caller.now needed }
 {
     rule_if(breaks_admin_only(caller, needed), PolicyRule::AdminOnly)
 }
 
 fn owner_rule(caller: &Caller, project: &Text) -> Option<PolicyRule>
-    ensures { result ≡ owner_of caller.now project.now }
+    ensures { result ≡ may_specs.owner_rule caller.now project.now }
 {
     rule_if(breaks_owner_only(caller, project), PolicyRule::OwnerOnly)
 }
 
 fn network_rule(rows: &Rows, caller: &Caller, needed: bool, network: Id) -> Option<PolicyRule>
-    ensures { result ≡ network_rule_of rows.now caller.now needed network }
+    ensures { result ≡ may_specs.network_rule rows.now caller.now needed network }
 {
     let broken = breaks_network_owner(rows, caller, needed, network);
     rule_if(broken, PolicyRule::NetworkOwner)
 }
 
 fn access_rule(rows: &Rows, caller: &Caller, network: Id) -> Option<PolicyRule>
-    ensures { result ≡ access_of rows.now caller.now network }
+    ensures { result ≡ may_specs.access_rule rows.now caller.now network }
 {
     let broken = breaks_network_access(rows, caller, network);
     rule_if(broken, PolicyRule::NetworkAccess)
 }
 
 fn deletion_rule(rows: &Rows, caller: &Caller, port: &PortRow) -> Option<PolicyRule>
-    ensures { result ≡ deletion_of rows.now caller.now port.now }
+    ensures { result ≡ may_specs.deletion_rule rows.now caller.now port.now }
 {
     rule_if(
         breaks_port_delete(rows, caller, port),
@@ -82,55 +82,55 @@ fn deletion_rule(rows: &Rows, caller: &Caller, port: &PortRow) -> Option<PolicyR
 }
 
 fn on_network(rows: &Rows, caller: &Caller, id: Option<Id>) -> Option<PolicyRule>
-    ensures { result ≡ on_network_of rows.now caller.now id }
+    ensures { result ≡ may_specs.on_network rows.now caller.now id }
 {
     network_rule(rows, caller, true, network_seen(rows, caller, id)?.id)
 }
 
 fn network_owned(rows: &Rows, caller: &Caller, id: Option<Id>) -> Option<PolicyRule>
-    ensures { result ≡ network_of rows.now caller.now id }
+    ensures { result ≡ may_specs.network_owned rows.now caller.now id }
 {
     owner_rule(caller, &network_seen(rows, caller, id)?.project)
 }
 
 fn subnet_owned(rows: &Rows, caller: &Caller, id: Option<Id>) -> Option<PolicyRule>
-    ensures { result ≡ subnet_of rows.now caller.now id }
+    ensures { result ≡ may_specs.subnet_owned rows.now caller.now id }
 {
     network_rule(rows, caller, true, subnet_seen(rows, caller, id)?.network)
 }
 
 fn port_owned(rows: &Rows, caller: &Caller, id: Option<Id>) -> Option<PolicyRule>
-    ensures { result ≡ port_of rows.now caller.now id }
+    ensures { result ≡ may_specs.port_owned rows.now caller.now id }
 {
     owner_rule(caller, &port_seen(rows, caller, id)?.project)
 }
 
 fn group_owned(rows: &Rows, caller: &Caller, id: Option<Id>) -> Option<PolicyRule>
-    ensures { result ≡ group_of rows.now caller.now id }
+    ensures { result ≡ may_specs.group_owned rows.now caller.now id }
 {
     owner_rule(caller, &group_seen(rows, caller, id)?.project)
 }
 
 fn rule_owned(rows: &Rows, caller: &Caller, id: Option<Id>) -> Option<PolicyRule>
-    ensures { result ≡ rule_of rows.now caller.now id }
+    ensures { result ≡ may_specs.rule_owned rows.now caller.now id }
 {
     owner_rule(caller, &rule_seen(rows, caller, id)?.project)
 }
 
 fn router_owned(rows: &Rows, caller: &Caller, id: Option<Id>) -> Option<PolicyRule>
-    ensures { result ≡ router_of rows.now caller.now id }
+    ensures { result ≡ may_specs.router_owned rows.now caller.now id }
 {
     owner_rule(caller, &router_seen(rows, caller, id)?.project)
 }
 
 fn floating_owned(rows: &Rows, caller: &Caller, id: Option<Id>) -> Option<PolicyRule>
-    ensures { result ≡ floating_of rows.now caller.now id }
+    ensures { result ≡ may_specs.floating_owned rows.now caller.now id }
 {
     owner_rule(caller, &floating_seen(rows, caller, id)?.project)
 }
 
 fn policy_owned(rows: &Rows, caller: &Caller, id: Option<Id>) -> Option<PolicyRule>
-    ensures { result ≡ policy_of rows.now caller.now id }
+    ensures { result ≡ may_specs.policy_owned rows.now caller.now id }
 {
     owner_rule(caller, &policy_seen(rows, caller, id)?.project)
 }
@@ -141,7 +141,7 @@ fn port_on(
     form: &PortForm,
     network: &NetworkRow,
 ) -> Option<PolicyRule>
-    ensures { result ≡ port_on_of rows.now caller.now form.now network.now }
+    ensures { result ≡ may_specs.port_on rows.now caller.now form.now network.now }
 {
     network_rule(rows, caller, port_for_owner(form), network.id).or(access_rule(
         rows, caller, network.id,
@@ -150,21 +150,21 @@ fn port_on(
 
 fn port_on_named(rows: &Rows, caller: &Caller, form: &PortForm) -> Option<PolicyRule>
     ensures { result
-        ≡ option_and_then (port_on_of rows.now caller.now form.now)
-        (network_at rows.now caller.now (value_of form.now.network_id)) }
+        ≡ option_and_then (may_specs.port_on rows.now caller.now form.now)
+        (seen.network_seen rows.now caller.now (value_of form.now.network_id)) }
 {
     let network = network_seen(rows, caller, given_id(&form.network_id))?;
     port_on(rows, caller, form, network)
 }
 
 fn port_made_by(rows: &Rows, caller: &Caller, form: &PortForm) -> Option<PolicyRule>
-    ensures { result ≡ port_made_of rows.now caller.now form.now }
+    ensures { result ≡ may_specs.port_made_by rows.now caller.now form.now }
 {
     admin_rule(caller, port_for_admin(caller, form)).or(port_on_named(rows, caller, form))
 }
 
 fn creation_rule(rows: &Rows, caller: &Caller, form: &Form) -> Option<PolicyRule>
-    ensures { result ≡ creation_of rows.now caller.now form.now }
+    ensures { result ≡ may_specs.creation_rule rows.now caller.now form.now }
 {
     match form {
         Form::Network(form) => admin_rule(caller, network_for_admin(caller, form)),
@@ -193,7 +193,7 @@ fn change_of_port(
     form: &PortForm,
     port: &PortRow,
 ) -> Option<PolicyRule>
-    ensures { result ≡ port_change_of rows.now caller.now form.now port.now }
+    ensures { result ≡ may_specs.change_of_port rows.now caller.now form.now port.now }
 {
     owner_rule(caller, &port.project).or(network_rule(
         rows,
@@ -210,8 +210,8 @@ fn change_of_named(
     form: &PortForm,
 ) -> Option<PolicyRule>
     ensures { result
-        ≡ option_and_then (port_change_of rows.now caller.now form.now)
-        (port_at rows.now caller.now id) }
+        ≡ option_and_then (may_specs.change_of_port rows.now caller.now form.now)
+        (seen.port_seen rows.now caller.now id) }
 {
     let port = port_seen(rows, caller, id)?;
     change_of_port(rows, caller, form, port)
@@ -223,13 +223,13 @@ fn port_changed_by(
     id: Option<Id>,
     form: &PortForm,
 ) -> Option<PolicyRule>
-    ensures { result ≡ port_changed_of rows.now caller.now id form.now }
+    ensures { result ≡ may_specs.port_changed_by rows.now caller.now id form.now }
 {
     admin_rule(caller, port_for_admin(caller, form)).or(change_of_named(rows, caller, id, form))
 }
 
 fn update_rule(rows: &Rows, caller: &Caller, id: Option<Id>, form: &Form) -> Option<PolicyRule>
-    ensures { result ≡ update_of rows.now caller.now id form.now }
+    ensures { result ≡ may_specs.update_rule rows.now caller.now id form.now }
 {
     match form {
         Form::Network(form) => admin_rule(caller, network_for_admin(caller, form)).or(network_owned(
@@ -251,13 +251,14 @@ fn update_rule(rows: &Rows, caller: &Caller, id: Option<Id>, form: &Form) -> Opt
 
 fn port_gone_by(rows: &Rows, caller: &Caller, id: Option<Id>) -> Option<PolicyRule>
     ensures { result
-        ≡ option_and_then (deletion_of rows.now caller.now) (port_at rows.now caller.now id) }
+        ≡ option_and_then (may_specs.deletion_rule rows.now caller.now)
+        (seen.port_seen rows.now caller.now id) }
 {
     deletion_rule(rows, caller, port_seen(rows, caller, id)?)
 }
 
 fn gone_by(rows: &Rows, caller: &Caller, kind: Kind, id: Option<Id>) -> Option<PolicyRule>
-    ensures { result ≡ gone_of rows.now caller.now kind id }
+    ensures { result ≡ may_specs.gone_by rows.now caller.now kind id }
 {
     match kind {
         Kind::Project => None,
@@ -273,7 +274,7 @@ fn gone_by(rows: &Rows, caller: &Caller, kind: Kind, id: Option<Id>) -> Option<P
 }
 
 fn named_by(rows: &Rows, caller: &Caller, by: &InterfaceBy) -> Option<PolicyRule>
-    ensures { result ≡ named_of rows.now caller.now by.now }
+    ensures { result ≡ may_specs.named_by rows.now caller.now by.now }
 {
     match by {
         InterfaceBy::Subnet(id) => subnet_owned(rows, caller, Some(*id)),
@@ -287,13 +288,13 @@ fn interface_rule(
     id: Option<Id>,
     by: &InterfaceBy,
 ) -> Option<PolicyRule>
-    ensures { result ≡ interface_of rows.now caller.now id by.now }
+    ensures { result ≡ may_specs.interface_rule rows.now caller.now id by.now }
 {
     router_owned(rows, caller, id).or(named_by(rows, caller, by))
 }
 
 fn forbidden_by(rows: &Rows, caller: &Caller, call: &Call) -> Option<PolicyRule>
-    ensures { result ≡ forbidden_by_of rows.now caller.now call.now }
+    ensures { result ≡ may_specs.forbidden_by rows.now caller.now call.now }
 {
     match call {
         Call::List { kind: _, query: _ } => None,
@@ -314,8 +315,9 @@ fn forbidden_by(rows: &Rows, caller: &Caller, call: &Call) -> Option<PolicyRule>
 /// rows that path and body name, where they are there and seen. Its cost grows with the policies,
 /// and with the items of the body.
 pub fn may(rows: &Rows, caller: &Caller, call: &Call) -> Result<(), Forbidden>
-    ensures ok { OnOk result (forbidden_by_of rows.now caller.now call.now ≡ None) }
-    ensures err { IfErr result (λ e. forbidden_by_of rows.now caller.now call.now ≡ Some e.rule) }
+    ensures ok { OnOk result (may_specs.forbidden_by rows.now caller.now call.now ≡ None) }
+    ensures err { IfErr result (λ e. may_specs.forbidden_by rows.now caller.now call.now
+        ≡ Some e.rule) }
 {
     match forbidden_by(rows, caller, call) {
         Some(rule) => Err(Forbidden { rule }),

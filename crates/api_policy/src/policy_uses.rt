@@ -1,20 +1,22 @@
 //! Which ports need which policies.
 
 ghost use Rattle.std.specs.Prelude.{◌≡◌, find, option_copied, option_map};
-ghost use Rattle.api_types.specs.Owners.{is_port_of as is_port_of_router};
+ghost use Rattle.api_types.specs.Owners as owners;
 ghost use Rattle.api_types.specs.Table.{ident_eq};
 ghost use Rattle.api_types.specs.declared.floating.FloatingRow.{FloatingRow as TheFloating};
 ghost use Rattle.api_types.specs.declared.router.RouterRow.{RouterRow as TheRouter};
 ghost use Rattle.api_policy.specs.Checks.{IsAnswerOf};
-ghost use Rattle.api_policy.specs.NeededPolicy.{port_in_need as in_need, user_of_policy};
-ghost use Rattle.api_policy.specs.PolicyNeeds.{is_forsaken as forsaken, is_unserved as unserved, is_unshared as unshared, policy_user as user_among};
-ghost use Rattle.api_policy.specs.Served.{held_port, served as served_of};
+ghost use Rattle.api_policy.specs.NeededPolicy.{user_of_policy};
+ghost use Rattle.api_policy.specs.NeededPolicy as needed_policy_specs;
+ghost use Rattle.api_policy.specs.PolicyNeeds as policy_needs;
+ghost use Rattle.api_policy.specs.Served.{held_port};
+ghost use Rattle.api_policy.specs.Served as served_specs;
 ghost use Rattle.api_policy.specs.Standing.{standing_by};
-ghost use Rattle.api_policy.specs.Uses.{needed_policy as needed_of, open_in_use as open_in_use_of, open_policy as open_of, policy_in_use as policy_in_use_of};
+ghost use Rattle.api_policy.specs.Uses as uses;
 
 use crate::empty::is_empty;
 use crate::standing::{Standing, is_granted, permits_all};
-use crate::told::{unless_used, used_by_port};
+use crate::told::{ensure_unused, used_by_port};
 use api_types::{
     Action, Caller, FloatingRow, Id, Kind, NetworkRow, PolicyRow, PortRow, Refusal, RouterRow,
     Rows, Shared, UseRule,
@@ -23,7 +25,7 @@ use net_addr::Text;
 
 fn router_of<'r>(routers: &'r [Shared<RouterRow>], port: &PortRow) -> Option<&'r Shared<RouterRow>>
     ensures { option_copied result
-        ≡ find (λ (r : TheRouter). is_port_of_router r port.now) routers.now }
+        ≡ find (λ (r : TheRouter). owners.is_port_of r port.now) routers.now }
 {
     routers.iter().find(|router| port.is_of(router))
 }
@@ -42,7 +44,7 @@ fn floating_of<'r>(
 
 // The project of the router or of the floating address that a port serves.
 fn served<'r>(rows: &'r Rows, port: &PortRow) -> Option<&'r Text>
-    ensures { option_copied result ≡ served_of rows.now port.now }
+    ensures { option_copied result ≡ served_specs.served rows.now port.now }
 {
     if let Some(router) = router_of(rows.routers().rows(), port) {
         return Some(&router.get().project);
@@ -56,7 +58,7 @@ fn served<'r>(rows: &'r Rows, port: &PortRow) -> Option<&'r Text>
 // Whether a port is on the network by sharing alone, and it would be shared with it no more.
 fn is_unshared(rows: &Rows, standing: &Standing, network: &NetworkRow, port: &PortRow) -> bool
     ensures { result
-        ≡ unshared (standing_by standing.now rows.now.policies) network.now
+        ≡ policy_needs.is_unshared (standing_by standing.now rows.now.policies) network.now
         (held_port rows.now port.now) }
 {
     !port.by_admin
@@ -74,7 +76,7 @@ fn is_unshared(rows: &Rows, standing: &Standing, network: &NetworkRow, port: &Po
 // Whether a port of no project serves one to which the network would be external no more.
 fn is_unserved(rows: &Rows, standing: &Standing, network: &NetworkRow, port: &PortRow) -> bool
     ensures { result
-        ≡ unserved (standing_by standing.now rows.now.policies) network.now
+        ≡ policy_needs.is_unserved (standing_by standing.now rows.now.policies) network.now
         (held_port rows.now port.now) }
 {
     if !is_empty(&port.project) {
@@ -95,7 +97,8 @@ fn is_unserved(rows: &Rows, standing: &Standing, network: &NetworkRow, port: &Po
 // Whether a port on the network would lack what it needs.
 fn is_forsaken(rows: &Rows, standing: &Standing, network: &NetworkRow, port: &PortRow) -> bool
     ensures { result
-        ≡ forsaken rows.now (standing_by standing.now rows.now.policies) network.now port.now }
+        ≡ policy_needs.is_forsaken rows.now
+        (standing_by standing.now rows.now.policies) network.now port.now }
 {
     network.id == port.network
         && (is_unshared(rows, standing, network, port)
@@ -109,7 +112,8 @@ fn user_on<'r>(
     network: &NetworkRow,
 ) -> Option<&'r Shared<PortRow>>
     ensures { option_copied result
-        ≡ user_among rows.now (standing_by standing.now rows.now.policies) network.now }
+        ≡ policy_needs.policy_user rows.now
+        (standing_by standing.now rows.now.policies) network.now }
 {
     rows.ports()
         .rows()
@@ -124,7 +128,8 @@ fn port_in_need<'r>(
     policy: &PolicyRow,
 ) -> Option<&'r Shared<PortRow>>
     ensures { option_copied result
-        ≡ in_need rows.now policy.now (standing_by standing.now rows.now.policies) }
+        ≡ needed_policy_specs.port_in_need rows.now policy.now
+        (standing_by standing.now rows.now.policies) }
 {
     let network = rows.networks().get(policy.object)?;
     user_on(rows, standing, network)
@@ -154,10 +159,10 @@ pub fn policy_in_use(
     policy: &PolicyRow,
 ) -> Result<(), Refusal>
     ensures { IsAnswerOf
-        (policy_in_use_of rows.now caller.now (standing_by standing.now rows.now.policies)
+        (uses.policy_in_use rows.now caller.now (standing_by standing.now rows.now.policies)
         policy.now) result }
 {
-    unless_used(
+    ensure_unused(
         rows,
         caller,
         UseRule::RbacPolicyInUse,
@@ -173,7 +178,7 @@ fn open_policy(
     network: Id,
     action: Action,
 ) -> Option<&Shared<PolicyRow>>
-    ensures { option_copied result ≡ open_of policies.now network action }
+    ensures { option_copied result ≡ uses.open_policy policies.now network action }
 {
     policies
         .iter()
@@ -188,7 +193,8 @@ fn needed_policy<'r>(
     port: &PortRow,
 ) -> Option<&'r Shared<PolicyRow>>
     ensures { option_copied result
-        ≡ needed_of rows.now.policies (standing_by standing.now rows.now.policies) network.now
+        ≡ uses.needed_policy rows.now.policies
+        (standing_by standing.now rows.now.policies) network.now
         (held_port rows.now port.now) }
 {
     let policies = rows.policies().rows();
@@ -208,7 +214,7 @@ pub fn open_in_use(
     network: &NetworkRow,
 ) -> Result<(), Refusal>
     ensures { IsAnswerOf
-        (open_in_use_of rows.now caller.now (standing_by standing.now rows.now.policies)
+        (uses.open_in_use rows.now caller.now (standing_by standing.now rows.now.policies)
         network.now) result }
 {
     let Some(port) = user_on(rows, standing, network) else {

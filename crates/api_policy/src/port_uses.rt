@@ -7,16 +7,16 @@ ghost use Rattle.api_types.specs.Lists.{is_some_so};
 ghost use Rattle.api_types.specs.Table.{ident_eq};
 ghost use Rattle.api_types.specs.declared.port.Fixed.{Fixed as TheFixed};
 ghost use Rattle.api_policy.specs.Checks.{IsAnswerOf};
-ghost use Rattle.api_policy.specs.Uses.{default_in_use as default_in_use_of, gateway_user as gateway_user_of, group_in_use as group_in_use_of, holds_gateway as gateway_held, is_group_user as uses_group, is_interface_of as interface_of, is_network_user as uses_network, is_subnet_user as uses_subnet, network_in_use as network_in_use_of, old_gateway_in_use as old_gateway_in_use_of, router_in_use as router_in_use_of, subnet_in_use as subnet_in_use_of};
+ghost use Rattle.api_policy.specs.Uses as uses;
 
-use crate::told::unless_used;
+use crate::told::ensure_unused;
 use api_types::{
     Caller, GroupRow, Id, Kind, PortRow, Refusal, RouterRow, Rows, Shared, SubnetRow, UseRule,
 };
 use net_addr::Addr;
 
 fn network_user(ports: &[Shared<PortRow>], network: Id) -> Option<&Shared<PortRow>>
-    ensures { option_copied result ≡ find (uses_network network) ports.now }
+    ensures { option_copied result ≡ find (uses.is_network_user network) ports.now }
 {
     ports
         .iter()
@@ -25,10 +25,10 @@ fn network_user(ports: &[Shared<PortRow>], network: Id) -> Option<&Shared<PortRo
 
 /// Refuses a network that a port other than its DHCP port is on. Its cost grows with the ports.
 pub fn network_in_use(rows: &Rows, caller: &Caller, network: Id) -> Result<(), Refusal>
-    ensures { IsAnswerOf (network_in_use_of rows.now caller.now network) result }
+    ensures { IsAnswerOf (uses.network_in_use rows.now caller.now network) result }
 {
     let user = network_user(rows.ports().rows(), network);
-    unless_used(
+    ensure_unused(
         rows,
         caller,
         UseRule::NetworkInUse,
@@ -39,7 +39,7 @@ pub fn network_in_use(rows: &Rows, caller: &Caller, network: Id) -> Result<(), R
 }
 
 fn subnet_user(ports: &[Shared<PortRow>], subnet: Id) -> Option<&Shared<PortRow>>
-    ensures { option_copied result ≡ find (uses_subnet subnet) ports.now }
+    ensures { option_copied result ≡ find (uses.is_subnet_user subnet) ports.now }
 {
     ports
         .iter()
@@ -49,10 +49,10 @@ fn subnet_user(ports: &[Shared<PortRow>], subnet: Id) -> Option<&Shared<PortRow>
 /// Refuses a subnet of which a port other than the DHCP port has an address. Its cost grows with
 /// the ports and their addresses.
 pub fn subnet_in_use(rows: &Rows, caller: &Caller, subnet: Id) -> Result<(), Refusal>
-    ensures { IsAnswerOf (subnet_in_use_of rows.now caller.now subnet) result }
+    ensures { IsAnswerOf (uses.subnet_in_use rows.now caller.now subnet) result }
 {
     let user = subnet_user(rows.ports().rows(), subnet);
-    unless_used(
+    ensure_unused(
         rows,
         caller,
         UseRule::SubnetInUse,
@@ -71,7 +71,7 @@ fn holds_address(port: &PortRow, subnet: Id, address: &Addr) -> bool
 }
 
 fn holds_gateway(subnet: &SubnetRow, gateway: &Addr, port: &PortRow) -> bool
-    ensures { result ≡ gateway_held subnet.now gateway.now port.now }
+    ensures { result ≡ uses.holds_gateway subnet.now gateway.now port.now }
 {
     port.is_interface() && holds_address(port, subnet.id, gateway)
 }
@@ -81,7 +81,7 @@ fn gateway_holder<'r>(
     subnet: &SubnetRow,
     gateway: &Addr,
 ) -> Option<&'r Shared<PortRow>>
-    ensures { option_copied result ≡ find (gateway_held subnet.now gateway.now) ports.now }
+    ensures { option_copied result ≡ find (uses.holds_gateway subnet.now gateway.now) ports.now }
 {
     ports
         .iter()
@@ -104,7 +104,7 @@ fn gateway_user<'r>(
     gateway: &Option<Addr>,
 ) -> Option<&'r Shared<PortRow>>
     ensures { option_copied result
-        ≡ gateway_user_of ports.now subnet.now subnet.now.gateway gateway.now }
+        ≡ uses.gateway_user ports.now subnet.now subnet.now.gateway gateway.now }
 {
     let Some(old) = &subnet.gateway else {
         return None;
@@ -124,10 +124,10 @@ pub fn old_gateway_in_use(
     old: &SubnetRow,
     new: &SubnetRow,
 ) -> Result<(), Refusal>
-    ensures { IsAnswerOf (old_gateway_in_use_of rows.now caller.now old.now new.now) result }
+    ensures { IsAnswerOf (uses.old_gateway_in_use rows.now caller.now old.now new.now) result }
 {
     let user = gateway_user(rows.ports().rows(), old, &new.gateway);
-    unless_used(
+    ensure_unused(
         rows,
         caller,
         UseRule::GatewayIpInUse,
@@ -139,7 +139,7 @@ pub fn old_gateway_in_use(
 
 /// Refuses a default group, which always is in use.
 pub fn default_in_use(group: &GroupRow) -> Result<(), Refusal>
-    ensures { IsAnswerOf (default_in_use_of group.now) result }
+    ensures { IsAnswerOf (uses.default_in_use group.now) result }
 {
     if !group.is_default {
         return Ok(());
@@ -153,17 +153,17 @@ pub fn default_in_use(group: &GroupRow) -> Result<(), Refusal>
 }
 
 fn group_user(ports: &[Shared<PortRow>], group: Id) -> Option<&Shared<PortRow>>
-    ensures { option_copied result ≡ find (uses_group group) ports.now }
+    ensures { option_copied result ≡ find (uses.is_group_user group) ports.now }
 {
     ports.iter().find(|port| port.names_group(group))
 }
 
 /// Refuses a group that a port names. Its cost grows with the ports and their groups.
 pub fn group_in_use(rows: &Rows, caller: &Caller, group: Id) -> Result<(), Refusal>
-    ensures { IsAnswerOf (group_in_use_of rows.now caller.now group) result }
+    ensures { IsAnswerOf (uses.group_in_use rows.now caller.now group) result }
 {
     let user = group_user(rows.ports().rows(), group);
-    unless_used(
+    ensure_unused(
         rows,
         caller,
         UseRule::SecurityGroupInUse,
@@ -174,7 +174,7 @@ pub fn group_in_use(rows: &Rows, caller: &Caller, group: Id) -> Result<(), Refus
 }
 
 fn interface_on<'r>(ports: &'r [Shared<PortRow>], router: &RouterRow) -> Option<&'r Shared<PortRow>>
-    ensures { option_copied result ≡ find (interface_of router.now) ports.now }
+    ensures { option_copied result ≡ find (uses.is_interface_of router.now) ports.now }
 {
     ports
         .iter()
@@ -183,10 +183,10 @@ fn interface_on<'r>(ports: &'r [Shared<PortRow>], router: &RouterRow) -> Option<
 
 /// Refuses a router that has an interface. Its cost grows with the ports.
 pub fn router_in_use(rows: &Rows, caller: &Caller, router: &RouterRow) -> Result<(), Refusal>
-    ensures { IsAnswerOf (router_in_use_of rows.now caller.now router.now) result }
+    ensures { IsAnswerOf (uses.router_in_use rows.now caller.now router.now) result }
 {
     let user = interface_on(rows.ports().rows(), router);
-    unless_used(
+    ensure_unused(
         rows,
         caller,
         UseRule::RouterInUse,

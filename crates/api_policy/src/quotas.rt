@@ -3,7 +3,7 @@
 ghost use Rattle.std.specs.Prelude.{◌≡◌, None, Some, IfErr, List, ℕ, OnOk};
 ghost use Rattle.api_types.specs.declared.refusal.Refusal.TheVariants.{OverQuota as OverQuotaBy};
 ghost use Rattle.api_policy.specs.Checks.{IsAnswerOf};
-ghost use Rattle.api_policy.specs.Quotas.{limit_of as limit_in, over_quota as over_quota_of, owned_count as count_of_owned, used_of as used_in};
+ghost use Rattle.api_policy.specs.Quotas as quotas_specs;
 
 use api_types::{
     FloatingRow, GroupRow, Keyed, Kind, NetworkRow, PolicyRow, PortRow, Refusal, RouterRow, Rows,
@@ -107,7 +107,7 @@ impl Owned for PolicyRow {
 }
 
 fn owned_count<R: Owned>(project: &Text, rows: &[Shared<R>]) -> usize
-    ensures { result ≡ count_of_owned R.project_of project.now rows.now }
+    ensures { result ≡ quotas_specs.owned_count R.project_of project.now rows.now }
 {
     rows.iter()
         .filter(|row| row.get().project() == project)
@@ -116,7 +116,7 @@ fn owned_count<R: Owned>(project: &Text, rows: &[Shared<R>]) -> usize
 
 // How many rows of the kind the project has.
 fn used_of(rows: &Rows, project: &Text, kind: Kind) -> usize
-    ensures { result ≡ used_in rows.now project.now kind }
+    ensures { result ≡ quotas_specs.used_of rows.now project.now kind }
 {
     match kind {
         Kind::Project => 0,
@@ -132,7 +132,7 @@ fn used_of(rows: &Rows, project: &Text, kind: Kind) -> usize
 }
 
 fn limit_of(quotas: &Quotas, kind: Kind) -> Limit
-    ensures { result ≡ limit_in quotas.now kind }
+    ensures { result ≡ quotas_specs.limit_of quotas.now kind }
 {
     match kind {
         Kind::Project => Limit::Unlimited,
@@ -155,9 +155,10 @@ pub fn within_quota(
     project: &Text,
     kind: Kind,
 ) -> Result<(), OverQuota>
-    ensures ok { OnOk result (over_quota_of settings.now rows.now project.now kind ≡ None) }
+    ensures ok { OnOk result (quotas_specs.over_quota settings.now rows.now project.now kind
+        ≡ None) }
     ensures err { IfErr result
-        (λ e. over_quota_of settings.now rows.now project.now kind
+        (λ e. quotas_specs.over_quota settings.now rows.now project.now kind
         ≡ Some (OverQuotaBy e.resource e.limit e.used)) }
 {
     let Limit::AtMost(limit) = limit_of(&settings.quotas(), kind) else {
@@ -182,7 +183,7 @@ pub fn over_quota(
     project: &Text,
     kind: Kind,
 ) -> Result<(), Refusal>
-    ensures { IsAnswerOf (over_quota_of settings.now rows.now project.now kind) result }
+    ensures { IsAnswerOf (quotas_specs.over_quota settings.now rows.now project.now kind) result }
 {
     within_quota(rows, settings, project, kind)?;
     Ok(())

@@ -2,12 +2,13 @@
 
 ghost use Rattle.std.specs.Prelude.{◌≡◌, [], is_some, not};
 ghost use Rattle.std.specs.List.{filter_map, list_any};
-ghost use Rattle.api_types.specs.Given.{is_for_other as is_for_other_of, is_given as is_given_of, is_other as is_other_of, value_of, value_or};
+ghost use Rattle.api_types.specs.Given.{value_of, value_or};
+ghost use Rattle.api_types.specs.Given as given_specs;
 ghost use Rattle.api_types.specs.Lists.{is_empty};
 ghost use Rattle.api_types.specs.Sharing.{is_action};
 ghost use Rattle.api_types.specs.declared.policy.Action.TheVariants.{External as ExternalAction, Shared as SharedAction};
 ghost use Rattle.api_types.specs.declared.form.FixedAsked.{FixedAsked as TheFixedAsked};
-ghost use Rattle.api_policy.specs.Reserved.{floating_for_admin as floating_reserved, is_for_all as for_all, network_for_admin as network_reserved, policy_for_admin as policy_reserved, port_for_admin as port_reserved, port_for_owner as port_owners, router_for_admin as router_reserved, snat_asked as snat_of};
+ghost use Rattle.api_policy.specs.Reserved as reserved;
 
 use api_types::{
     Action, Caller, FixedAsked, FloatingForm, Given, Id, NetworkForm, PolicyForm, PortForm,
@@ -16,7 +17,7 @@ use api_types::{
 use net_addr::{Seq, Text};
 
 fn is_given<T>(given: &Given<T>) -> bool
-    ensures { result ≡ is_given_of given.now }
+    ensures { result ≡ given_specs.is_given given.now }
 {
     match given {
         Given::Absent => false,
@@ -36,7 +37,7 @@ pub(crate) fn given_id(given: &Given<Id>) -> Option<Id>
 }
 
 fn is_other(caller: &Caller, given: &Given<Text>) -> bool
-    ensures { result ≡ is_other_of caller.now given.now }
+    ensures { result ≡ given_specs.is_other caller.now given.now }
 {
     match given {
         Given::Is(name) => *name != caller.project,
@@ -46,7 +47,7 @@ fn is_other(caller: &Caller, given: &Given<Text>) -> bool
 
 // Whether another project than the caller's is named.
 pub(crate) fn is_for_other(caller: &Caller, project: &Given<Text>, tenant: &Given<Text>) -> bool
-    ensures { result ≡ is_for_other_of caller.now project.now tenant.now }
+    ensures { result ≡ given_specs.is_for_other caller.now project.now tenant.now }
 {
     is_other(caller, project) || is_other(caller, tenant)
 }
@@ -54,7 +55,7 @@ pub(crate) fn is_for_other(caller: &Caller, project: &Given<Text>, tenant: &Give
 /// Whether a network's body asks for what is for administrators alone: sharing, how the network is
 /// carried, or another project.
 pub fn network_for_admin(caller: &Caller, form: &NetworkForm) -> bool
-    ensures { result ≡ network_reserved caller.now form.now }
+    ensures { result ≡ reserved.network_for_admin caller.now form.now }
 {
     is_given(&form.shared)
         || is_given(&form.router_external)
@@ -66,7 +67,7 @@ pub fn network_for_admin(caller: &Caller, form: &NetworkForm) -> bool
 
 /// Whether a port's body asks for what is for administrators alone: a host, or another project.
 pub fn port_for_admin(caller: &Caller, form: &PortForm) -> bool
-    ensures { result ≡ port_reserved caller.now form.now }
+    ensures { result ≡ reserved.port_for_admin caller.now form.now }
 {
     is_given(&form.binding_host_id) || is_for_other(caller, &form.project_id, &form.tenant_id)
 }
@@ -91,7 +92,7 @@ fn names_address(fixed: &Given<Seq<FixedAsked>>) -> bool
 /// Whether a port's body asks for what is for the owner of its network alone: a MAC address, pairs,
 /// port security, or an address of one's choice.
 pub fn port_for_owner(form: &PortForm) -> bool
-    ensures { result ≡ port_owners form.now }
+    ensures { result ≡ reserved.port_for_owner form.now }
 {
     is_given(&form.mac_address)
         || is_given(&form.allowed_address_pairs)
@@ -101,7 +102,7 @@ pub fn port_for_owner(form: &PortForm) -> bool
 
 /// Whether a router's body says that sources are, or aren't, translated.
 pub fn is_snat_asked(form: &RouterForm) -> bool
-    ensures { result ≡ is_some (snat_of form.now) }
+    ensures { result ≡ is_some (reserved.snat_asked form.now) }
 {
     match &form.external_gateway_info {
         Given::Is(gateway) => gateway.snat.is_some(),
@@ -112,7 +113,7 @@ pub fn is_snat_asked(form: &RouterForm) -> bool
 /// Whether a router's body asks for what is for administrators alone: whether sources are
 /// translated, or another project.
 pub fn router_for_admin(caller: &Caller, form: &RouterForm) -> bool
-    ensures { result ≡ router_reserved caller.now form.now }
+    ensures { result ≡ reserved.router_for_admin caller.now form.now }
 {
     is_snat_asked(form) || is_for_other(caller, &form.project_id, &form.tenant_id)
 }
@@ -120,13 +121,13 @@ pub fn router_for_admin(caller: &Caller, form: &RouterForm) -> bool
 /// Whether a floating address's body asks for what is for administrators alone: an address of one's
 /// choice, or another project.
 pub fn floating_for_admin(caller: &Caller, form: &FloatingForm) -> bool
-    ensures { result ≡ floating_reserved caller.now form.now }
+    ensures { result ≡ reserved.floating_for_admin caller.now form.now }
 {
     is_given(&form.floating_ip_address) || is_for_other(caller, &form.project_id, &form.tenant_id)
 }
 
 fn is_for_all(form: &PolicyForm) -> bool
-    ensures { result ≡ for_all form.now }
+    ensures { result ≡ reserved.is_for_all form.now }
 {
     match &form.target_tenant {
         Given::Is(target) => target.as_str() == "*",
@@ -146,7 +147,7 @@ fn is_external(form: &PolicyForm) -> bool
 /// Whether a policy's body asks for what is for administrators alone: the target `*`, an external
 /// network, or another project.
 pub fn policy_for_admin(caller: &Caller, form: &PolicyForm) -> bool
-    ensures { result ≡ policy_reserved caller.now form.now }
+    ensures { result ≡ reserved.policy_for_admin caller.now form.now }
 {
     is_for_all(form) || is_external(form) || is_for_other(caller, &form.project_id, &form.tenant_id)
 }

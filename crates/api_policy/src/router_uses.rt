@@ -4,9 +4,10 @@ ghost use Rattle.std.specs.Prelude.{◌≡◌, find, option_and_then, option_cop
 ghost use Rattle.std.specs.List.{list_any};
 ghost use Rattle.api_types.specs.Table.{row_of};
 ghost use Rattle.api_types.specs.declared.port.PortRow.{PortRow as ThePort};
-ghost use Rattle.api_types.specs.RouterWays.{is_lost_hop as lost_hop, other_ports, reaches as reaches_of, router_ports};
+ghost use Rattle.api_types.specs.RouterWays.{other_ports, router_ports};
+ghost use Rattle.api_types.specs.RouterWays as router_ways;
 ghost use Rattle.api_policy.specs.Checks.{IsAnswerOf};
-ghost use Rattle.api_policy.specs.Uses.{floating_in_use as floating_in_use_of, gateway_in_use as gateway_in_use_of, gateway_use as gateway_use_of, leads_by as led_by, leads_through as led_through, route_in_use as route_in_use_of, used_by_floating as used_by_floating_of};
+ghost use Rattle.api_policy.specs.Uses as uses;
 
 use crate::told::told_user;
 use api_types::{
@@ -24,7 +25,7 @@ fn is_reached(
     address: &Addr,
 ) -> bool
     ensures { result
-        ≡ list_any (reaches_of subnets.now address.now)
+        ≡ list_any (router_ways.reaches subnets.now address.now)
         (other_ports but (router_ports ports.now router.now)) }
 {
     for port in ports {
@@ -44,7 +45,8 @@ fn is_lost_hop(
     hop: &Hop,
 ) -> bool
     ensures { result
-        ≡ lost_hop subnets.now (other_ports port.now.id (router_ports ports.now router.now))
+        ≡ router_ways.is_lost_hop subnets.now
+        (other_ports port.now.id (router_ports ports.now router.now))
         port.now hop.now }
 {
     port.reaches(subnets, &hop.next) && !is_reached(subnets, ports, router, port.id, &hop.next)
@@ -61,7 +63,8 @@ pub fn loses_route(
 ) -> bool
     ensures { result
         ≡ list_any
-        (lost_hop subnets.now (other_ports port.now.id (router_ports ports.now router.now))
+        (router_ways.is_lost_hop subnets.now
+        (other_ports port.now.id (router_ports ports.now router.now))
         port.now) routes.now }
 {
     routes
@@ -80,7 +83,7 @@ pub fn route_in_use(
     port: &PortRow,
 ) -> Result<(), Refusal>
     ensures { IsAnswerOf
-        (route_in_use_of rows.now caller.now router.now routes.now port.now) result }
+        (uses.route_in_use rows.now caller.now router.now routes.now port.now) result }
 {
     let subnets = rows.subnets().rows();
     if !loses_route(subnets, rows.ports().rows(), router, routes, port) {
@@ -102,7 +105,7 @@ fn used_by_floating(
     router: &RouterRow,
     floating: &FloatingRow,
 ) -> Refusal
-    ensures { result ≡ used_by_floating_of rows.now caller.now rule router.now floating.now }
+    ensures { result ≡ uses.used_by_floating rows.now caller.now rule router.now floating.now }
 {
     Refusal::InUse {
         rule,
@@ -112,7 +115,7 @@ fn used_by_floating(
     }
 }
 
-fn unless_led(
+fn ensure_unled(
     rows: &Rows,
     caller: &Caller,
     rule: UseRule,
@@ -120,7 +123,7 @@ fn unless_led(
     floating: Option<&Shared<FloatingRow>>,
 ) -> Result<(), Refusal>
     ensures { IsAnswerOf
-        (option_map (used_by_floating_of rows.now caller.now rule router.now)
+        (option_map (uses.used_by_floating rows.now caller.now rule router.now)
         (option_copied floating.entry)) result }
 {
     match floating {
@@ -136,7 +139,7 @@ fn leads_through(
     port: &PortRow,
     floating: &FloatingRow,
 ) -> bool
-    ensures { result ≡ led_through subnets.now router port.now floating.now }
+    ensures { result ≡ uses.leads_through subnets.now router port.now floating.now }
 {
     match &floating.target {
         Some(target) => {
@@ -156,7 +159,7 @@ pub fn floating_through<'r>(
     port: &PortRow,
 ) -> Option<&'r Shared<FloatingRow>>
     ensures { option_copied result
-        ≡ find (led_through subnets.now router port.now) floatings.now }
+        ≡ find (uses.leads_through subnets.now router port.now) floatings.now }
 {
     floatings
         .iter()
@@ -172,11 +175,11 @@ pub fn floating_in_use(
     router: &RouterRow,
     port: &PortRow,
 ) -> Result<(), Refusal>
-    ensures { IsAnswerOf (floating_in_use_of rows.now caller.now router.now port.now) result }
+    ensures { IsAnswerOf (uses.floating_in_use rows.now caller.now router.now port.now) result }
 {
     let subnets = rows.subnets().rows();
     let floating = floating_through(subnets, rows.floatings().rows(), router.id, port);
-    unless_led(
+    ensure_unled(
         rows,
         caller,
         UseRule::RouterInterfaceInUseByFloatingIp,
@@ -186,7 +189,7 @@ pub fn floating_in_use(
 }
 
 fn leads_by(router: Id, floating: &FloatingRow) -> bool
-    ensures { result ≡ led_by router floating.now }
+    ensures { result ≡ uses.leads_by router floating.now }
 {
     match &floating.target {
         Some(target) => router == target.router,
@@ -196,7 +199,7 @@ fn leads_by(router: Id, floating: &FloatingRow) -> bool
 
 /// The first floating address that leads by the router. Its cost grows with the floating addresses.
 pub fn floating_by(floatings: &[Shared<FloatingRow>], router: Id) -> Option<&Shared<FloatingRow>>
-    ensures { option_copied result ≡ find (led_by router) floatings.now }
+    ensures { option_copied result ≡ find (uses.leads_by router) floatings.now }
 {
     floatings.iter().find(|floating| leads_by(router, floating))
 }
@@ -204,10 +207,10 @@ pub fn floating_by(floatings: &[Shared<FloatingRow>], router: Id) -> Option<&Sha
 /// Refuses that the router's gateway goes, where a floating address leads by the router. Its cost
 /// grows with the floating addresses.
 pub fn gateway_in_use(rows: &Rows, caller: &Caller, router: &RouterRow) -> Result<(), Refusal>
-    ensures { IsAnswerOf (gateway_in_use_of rows.now caller.now router.now) result }
+    ensures { IsAnswerOf (uses.gateway_in_use rows.now caller.now router.now) result }
 {
     let floating = floating_by(rows.floatings().rows(), router.id);
-    unless_led(
+    ensure_unled(
         rows,
         caller,
         UseRule::RouterExternalGatewayInUseByFloatingIp,
@@ -225,7 +228,7 @@ fn port_route_in_use(
     port: Id,
 ) -> Result<(), Refusal>
     ensures { IsAnswerOf
-        (option_and_then (route_in_use_of rows.now caller.now router.now routes.now)
+        (option_and_then (uses.route_in_use rows.now caller.now router.now routes.now)
         (row_of (λ (p : ThePort). p.id) port rows.now.ports)) result }
 {
     match rows.ports().get(port) {
@@ -244,7 +247,7 @@ pub fn gateway_use(
     gateway: &Option<Gateway>,
 ) -> Result<(), Refusal>
     ensures { IsAnswerOf
-        (gateway_use_of rows.now caller.now router.now routes.now gateway.now) result }
+        (uses.gateway_use rows.now caller.now router.now routes.now gateway.now) result }
 {
     let Some(gateway) = gateway else {
         return Ok(());

@@ -2,7 +2,7 @@
 
 ghost use Rattle.std.specs.Prelude.{◌≡◌, filter, option_copied};
 ghost use Rattle.api_types.specs.Refusing.{at_name};
-ghost use Rattle.api_policy.specs.Seen.{floating_seen as floating_at, group_seen as group_at, network_seen as network_at, policy_seen as policy_at, port_seen as port_at, router_seen as router_at, rule_seen as rule_at, subnet_seen as subnet_at};
+ghost use Rattle.api_policy.specs.Seen as seen;
 
 use crate::visible::Visible;
 use api_types::{
@@ -32,21 +32,21 @@ pub fn named<'r, R: Visible>(
 
 /// The network with this id that the caller sees. Its cost grows with the policies.
 pub fn network_seen<'r>(rows: &'r Rows, caller: &Caller, id: Option<Id>) -> Option<&'r NetworkRow>
-    ensures { option_copied result ≡ network_at rows.now caller.now id }
+    ensures { option_copied result ≡ seen.network_seen rows.now caller.now id }
 {
     named(rows, caller, rows.networks(), id)
 }
 
 /// The subnet with this id that the caller sees. Its cost grows with the policies.
 pub fn subnet_seen<'r>(rows: &'r Rows, caller: &Caller, id: Option<Id>) -> Option<&'r SubnetRow>
-    ensures { option_copied result ≡ subnet_at rows.now caller.now id }
+    ensures { option_copied result ≡ seen.subnet_seen rows.now caller.now id }
 {
     named(rows, caller, rows.subnets(), id)
 }
 
 /// The port with this id that the caller sees. Its cost doesn't grow with the rows.
 pub fn port_seen<'r>(rows: &'r Rows, caller: &Caller, id: Option<Id>) -> Option<&'r PortRow>
-    ensures { option_copied result ≡ port_at rows.now caller.now id }
+    ensures { option_copied result ≡ seen.port_seen rows.now caller.now id }
 {
     named(rows, caller, rows.ports(), id)
 }
@@ -54,7 +54,7 @@ pub fn port_seen<'r>(rows: &'r Rows, caller: &Caller, id: Option<Id>) -> Option<
 /// The security group with this id that the caller sees. Its cost doesn't grow with the
 /// rows.
 pub fn group_seen<'r>(rows: &'r Rows, caller: &Caller, id: Option<Id>) -> Option<&'r GroupRow>
-    ensures { option_copied result ≡ group_at rows.now caller.now id }
+    ensures { option_copied result ≡ seen.group_seen rows.now caller.now id }
 {
     named(rows, caller, rows.groups(), id)
 }
@@ -62,14 +62,14 @@ pub fn group_seen<'r>(rows: &'r Rows, caller: &Caller, id: Option<Id>) -> Option
 /// The security group's rule with this id that the caller sees. Its cost doesn't grow with the
 /// rows.
 pub fn rule_seen<'r>(rows: &'r Rows, caller: &Caller, id: Option<Id>) -> Option<&'r RuleRow>
-    ensures { option_copied result ≡ rule_at rows.now caller.now id }
+    ensures { option_copied result ≡ seen.rule_seen rows.now caller.now id }
 {
     named(rows, caller, rows.rules(), id)
 }
 
 /// The router with this id that the caller sees. Its cost doesn't grow with the rows.
 pub fn router_seen<'r>(rows: &'r Rows, caller: &Caller, id: Option<Id>) -> Option<&'r RouterRow>
-    ensures { option_copied result ≡ router_at rows.now caller.now id }
+    ensures { option_copied result ≡ seen.router_seen rows.now caller.now id }
 {
     named(rows, caller, rows.routers(), id)
 }
@@ -77,14 +77,14 @@ pub fn router_seen<'r>(rows: &'r Rows, caller: &Caller, id: Option<Id>) -> Optio
 /// The floating address with this id that the caller sees. Its cost doesn't grow with the
 /// rows.
 pub fn floating_seen<'r>(rows: &'r Rows, caller: &Caller, id: Option<Id>) -> Option<&'r FloatingRow>
-    ensures { option_copied result ≡ floating_at rows.now caller.now id }
+    ensures { option_copied result ≡ seen.floating_seen rows.now caller.now id }
 {
     named(rows, caller, rows.floatings(), id)
 }
 
 /// The policy with this id that the caller sees. Its cost doesn't grow with the rows.
 pub fn policy_seen<'r>(rows: &'r Rows, caller: &Caller, id: Option<Id>) -> Option<&'r PolicyRow>
-    ensures { option_copied result ≡ policy_at rows.now caller.now id }
+    ensures { option_copied result ≡ seen.policy_seen rows.now caller.now id }
 {
     named(rows, caller, rows.policies(), id)
 }

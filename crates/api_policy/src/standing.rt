@@ -1,9 +1,10 @@
 //! Policies as they would stand after a call, told of the policies that stand.
 
 ghost use Rattle.std.specs.Prelude.{◌≡◌};
-ghost use Rattle.api_types.specs.Sharing.{grants as grants_of, is_granted as is_granted_of};
-ghost use Rattle.api_policy.specs.Networks.{permits_all as permits_all_of};
-ghost use Rattle.api_policy.specs.Standing.{aimed, is_closed as is_closed_of, standing_by, with_aimed, without, without_closed};
+ghost use Rattle.api_types.specs.Sharing as sharing;
+ghost use Rattle.api_policy.specs.Networks as networks;
+ghost use Rattle.api_policy.specs.Standing.{aimed, standing_by, with_aimed, without, without_closed};
+ghost use Rattle.api_policy.specs.Standing as standing_specs;
 
 use api_types::{Action, Id, PolicyRow, Shared};
 use net_addr::Text;
@@ -31,13 +32,13 @@ pub enum Standing<'p> {
 
 /// Whether a policy permits the action on the network to all projects.
 pub(crate) fn permits_all(policy: &PolicyRow, action: Action, network: Id) -> bool
-    ensures { result ≡ permits_all_of network action policy.now }
+    ensures { result ≡ networks.permits_all network action policy.now }
 {
     network == policy.object && (action == policy.action && policy.target.as_str() == "*")
 }
 
 fn grants(policy: &PolicyRow, action: Action, network: Id, project: &Text) -> bool
-    ensures { result ≡ grants_of action network project.now policy.now }
+    ensures { result ≡ sharing.grants action network project.now policy.now }
 {
     network == policy.object
         && (action == policy.action && (policy.target == *project || policy.target.as_str() == "*"))
@@ -50,14 +51,14 @@ fn grants_aimed(
     network: Id,
     project: &Text,
 ) -> bool
-    ensures { result ≡ grants_of action network project.now (aimed policy.now target.now) }
+    ensures { result ≡ sharing.grants action network project.now (aimed policy.now target.now) }
 {
     network == policy.object
         && (action == policy.action && (*target == *project || target.as_str() == "*"))
 }
 
 fn is_closed(policy: &PolicyRow, network: Id, shared: bool, external: bool) -> bool
-    ensures { result ≡ is_closed_of network shared external policy.now }
+    ensures { result ≡ standing_specs.is_closed network shared external policy.now }
 {
     (shared && permits_all(policy, Action::Shared, network))
         || (external && permits_all(policy, Action::External, network))
@@ -70,7 +71,7 @@ fn is_granted_without(
     network: Id,
     project: &Text,
 ) -> bool
-    ensures { result ≡ is_granted_of (without gone policies.now) action network project.now }
+    ensures { result ≡ sharing.is_granted (without gone policies.now) action network project.now }
 {
     for policy in policies {
         if gone != policy.id && grants(policy, action, network, project) {
@@ -89,7 +90,7 @@ fn is_granted_aimed(
     project: &Text,
 ) -> bool
     ensures { result
-        ≡ is_granted_of (with_aimed changed.now target.now policies.now) action network
+        ≡ sharing.is_granted (with_aimed changed.now target.now policies.now) action network
         project.now }
 {
     for policy in policies {
@@ -115,7 +116,7 @@ fn is_granted_closed(
     project: &Text,
 ) -> bool
     ensures { result
-        ≡ is_granted_of (without_closed closed shared external policies.now) action network
+        ≡ sharing.is_granted (without_closed closed shared external policies.now) action network
         project.now }
 {
     for policy in policies {
@@ -138,7 +139,7 @@ pub(crate) fn is_granted(
     project: &Text,
 ) -> bool
     ensures { result
-        ≡ is_granted_of (standing_by standing.now policies.now) action network project.now }
+        ≡ sharing.is_granted (standing_by standing.now policies.now) action network project.now }
 {
     match standing {
         Standing::Without { policy } => {

@@ -2,7 +2,7 @@
 
 ghost use Rattle.std.specs.Prelude.{◌≡◌, option_copied, option_map};
 ghost use Rattle.api_policy.specs.Checks.{IsAnswerOf};
-ghost use Rattle.api_policy.specs.Uses.{told_user as told_user_of, used_by_port as used_by_port_of};
+ghost use Rattle.api_policy.specs.Uses as uses;
 
 use crate::visible::sees;
 use api_types::{Caller, Id, Kind, PortRow, Refusal, Rows, Shared, UseRule};
@@ -13,7 +13,7 @@ pub(crate) fn told_user(
     caller: &Caller,
     user: Option<(Kind, Id)>,
 ) -> Option<(Kind, Id)>
-    ensures { result ≡ told_user_of rows.now caller.now user }
+    ensures { result ≡ uses.told_user rows.now caller.now user }
 {
     let (kind, id) = user?;
     if sees(rows, caller, kind, id) {
@@ -32,7 +32,7 @@ pub(crate) fn used_by_port(
     id: Id,
     port: &PortRow,
 ) -> Refusal
-    ensures { result ≡ used_by_port_of rows.now caller.now rule kind id port.now }
+    ensures { result ≡ uses.used_by_port rows.now caller.now rule kind id port.now }
 {
     Refusal::InUse {
         rule,
@@ -43,7 +43,7 @@ pub(crate) fn used_by_port(
 }
 
 // Refuses where a port uses the row.
-pub(crate) fn unless_used(
+pub(crate) fn ensure_unused(
     rows: &Rows,
     caller: &Caller,
     rule: UseRule,
@@ -52,7 +52,7 @@ pub(crate) fn unless_used(
     user: Option<&Shared<PortRow>>,
 ) -> Result<(), Refusal>
     ensures { IsAnswerOf
-        (option_map (used_by_port_of rows.now caller.now rule kind id)
+        (option_map (uses.used_by_port rows.now caller.now rule kind id)
         (option_copied user.entry)) result }
 {
     match user {

@@ -8,7 +8,7 @@ ghost use Rattle.api_policy.specs.Checks.{IsAnswerOf};
 use api_types::Refusal;
 
 /// Refuses where the version is at its last value.
-pub fn unless_last(version: u64) -> Result<(), Refusal>
+pub fn ensure_version_left(version: u64) -> Result<(), Refusal>
     ensures { IsAnswerOf (when (version == (2 ^ 64 - 1)) SpentCounters) result }
 {
     if version == u64::MAX {

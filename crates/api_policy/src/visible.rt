@@ -4,7 +4,8 @@ ghost use Rattle.std.specs.Prelude.{◌≡◌, Bool};
 ghost use Rattle.api_types.specs.Lists.{stands_so};
 ghost use Rattle.api_types.specs.RowLists.{RowLists};
 ghost use Rattle.api_types.specs.declared.call.Caller.{Caller as TheCaller};
-ghost use Rattle.api_policy.specs.Visibility.{is_own as is_own_of, owns_network as owns_network_of, uses_network as uses_network_of, sees_network, sees_subnet, sees_port, sees_row};
+ghost use Rattle.api_policy.specs.Visibility.{sees_network, sees_subnet, sees_port, sees_row};
+ghost use Rattle.api_policy.specs.Visibility as visibility;
 
 use api_types::{
     Caller, FloatingRow, GroupRow, Id, Keyed, Kind, NetworkRow, PolicyRow, PortRow, RouterRow,
@@ -23,14 +24,14 @@ pub trait Visible: Keyed {
 
 // Whether the caller is an administrator or of this project.
 pub(crate) fn is_own(caller: &Caller, project: &Text) -> bool
-    ensures { result ≡ is_own_of caller.now project.now }
+    ensures { result ≡ visibility.is_own caller.now project.now }
 {
     caller.admin || *project == caller.project
 }
 
 // Whether the network is there and is the project's.
 pub(crate) fn owns_network(rows: &Rows, project: &Text, network: Id) -> bool
-    ensures { result ≡ owns_network_of rows.now project.now network }
+    ensures { result ≡ visibility.owns_network rows.now project.now network }
 {
     let networks = rows.networks();
     let _own_ids = networks.rows(); // for the proof: no two networks have one id
@@ -42,7 +43,7 @@ pub(crate) fn owns_network(rows: &Rows, project: &Text, network: Id) -> bool
 
 // Whether the network is there and is the project's or shared with it.
 pub(crate) fn uses_network(rows: &Rows, project: &Text, network: Id) -> bool
-    ensures { result ≡ uses_network_of rows.now project.now network }
+    ensures { result ≡ visibility.uses_network rows.now project.now network }
 {
     let networks = rows.networks();
     let _own_ids = networks.rows(); // for the proof: no two networks have one id
@@ -79,7 +80,7 @@ impl Visible for PortRow {
 }
 
 impl Visible for GroupRow {
-    ghost seen = { λ _ caller r. is_own_of caller r.project };
+    ghost seen = { λ _ caller r. visibility.is_own caller r.project };
 
     fn is_seen(&self, _rows: &Rows, caller: &Caller) -> bool {
         is_own(caller, &self.project)
@@ -87,7 +88,7 @@ impl Visible for GroupRow {
 }
 
 impl Visible for RuleRow {
-    ghost seen = { λ _ caller r. is_own_of caller r.project };
+    ghost seen = { λ _ caller r. visibility.is_own caller r.project };
 
     fn is_seen(&self, _rows: &Rows, caller: &Caller) -> bool {
         is_own(caller, &self.project)
@@ -95,7 +96,7 @@ impl Visible for RuleRow {
 }
 
 impl Visible for RouterRow {
-    ghost seen = { λ _ caller r. is_own_of caller r.project };
+    ghost seen = { λ _ caller r. visibility.is_own caller r.project };
 
     fn is_seen(&self, _rows: &Rows, caller: &Caller) -> bool {
         is_own(caller, &self.project)
@@ -103,7 +104,7 @@ impl Visible for RouterRow {
 }
 
 impl Visible for FloatingRow {
-    ghost seen = { λ _ caller r. is_own_of caller r.project };
+    ghost seen = { λ _ caller r. visibility.is_own caller r.project };
 
     fn is_seen(&self, _rows: &Rows, caller: &Caller) -> bool {
         is_own(caller, &self.project)
@@ -111,7 +112,7 @@ impl Visible for FloatingRow {
 }
 
 impl Visible for PolicyRow {
-    ghost seen = { λ _ caller r. is_own_of caller r.project };
+    ghost seen = { λ _ caller r. visibility.is_own caller r.project };
 
     fn is_seen(&self, _rows: &Rows, caller: &Caller) -> bool {
         is_own(caller, &self.project)

@@ -1,2 +1,4 @@
 pub mod Named
 pub mod Repeats
+pub mod RuleOf
+pub mod RuleParts

@@ -4,10 +4,10 @@ ghost use Rattle.std.specs.Prelude.{◌≡◌, ◌++◌, IfOk, OnOk, flat_map, m
 ghost use Rattle.net_addr.specs.Ordered.{whole_prefix};
 ghost use Rattle.api_types.specs.declared.port.Fixed.{Fixed as TheFixed};
 ghost use Rattle.api_types.specs.declared.port.Pair.{Pair as ThePair};
-ghost use Rattle.api_types.specs.Ascending.{ascending as in_order, prefix_before as comes_before};
+ghost use Rattle.api_types.specs.Ascending as ascending_specs;
 ghost use Rattle.api_types.specs.Members.{once};
 ghost use Rattle.api_secgroup.specs.Named.{given_by};
-ghost use Rattle.api_secgroup.specs.Repeats.{begins_with as first_is, without_repeats as apart};
+ghost use Rattle.api_secgroup.specs.Repeats as repeats;
 
 use api_types::{Fixed, Pair, PortRow, ascending};
 use net_addr::{OutOfMemory, Prefix, Prefixes, Seq};
@@ -15,7 +15,7 @@ use std::alloc::Global;
 
 // Whether the first of these is the prefix.
 fn begins_with(sorted: &[Prefix], prefix: &Prefix) -> bool
-    ensures { result ≡ first_is prefix.now sorted.now }
+    ensures { result ≡ repeats.begins_with prefix.now sorted.now }
 {
     match sorted.first() {
         Some(other) => prefix.base == other.base && prefix.len == other.len,
@@ -26,7 +26,7 @@ fn begins_with(sorted: &[Prefix], prefix: &Prefix) -> bool
 // Of neighbours that are the same, the last.
 #[tactic(auto, unfolding(crate::specs::Repeats::without_repeats))]
 fn without_repeats(alloc: Global, sorted: &[Prefix]) -> Result<Vec<Prefix>, OutOfMemory>
-    ensures { IfOk result (λ v. v.items ≡ apart sorted.now) }
+    ensures { IfOk result (λ v. v.items ≡ repeats.without_repeats sorted.now) }
 {
     let mut kept = Vec::new(alloc);
     let mut rest = sorted;
@@ -42,7 +42,8 @@ fn without_repeats(alloc: Global, sorted: &[Prefix]) -> Result<Vec<Prefix>, OutO
 // In ascending order, each once.
 #[tactic(auto, using(crate::proofs::MemberLemmas::each_once))]
 fn sorted_once(alloc: Global, prefixes: Vec<Prefix>) -> Result<Vec<Prefix>, OutOfMemory>
-    ensures { IfOk result (λ v. v.items ≡ in_order comes_before (once prefixes.items)) }
+    ensures { IfOk result (λ v. v.items
+        ≡ ascending_specs.ascending ascending_specs.prefix_before (once prefixes.items)) }
 {
     let sorted = ascending(prefixes)?;
     without_repeats(alloc, sorted.as_slice())
@@ -95,7 +96,7 @@ fn prefixes_of_all(alloc: Global, ports: &[&PortRow]) -> Result<Vec<Prefix>, Out
 /// grows with what they hold and are allowed, and the logarithm of that number.
 pub(crate) fn members_by(alloc: Global, ports: &[&PortRow]) -> Result<Prefixes, OutOfMemory>
     ensures { IfOk result
-        (λ p. p ≡ in_order comes_before
+        (λ p. p ≡ ascending_specs.ascending ascending_specs.prefix_before
         (once (flat_map given_by (map (λ p. p.now) ports.now)))) }
 {
     let all = prefixes_of_all(alloc, ports)?;

@@ -1,20 +1,20 @@
 //! Whether an address is a member's.
 
 ghost use Rattle.std.specs.Prelude.{◌≡◌};
-ghost use Rattle.api_types.specs.Members.{gives_member as gives_member_to, in_pairs as in_pairs_of, is_member as is_member_of};
+ghost use Rattle.api_types.specs.Members as members;
 
 use api_types::{Id, Pair, PortRow, Rows};
 use net_addr::Addr;
 
 fn in_pairs(pairs: &[Pair], address: &Addr) -> bool
-    ensures { result ≡ in_pairs_of pairs.now address.now }
+    ensures { result ≡ members.in_pairs pairs.now address.now }
 {
     pairs.iter().any(|pair| pair.prefix.contains(*address))
 }
 
 // Whether a port makes the address a member's.
 fn gives_member(port: &PortRow, group: Id, address: &Addr) -> bool
-    ensures { result ≡ gives_member_to group address.now port.now }
+    ensures { result ≡ members.gives_member group address.now port.now }
 {
     port.names_group(group) && (port.holds(address) || in_pairs(port.pairs.as_slice(), address))
 }
@@ -24,7 +24,7 @@ fn gives_member(port: &PortRow, group: Id, address: &Addr) -> bool
 /// name, hold and are allowed.
 #[tactic(auto, unfolding(api_types::specs::Members::is_member))]
 pub fn is_member(rows: &Rows, group: Id, address: &Addr) -> bool
-    ensures { result ≡ is_member_of rows.now group address.now }
+    ensures { result ≡ members.is_member rows.now group address.now }
 {
     rows.ports()
         .rows()

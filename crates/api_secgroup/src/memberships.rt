@@ -5,7 +5,8 @@ ghost use Rattle.std.specs.HashMap.{get};
 ghost use Rattle.std.specs.HashSet.{contains};
 ghost use Rattle.std.specs.List.{filter};
 ghost use Rattle.api_types.specs.Ident.{Ident};
-ghost use Rattle.api_types.specs.Members.{members as members_of, names_group};
+ghost use Rattle.api_types.specs.Members.{names_group};
+ghost use Rattle.api_types.specs.Members as members_specs;
 ghost use Rattle.api_types.specs.Table.{ident_eq};
 ghost use Rattle.api_secgroup.specs.Named.{names};
 
@@ -213,7 +214,7 @@ impl<'r> Memberships<'r> {
     /// cost grows with the addresses and pairs of these ports, and the logarithm of their number.
     #[tactic(auto, unfolding(api_types::specs::Members::members))]
     pub fn members(&self, alloc: Global, group: Id) -> Result<Prefixes, OutOfMemory>
-        ensures { IfOk result (λ p. p ≡ members_of self.now group) }
+        ensures { IfOk result (λ p. p ≡ members_specs.members self.now group) }
     {
         match self.by_group.get(&group) {
             Some(ports) => members_by(alloc, ports.as_slice()),

@@ -4,10 +4,12 @@ ghost use Rattle.std.specs.Prelude.{◌≡◌, ℕ, List, Bool, IfOk, map};
 ghost use Rattle.std.specs.HashSet.{contains_text};
 ghost use Rattle.std.specs.List.{list_all, list_any};
 ghost use Rattle.std.specs.Str.{bytes_eq};
-ghost use Rattle.api_types.specs.Printed.{member_of, tree_of, truth as truth_tree, word};
+ghost use Rattle.api_types.specs.Printed.{member_of, tree_of, word};
+ghost use Rattle.api_types.specs.Printed as printed_specs;
 ghost use Rattle.api_types.specs.declared.call.Filter.{Filter as TheFilter};
-ghost use Rattle.api_policy.specs.Filtered.{fits as fits_tree, meets as meets_all};
-ghost use Rattle.api_shown.specs.Asked.{AskedName, asked_under, asks_for as asks_for_tree, has_asked};
+ghost use Rattle.api_policy.specs.Filtered as filtered;
+ghost use Rattle.api_shown.specs.Asked.{AskedName, asked_under, has_asked};
+ghost use Rattle.api_shown.specs.Asked as asked_specs;
 
 use crate::showing::is_told;
 use api_types::{Filter, Members, Printed, Query};
@@ -46,7 +48,7 @@ impl<'q> Model for NameFilters<'q> {
 }
 
 fn truth_fits(value: &Text, truth: bool) -> bool
-    ensures { result ≡ fits_tree value.now (truth_tree truth) }
+    ensures { result ≡ filtered.fits value.now (printed_specs.truth truth) }
 {
     let word = if truth { "true" } else { "false" };
     value.as_str().eq_ignore_ascii_case(word)
@@ -54,7 +56,8 @@ fn truth_fits(value: &Text, truth: bool) -> bool
 
 // Whether a filter with the name asks for the truth value.
 fn asks_truth(filters: &[Filter], name: &Text, truth: bool) -> bool
-    ensures { result ≡ asks_for_tree (asked_under filters.now name.now) (truth_tree truth) }
+    ensures { result ≡ asked_specs.asks_for
+        (asked_under filters.now name.now) (printed_specs.truth truth) }
 {
     filters.iter().any(|filter| *name == filter.name && truth_fits(&filter.value, truth))
 }
@@ -63,7 +66,7 @@ fn asks_truth(filters: &[Filter], name: &Text, truth: bool) -> bool
 fn texts_of(alloc: Global, filters: &[Filter], name: &Text) -> Result<HashSet<String>, OutOfMemory>
     ensures { IfOk result
         (λ s. (t : List ℕ)
-        → contains_text s t ≡ asks_for_tree (asked_under filters.now name.now) (word t)) }
+        → contains_text s t ≡ asked_specs.asks_for (asked_under filters.now name.now) (word t)) }
 {
     let mut texts = HashSet::new(alloc);
     for filter in filters {
@@ -94,7 +97,7 @@ impl<'q> NameFilters<'q> {
 
     // Whether one of them asks for the value.
     fn asks_for(&self, alloc: Global, printed: &Printed) -> Result<bool, OutOfMemory>
-        ensures { IfOk result (λ b. b ≡ asks_for_tree self.now (tree_of printed.now)) }
+        ensures { IfOk result (λ b. b ≡ asked_specs.asks_for self.now (tree_of printed.now)) }
     {
         match printed {
             Printed::Truth(true) => Ok(self.asks_true),
@@ -250,7 +253,7 @@ impl<'q> FilteredQuery<'q> {
         members: &Members,
     ) -> Result<bool, OutOfMemory>
         ensures { IfOk result
-            (λ b. b ≡ meets_all admin self.now.filters (map member_of members.now)) }
+            (λ b. b ≡ filtered.meets admin self.now.filters (map member_of members.now)) }
     {
         are_all_met(alloc, admin, members, self.by_name.as_slice())
     }

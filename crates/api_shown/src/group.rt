@@ -2,7 +2,8 @@
 
 ghost use Rattle.std.specs.Prelude.{◌≡◌, IfOk, map, option_map};
 ghost use Rattle.api_types.specs.Printed.{tree_of};
-ghost use Rattle.api_policy.specs.Groups.{direction_word as word_of_direction, ethertype_word as word_of_ethertype, named_protocol, protocol_word, rule_members, rule_object, rules_of as rules_of_group};
+ghost use Rattle.api_policy.specs.Groups.{named_protocol, protocol_word, rule_members, rule_object};
+ghost use Rattle.api_policy.specs.Groups as groups;
 ghost use Rattle.api_policy.specs.Trees.{null_or};
 
 use crate::members::Shows;
@@ -12,7 +13,7 @@ use net_addr::{OutOfMemory, Seq, Text};
 use std::alloc::Global;
 
 fn direction_word(direction: Direction) -> &'static str
-    ensures { result.now ≡ word_of_direction direction }
+    ensures { result.now ≡ groups.direction_word direction }
 {
     match direction {
         Direction::Ingress => "ingress",
@@ -21,7 +22,7 @@ fn direction_word(direction: Direction) -> &'static str
 }
 
 fn ethertype_word(ethertype: Ethertype) -> &'static str
-    ensures { result.now ≡ word_of_ethertype ethertype }
+    ensures { result.now ≡ groups.ethertype_word ethertype }
 {
     match ethertype {
         Ethertype::Ipv4 => "IPv4",
@@ -117,7 +118,7 @@ fn rules_of(
     group: &GroupRow,
 ) -> Result<Vec<Printed>, OutOfMemory>
     ensures { IfOk result
-        (λ v. map tree_of v.items ≡ map rule_object (rules_of_group rows.now.rules group.now)) }
+        (λ v. map tree_of v.items ≡ map rule_object (groups.rules_of rows.now.rules group.now)) }
 {
     let mut objects = Vec::new(alloc);
     for rule in rows.rules().rows() {

@@ -5,8 +5,9 @@ ghost use Rattle.std.specs.Result.{IfErr};
 ghost use Rattle.api_types.specs.Lists.{is_some_so};
 ghost use Rattle.api_types.specs.Printed.{shown_row};
 ghost use Rattle.api_policy.specs.Visibility.{sees_row};
-ghost use Rattle.api_policy.specs.Filtered.{meets as meets_all};
-ghost use Rattle.api_policy.specs.Listed.{behind as rows_behind, behind_marker as rows_behind_marker, cut, has_marker, is_full as is_at_limit, listed as rows_listed, listed_in as rows_listed_in, listed_of as rows_listed_of};
+ghost use Rattle.api_policy.specs.Filtered as filtered;
+ghost use Rattle.api_policy.specs.Listed.{cut, has_marker};
+ghost use Rattle.api_policy.specs.Listed as listed_specs;
 ghost use Rattle.api_shown.specs.ListRefusals.{IsListRefusal};
 ghost use Rattle.api_policy.specs.Shown.{shown_as};
 
@@ -48,7 +49,8 @@ fn shown_if_met<R: Shows + Visible>(
 ) -> Result<Option<Shown>, OutOfMemory>
     ensures { IfOk result (λ s. option_map shown_row s
         ≡ (if R.seen rows.now caller.now row.now
-        && meets_all caller.now.admin query.now.filters (R.members_of rows.now caller.now row.now)
+        && filtered.meets caller.now.admin query.now.filters
+        (R.members_of rows.now caller.now row.now)
         then Some (shown_as kind caller.now.admin query.now.fields
         (R.members_of rows.now caller.now row.now)) else None)) }
 {
@@ -65,7 +67,7 @@ fn shown_if_met<R: Shows + Visible>(
 
 // Whether this many rows are as many as the limit.
 fn is_full(limit: Option<u32>, many: usize) -> bool
-    ensures { result ≡ is_at_limit limit many }
+    ensures { result ≡ listed_specs.is_full limit many }
 {
     match limit {
         Some(limit) => limit as usize <= many,
@@ -85,7 +87,7 @@ fn listed_of<R: Shows + Visible>(
     ensures { IfOk result
         (λ s. map shown_row s
         ≡ cut query.now.limit
-        (rows_listed_of (R.seen rows.now caller.now) (R.members_of rows.now caller.now)
+        (listed_specs.listed_of (R.seen rows.now caller.now) (R.members_of rows.now caller.now)
         kind caller.now.admin query.now candidates.now)) }
 {
     let mut listed = Vec::new(alloc);
@@ -102,7 +104,7 @@ fn listed_of<R: Shows + Visible>(
 
 // The rows after the one with this id, and none where it isn't there.
 fn behind<R: Shows>(candidates: &[Shared<R>], id: Id) -> &[Shared<R>]
-    ensures { result.now ≡ rows_behind R.id_of id candidates.now }
+    ensures { result.now ≡ listed_specs.behind R.id_of id candidates.now }
 {
     for (place, row) in candidates.iter().enumerate() {
         if id == row.id() {
@@ -117,7 +119,7 @@ fn behind_marker<'a, R: Shows>(
     candidates: &'a [Shared<R>],
     marker: &Option<IdText>,
 ) -> &'a [Shared<R>]
-    ensures { result.now ≡ rows_behind_marker R.id_of marker.now candidates.now }
+    ensures { result.now ≡ listed_specs.behind_marker R.id_of marker.now candidates.now }
 {
     match marker {
         Some(marker) => match marker.id {
@@ -138,7 +140,7 @@ fn listed_in<R: Shows + Visible>(
 ) -> Result<ShownList, OutOfMemory>
     ensures { IfOk result
         (λ s. map shown_row s
-        ≡ rows_listed_in R.id_of (R.seen rows.now caller.now)
+        ≡ listed_specs.listed_in R.id_of (R.seen rows.now caller.now)
         (R.members_of rows.now caller.now) kind caller.now.admin query.now table.now) }
 {
     let candidates = behind_marker(table.rows(), &query.as_query().marker);
@@ -152,7 +154,8 @@ fn listed_by_kind(
     kind: Kind,
     query: &FilteredQuery,
 ) -> Result<ShownList, OutOfMemory>
-    ensures { IfOk result (λ s. map shown_row s ≡ rows_listed rows.now caller.now kind query.now) }
+    ensures { IfOk result (λ s. map shown_row s
+        ≡ listed_specs.listed rows.now caller.now kind query.now) }
 {
     match kind {
         Kind::Project => Ok(Seq::new(alloc)),
@@ -177,7 +180,7 @@ fn is_seen(rows: &Rows, caller: &Caller, kind: Kind, marker: &IdText) -> bool
     }
 }
 
-fn check_marker(
+fn ensure_marker_seen(
     alloc: Global,
     rows: &Rows,
     caller: &Caller,
@@ -212,12 +215,12 @@ pub fn listed(
     query: &Query,
 ) -> Result<ShownList, ListRefusal>
     ensures rows { IfOk result
-        (λ s. map shown_row s ≡ rows_listed rows.now caller.now kind query.now) }
+        (λ s. map shown_row s ≡ listed_specs.listed rows.now caller.now kind query.now) }
     ensures marker { IfOk result
         (λ _. IsTrue (has_marker rows.now caller.now kind query.now.marker)) }
     ensures refused { IfErr result (IsListRefusal rows.now caller.now kind query.now.marker) }
 {
-    check_marker(alloc, rows, caller, kind, &query.marker)?;
+    ensure_marker_seen(alloc, rows, caller, kind, &query.marker)?;
     let query = FilteredQuery::of(alloc, query)?;
     Ok(listed_by_kind(alloc, rows, caller, kind, &query)?)
 }

@@ -2,7 +2,8 @@
 
 ghost use Rattle.std.specs.Prelude.{◌≡◌, IfOk, map};
 ghost use Rattle.api_types.specs.Printed.{tree_of};
-ghost use Rattle.api_policy.specs.Networks.{is_open as is_open_to_all, number_of, permits_all as permits_to_all, physical_of, subnets_of as subnets_of_network, type_word as word_of_type};
+ghost use Rattle.api_policy.specs.Networks.{number_of, physical_of};
+ghost use Rattle.api_policy.specs.Networks as networks;
 
 use crate::members::Shows;
 use crate::printable::{Printable, push, push_value, push_word};
@@ -15,13 +16,13 @@ use std::alloc::Global;
 
 // Whether a policy permits the action on the network to all projects.
 fn permits_all(policy: &PolicyRow, network: Id, action: Action) -> bool
-    ensures { result ≡ permits_to_all network action policy.now }
+    ensures { result ≡ networks.permits_all network action policy.now }
 {
     network == policy.object && action == policy.action && policy.target.as_str() == "*"
 }
 
 fn is_open(policies: &[Shared<PolicyRow>], network: Id, action: Action) -> bool
-    ensures { result ≡ is_open_to_all policies.now network action }
+    ensures { result ≡ networks.is_open policies.now network action }
 {
     policies
         .iter()
@@ -35,7 +36,7 @@ fn subnets_of(
     caller: &Caller,
     network: Id,
 ) -> Result<Seq<Id>, OutOfMemory>
-    ensures { IfOk result (λ s. s ≡ subnets_of_network rows.now caller.now network) }
+    ensures { IfOk result (λ s. s ≡ networks.subnets_of rows.now caller.now network) }
 {
     let mut ids = Vec::new(alloc);
     for subnet in rows.subnets().rows() {
@@ -47,7 +48,7 @@ fn subnets_of(
 }
 
 fn type_word(segment: &Segment) -> &'static str
-    ensures { result.now ≡ word_of_type segment.now }
+    ensures { result.now ≡ networks.type_word segment.now }
 {
     match segment {
         Segment::Local => "local",

@@ -1,8 +1,9 @@
 //! What is printed of ports.
 
 ghost use Rattle.std.specs.Prelude.{◌≡◌, Bool};
-ghost use Rattle.api_types.specs.Live.{is_live as is_live_in};
-ghost use Rattle.api_policy.specs.Ports.{status_word, vif_word as word_of_vif};
+ghost use Rattle.api_types.specs.Live as live;
+ghost use Rattle.api_policy.specs.Ports.{status_word};
+ghost use Rattle.api_policy.specs.Ports as ports;
 
 use crate::members::Shows;
 use crate::printable::{push, push_word};
@@ -11,7 +12,7 @@ use net_addr::{OutOfMemory, Seq};
 use std::alloc::Global;
 
 fn vif_word(vif: Vif) -> &'static str
-    ensures { result.now ≡ word_of_vif vif }
+    ensures { result.now ≡ ports.vif_word vif }
 {
     match vif {
         Vif::Unbound => "unbound",
@@ -23,7 +24,7 @@ fn vif_word(vif: Vif) -> &'static str
 // Whether a port is live: it and its network are up, and Open vSwitch carries it.
 #[tactic(auto, unfolding(api_types::specs::Live::is_live))]
 fn is_live(rows: &Rows, port: &PortRow) -> bool
-    ensures { result ≡ is_live_in rows.now port.now }
+    ensures { result ≡ live.is_live rows.now port.now }
 {
     if !port.up || port.vif != Vif::Ovs {
         return false;

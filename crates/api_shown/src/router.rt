@@ -2,7 +2,7 @@
 
 ghost use Rattle.std.specs.Prelude.{◌≡◌, IfOk};
 ghost use Rattle.api_types.specs.Printed.{tree_of};
-ghost use Rattle.api_policy.specs.Policies.{action_word as word_of_action};
+ghost use Rattle.api_policy.specs.Policies as policies;
 ghost use Rattle.api_types.specs.Table.{row_of};
 ghost use Rattle.api_types.specs.declared.port.PortRow.{PortRow};
 ghost use Rattle.api_policy.specs.Routers.{fixed_of, gateway_object};
@@ -109,7 +109,7 @@ impl Shows for FloatingRow {
 }
 
 fn action_word(action: Action) -> &'static str
-    ensures { result.now ≡ word_of_action action }
+    ensures { result.now ≡ policies.action_word action }
 {
     match action {
         Action::Shared => "access_as_shared",

@@ -5,7 +5,8 @@ ghost use Rattle.std.specs.List.{list_any};
 ghost use Rattle.std.specs.Str.{bytes_eq};
 ghost use Rattle.api_types.specs.Table.{row_of};
 ghost use Rattle.api_types.specs.Printed.{member_of, shown_row};
-ghost use Rattle.api_policy.specs.Shown.{is_asked as is_asked_for, is_for_admins as is_for_administrators, is_told as is_told_to, shown_as, shown_at, shown_members};
+ghost use Rattle.api_policy.specs.Shown.{shown_as, shown_at, shown_members};
+ghost use Rattle.api_policy.specs.Shown as shown_specs;
 
 use crate::members::Shows;
 use api_types::{Caller, Id, Kind, Members, Rows, Shown, Table};
@@ -14,7 +15,7 @@ use std::alloc::Global;
 
 // Whether a member is shown to administrators alone.
 fn is_for_admins(name: &Text) -> bool
-    ensures { result ≡ is_for_administrators name.now }
+    ensures { result ≡ shown_specs.is_for_admins name.now }
 {
     let name = name.as_str();
     name == "binding:host_id"
@@ -25,7 +26,7 @@ fn is_for_admins(name: &Text) -> bool
 }
 
 pub(crate) fn is_told(admin: bool, name: &Text) -> bool
-    ensures { result ≡ is_told_to admin name.now }
+    ensures { result ≡ shown_specs.is_told admin name.now }
 {
     admin || !is_for_admins(name)
 }
@@ -37,7 +38,7 @@ fn is_among(names: &[Text], name: &Text) -> bool
 }
 
 fn is_asked(fields: &Names, name: &Text) -> bool
-    ensures { result ≡ is_asked_for fields.now name.now }
+    ensures { result ≡ shown_specs.is_asked fields.now name.now }
 {
     fields.len() == 0 || is_among(fields.as_slice(), name)
 }

@@ -1,7 +1,8 @@
 //! What is printed of subnets.
 
 ghost use Rattle.std.specs.Prelude.{◌≡◌};
-ghost use Rattle.api_policy.specs.Subnets.{mode_text as text_of_mode, version_number};
+ghost use Rattle.api_policy.specs.Subnets.{version_number};
+ghost use Rattle.api_policy.specs.Subnets as subnets;
 
 use crate::members::Shows;
 use crate::printable::{Printable, push, push_value};
@@ -10,7 +11,7 @@ use net_addr::{OutOfMemory, Prefix, Seq, Text};
 use std::alloc::Global;
 
 fn mode_text(mode: Ipv6Mode) -> &'static str
-    ensures { result.now ≡ text_of_mode mode }
+    ensures { result.now ≡ subnets.mode_text mode }
 {
     match mode {
         Ipv6Mode::Slaac => "slaac",

@@ -6,3 +6,4 @@ pub mod State
 pub mod Typed
 pub mod Drafts
 pub mod Answers
+pub mod Asking

@@ -1,11 +1,14 @@
 //! Ids that are drawn for a project, which is registered first where it is new.
 ghost use Rattle.std.specs.Prelude.{◌≡◌, ◌⊎◌, ◌+◌, ◌-◌, ◌^◌, ◌<◌, ◌≤◌, ◌++◌, None, Some, IfOk, IfErr, length, position};
 ghost use Rattle.api_types.specs.Consistent.{IsConsistent};
-ghost use Rattle.api_types.specs.Registration.{default_group as group_of, default_rule as rule_of, default_rules, draw_of, drawn_id, is_named, with_project};
+ghost use Rattle.api_types.specs.Registration.{default_rules, draw_of, drawn_id, is_named, with_project};
+ghost use Rattle.api_types.specs.Registration as registration;
 ghost use Rattle.api_types.specs.RowLists.{RowLists};
 ghost use Rattle.call_parts.specs.Drafts.{AreRulesNew, raised};
-ghost use Rattle.call_parts.specs.State.{State, drawing_at};
+ghost use Rattle.call_parts.specs.Answers.{drawing_of};
+ghost use Rattle.call_parts.specs.State.{drawing_at};
 
+use crate::asking::Asking;
 use crate::draft::Draft;
 use api_types::{Direction, Ethertype, GroupRow, Id, ProjectRow, Refusal, Rows, RuleRow, Shared};
 use net_addr::{Copies, OutOfMemory, Text};
@@ -43,7 +46,8 @@ fn default_rule(
     ethertype: Ethertype,
 ) -> Result<RuleRow, OutOfMemory>
     requires { count < 2 ^ 62 }
-    ensures { IfOk result (λ r. r ≡ rule_of project.now ordinal count direction ethertype) }
+    ensures { IfOk result (λ r. r
+        ≡ registration.default_rule project.now ordinal count direction ethertype) }
 {
     let group = Id::make(ordinal, 1);
     Ok(RuleRow {
@@ -65,7 +69,7 @@ fn default_rule(
 }
 
 fn default_group(alloc: Global, project: &Text, ordinal: u32) -> Result<GroupRow, OutOfMemory>
-    ensures { IfOk result (λ g. g ≡ group_of project.now ordinal) }
+    ensures { IfOk result (λ g. g ≡ registration.default_group project.now ordinal) }
 {
     Ok(GroupRow {
         id: Id::make(ordinal, 1),
@@ -199,35 +203,30 @@ fn draw_ids(alloc: Global, rows: &Rows, name: &Text, many: u64) -> Result<Drawn,
     })
 }
 
-/// Draws this many ids for the project with this name, which is registered first, with its default
-/// group, where it is new. It refuses where the version or a counter would pass its last value.
-/// Its cost grows with the projects, and for a project that is new with the groups and the rules
-/// too.
-pub fn draw(
-    alloc: Global,
-    rows: &Rows,
-    version: u64,
-    name: &Text,
-    many: u64,
-) -> Result<Drawn, Refusal>
-    requires consistent { IsConsistent rows.now }
-    requires few { many < 2 ^ 16 }
-    ensures start { IfOk result (λ d. d.draft.start ≡ rows.now) }
-    ensures drawn { let state : State = record { rows = rows.now; version = version } in
-        IfOk result
-        (λ d. drawing_at state name.now many
-        ≡ Some (record { rows = d.draft.rows; ordinal = d.ordinal; first = d.first })) }
-    ensures room { IfOk result (λ d. version < 2 ^ 64 - 1) }
-    ensures within { IfOk result (λ d. d.first + many ≤ 2 ^ 62) }
-    ensures spent { let state : State = record { rows = rows.now; version = version } in
-        IfErr result
-        (λ e. (e ≡ Refusal.OutOfMemory)
-        ⊎ ((e ≡ Refusal.CountersSpent) × (drawing_at state name.now many ≡ None))) }
-{
-    if version == u64::MAX {
-        return Err(Refusal::CountersSpent);
+impl<'a> Asking<'a> {
+    /// Draws this many ids for the project with this name, which is registered first, with its
+    /// default group, where it is new. It refuses where the version or a counter would pass its
+    /// last value. Its cost grows with the projects, and for a project that is new with the groups
+    /// and the rules too.
+    pub fn draw(&self, alloc: Global, name: &Text, many: u64) -> Result<Drawn, Refusal>
+        requires { many < 2 ^ 16 }
+        ensures start { IfOk result (λ d. d.draft.start ≡ self.now.state.rows) }
+        ensures drawn { IfOk result
+            (λ d. drawing_at self.now.state name.now many ≡ Some (drawing_of d)) }
+        ensures room { IfOk result (λ d. self.now.state.version < 2 ^ 64 - 1) }
+        ensures within { IfOk result (λ d. d.first + many ≤ 2 ^ 62) }
+        ensures spent { IfErr result
+            (λ e. (e ≡ Refusal.OutOfMemory)
+            ⊎ ((e ≡ Refusal.CountersSpent)
+            × (drawing_at self.now.state name.now many ≡ None))) }
+        ensures consistent { IsConsistent self.now.state.rows }
+    {
+        let rows = self.rows();
+        if self.version() == u64::MAX {
+            return Err(Refusal::CountersSpent);
+        }
+        draw_ids(alloc, rows, name, many)
     }
-    draw_ids(alloc, rows, name, many)
 }
 
 impl Drawn {

@@ -1,7 +1,8 @@
 //! What a form gives: values, defaults, and the owner of a new row.
 
 ghost use Rattle.std.specs.Prelude.{◌≡◌, IfOk};
-ghost use Rattle.api_types.specs.Given.{are_unlike as are_unlike_of, is_for_other as is_for_other_of, is_given as is_given_of, is_other as is_other_of, owner_of, value_of as value_of_of, value_or as value_or_of};
+ghost use Rattle.api_types.specs.Given.{owner_of};
+ghost use Rattle.api_types.specs.Given as given_specs;
 
 use api_types::{Caller, Given};
 use net_addr::{Copies, OutOfMemory, Text};
@@ -9,7 +10,7 @@ use std::alloc::Global;
 
 /// Whether an attribute stands in the body, with a value or null.
 pub fn is_given<T>(given: &Given<T>) -> bool
-    ensures { result ≡ is_given_of given.now }
+    ensures { result ≡ given_specs.is_given given.now }
 {
     match given {
         Given::Absent => false,
@@ -20,7 +21,7 @@ pub fn is_given<T>(given: &Given<T>) -> bool
 
 /// The value that is given, if one is.
 pub fn value_of<T: Copy>(given: &Given<T>) -> Option<T>
-    ensures { result ≡ value_of_of given.now }
+    ensures { result ≡ given_specs.value_of given.now }
 {
     match given {
         Given::Is(given) => Some(*given),
@@ -30,7 +31,7 @@ pub fn value_of<T: Copy>(given: &Given<T>) -> Option<T>
 
 /// The value that is given, or this one.
 pub fn value_or<T: Copy>(value: T, given: &Given<T>) -> T
-    ensures { result ≡ value_or_of value given.now }
+    ensures { result ≡ given_specs.value_or value given.now }
 {
     match given {
         Given::Is(given) => *given,
@@ -40,7 +41,7 @@ pub fn value_or<T: Copy>(value: T, given: &Given<T>) -> T
 
 /// The text that is given, or a copy of this one.
 pub fn text_or(alloc: Global, text: &Text, given: &Given<Text>) -> Result<Text, OutOfMemory>
-    ensures { IfOk result (λ t. t ≡ value_or_of text.now given.now) }
+    ensures { IfOk result (λ t. t ≡ given_specs.value_or text.now given.now) }
 {
     match given {
         Given::Is(given) => given.copy(alloc),
@@ -50,7 +51,7 @@ pub fn text_or(alloc: Global, text: &Text, given: &Given<Text>) -> Result<Text, 
 
 /// Whether both are given, and differ.
 pub fn are_unlike(project: &Given<Text>, tenant: &Given<Text>) -> bool
-    ensures { result ≡ are_unlike_of project.now tenant.now }
+    ensures { result ≡ given_specs.are_unlike project.now tenant.now }
 {
     match (project, tenant) {
         (Given::Is(project), Given::Is(tenant)) => *project != *tenant,
@@ -59,7 +60,7 @@ pub fn are_unlike(project: &Given<Text>, tenant: &Given<Text>) -> bool
 }
 
 fn is_other(caller: &Caller, given: &Given<Text>) -> bool
-    ensures { result ≡ is_other_of caller.now given.now }
+    ensures { result ≡ given_specs.is_other caller.now given.now }
 {
     match given {
         Given::Is(name) => *name != caller.project,
@@ -69,7 +70,7 @@ fn is_other(caller: &Caller, given: &Given<Text>) -> bool
 
 /// Whether another project than the caller's is named.
 pub fn is_for_other(caller: &Caller, project: &Given<Text>, tenant: &Given<Text>) -> bool
-    ensures { result ≡ is_for_other_of caller.now project.now tenant.now }
+    ensures { result ≡ given_specs.is_for_other caller.now project.now tenant.now }
 {
     is_other(caller, project) || is_other(caller, tenant)
 }

@@ -8,7 +8,8 @@ ghost use Rattle.api_types.specs.declared.floating.FloatingRow.{FloatingRow as T
 ghost use Rattle.api_types.specs.declared.kind.Row.TheVariants.{Floating as FloatingOf};
 ghost use Rattle.api_types.specs.declared.port.Fixed.{Fixed as TheFixed};
 ghost use Rattle.call_parts.specs.Edits.{Put, made};
-ghost use Rattle.call_parts.specs.Leaving.{disassociated as disassociated_of, disassociations, loses_target as loses_target_of};
+ghost use Rattle.call_parts.specs.Leaving.{disassociations};
+ghost use Rattle.call_parts.specs.Leaving as leaving;
 
 use crate::draft::Draft;
 use api_types::{Fixed, FloatingRow, Id, Shared, Target};
@@ -23,13 +24,13 @@ fn keeps(kept: &[Fixed], address: Addr4) -> bool
 }
 
 fn loses_target(port: Id, kept: &[Fixed], target: &Target) -> bool
-    ensures { result ≡ loses_target_of port kept.now target.now }
+    ensures { result ≡ leaving.loses_target port kept.now target.now }
 {
     port == target.port && !keeps(kept, target.fixed)
 }
 
 fn is_lost(port: Id, kept: &[Fixed], floating: &FloatingRow) -> bool
-    ensures { result ≡ is_some_so (loses_target_of port kept.now) floating.now.target }
+    ensures { result ≡ is_some_so (leaving.loses_target port kept.now) floating.now.target }
 {
     match &floating.target {
         Some(target) => loses_target(port, kept, target),
@@ -38,7 +39,7 @@ fn is_lost(port: Id, kept: &[Fixed], floating: &FloatingRow) -> bool
 }
 
 fn disassociated(alloc: Global, floating: &FloatingRow) -> Result<FloatingRow, OutOfMemory>
-    ensures { IfOk result (λ f. f ≡ disassociated_of floating.now) }
+    ensures { IfOk result (λ f. f ≡ leaving.disassociated floating.now) }
 {
     let mut changed = floating.copy(alloc)?;
     changed.target = None;
@@ -54,8 +55,8 @@ fn all_disassociated(
 ) -> Result<Vec<FloatingRow>, OutOfMemory>
     ensures { IfOk result
         (λ lost. lost.items
-        ≡ map disassociated_of
-        (filter (λ (f : TheFloating). is_some_so (loses_target_of port kept.now) f.target)
+        ≡ map leaving.disassociated
+        (filter (λ (f : TheFloating). is_some_so (leaving.loses_target port kept.now) f.target)
         floatings.now)) }
 {
     let mut lost = Vec::new(alloc);

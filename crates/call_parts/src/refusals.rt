@@ -1,6 +1,6 @@
 //! Refusals whose texts take memory.
 ghost use Rattle.std.specs.Prelude.{◌≡◌, IfOk};
-ghost use Rattle.api_types.specs.Refusing.{not_found as not_found_of};
+ghost use Rattle.api_types.specs.Refusing as refusing;
 ghost use Rattle.api_types.specs.Titles.{title_of};
 ghost use Rattle.api_types.specs.declared.refusal.Refusal.TheVariants.{Invalid as InvalidBy};
 ghost use Rattle.call_parts.specs.Answers.{IsOrMemory};
@@ -27,7 +27,7 @@ fn title(alloc: Global, kind: Kind) -> Result<Text, OutOfMemory>
 }
 
 fn unfound(alloc: Global, kind: Kind, text: &Text) -> Result<Refusal, OutOfMemory>
-    ensures { IfOk result (λ r. r ≡ not_found_of kind text.now) }
+    ensures { IfOk result (λ r. r ≡ refusing.not_found kind text.now) }
 {
     Ok(Refusal::NotFound {
         kind: title(alloc, kind)?,
@@ -37,7 +37,7 @@ fn unfound(alloc: Global, kind: Kind, text: &Text) -> Result<Refusal, OutOfMemor
 
 /// The refusal for want of the row that this text names.
 pub fn not_found(alloc: Global, kind: Kind, text: &Text) -> Refusal
-    ensures { IsOrMemory (not_found_of kind text.now) result }
+    ensures { IsOrMemory (refusing.not_found kind text.now) result }
 {
     match unfound(alloc, kind, text) {
         Ok(refusal) => refusal,
@@ -56,7 +56,7 @@ fn id_text(alloc: Global, id: Option<Id>) -> Result<Text, OutOfMemory>
 
 /// The refusal for want of the row with the id that a body gives.
 pub fn none_with_id(alloc: Global, kind: Kind, id: Option<Id>) -> Refusal
-    ensures { IsOrMemory (not_found_of kind (text_of id)) result }
+    ensures { IsOrMemory (refusing.not_found kind (text_of id)) result }
 {
     match id_text(alloc, id) {
         Ok(text) => not_found(alloc, kind, &text),

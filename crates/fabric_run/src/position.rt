@@ -145,6 +145,13 @@ fn cross_tunnel<'f, F: Fleet>(
     }
 }
 
+// Where a frame is once it is out: on which network, and toward what.
+#[derive(Clone, Copy)]
+struct Outside {
+    network: Id,
+    toward: Toward,
+}
+
 // To the first other host that takes the frame from the wire, or out.
 fn cross_wire<'f, F: Fleet>(
     fleet: &'f F,
@@ -152,16 +159,15 @@ fn cross_wire<'f, F: Fleet>(
     host: &HostAt<'f>,
     physical: &'f Text,
     tag: Option<u16>,
-    network: Id,
-    toward: Toward,
+    outside: Outside,
     frame: &Frame,
 ) -> Position<'f>
     requires { at < length (F.hosts fleet.now) }
     ensures within { result.at < length (F.hosts fleet.now) }
     ensures led { (on : Going) (r : TheRun)
         → position_fate (F.hosts fleet.now) on result r
-        ≡ wired_by on (record { physical = physical.now; tag = tag }) network toward frame.now
-        r
+        ≡ wired_by on (record { physical = physical.now; tag = tag }) outside.network
+        outside.toward frame.now r
         (find
         (λ (x : Host). not (bytes_eq x.name host.now.name.now)
         && takes (record { physical = physical.now; tag = tag }) frame.now x)
@@ -180,8 +186,8 @@ fn cross_wire<'f, F: Fleet>(
             at,
             step: Step::End(Ending {
                 ended: FrameEnd::Out {
-                    network,
-                    toward,
+                    network: outside.network,
+                    toward: outside.toward,
                     frame: *frame,
                 },
                 way: None,
@@ -220,7 +226,13 @@ fn follow_step<'f, F: Fleet>(
             network,
             toward,
             frame,
-        } => cross_wire(fleet, at, host, physical, *tag, *network, *toward, frame),
+        } => {
+            let outside = Outside {
+                network: *network,
+                toward: *toward,
+            };
+            cross_wire(fleet, at, host, physical, *tag, outside, frame)
+        }
         Step::End(ending) => ends(at, &ending.ended),
     }
 }

@@ -167,6 +167,10 @@ module _ {W : Type 0} (step : W → Asked → List ℕ → W → Type 0) (fixed 
   pub last_turn : (a b z : Moment W) (end : SessionEnd) → Goes step fixed a b → IsTurn step fixed limit b z (Ends end) → ServesFrom step fixed limit a z end
   last_turn a b z end so turn = inl (turn.0, goes_on step fixed a b turn.0 so turn.1, turn.2)
 
+  -- and where the turn's limit is known to be the session's
+  pub last_turn_within : (n : ℕ) (a b z : Moment W) (end : SessionEnd) → n ≡ limit → Goes step fixed a b → IsTurn step fixed n b z (Ends end) → ServesFrom step fixed limit a z end
+  last_turn_within n a b z end same so turn = last_turn a b z end so (subst (λ k. IsTurn step fixed k b z (Ends end)) same turn)
+
   -- no memory for the buffer
   pub no_turn : (a : Moment W) → ServesFrom step fixed limit a a OutOfMemory
   no_turn a = inr (refl, refl)

@@ -7,7 +7,7 @@ ghost use Rattle.http_session.specs.Serves.{Serves, scene};
 use crate::buffer::Buffer;
 use crate::handler::Handler;
 use crate::session_end::SessionEnd;
-use crate::turn::{Turn, take_turn};
+use crate::turn::{Taking, Turn, take_turn};
 use keeper_core::{Keeper, Sink, Source};
 use std::alloc::Global;
 
@@ -46,25 +46,19 @@ pub fn session<H: Handler, K: Keeper, I: Source, O: Sink>(
     ensures write_fault { result ≡ SessionEnd.WriteFault
         → RoseBy 1 (O.told output.old).faults (O.told output.new).faults }
 {
-    let Ok(mut buffer) = Buffer::make(alloc) else {
+    let Ok(buffer) = Buffer::make(alloc) else {
         return SessionEnd::OutOfMemory;
     };
     let Ok(handler) = H::make(alloc) else {
         return SessionEnd::OutOfMemory;
     };
-    let mut taken = 0;
+    let mut taking = Taking {
+        buffer,
+        taken: 0,
+        limit,
+    };
     'turns: loop {
-        match take_turn::<H, K, I, O>(
-            alloc,
-            &handler,
-            world,
-            keeper,
-            input,
-            output,
-            &mut buffer,
-            &mut taken,
-            limit,
-        ) {
+        match take_turn::<H, K, I, O>(alloc, &handler, world, keeper, input, output, &mut taking) {
             Turn::Again => {}
             Turn::Ends(end) => return end,
         }

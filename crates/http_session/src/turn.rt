@@ -19,6 +19,14 @@ use crate::session_end::SessionEnd;
 use keeper_core::{Keeper, Sink, SinkRefusal, Source};
 use std::alloc::Global;
 
+/// The bytes that were read and not answered yet, and how many were read of those that may be.
+#[derive(Drop)]
+pub(crate) struct Taking {
+    pub(crate) buffer: Buffer,
+    pub(crate) taken: u64,
+    pub(crate) limit: u64,
+}
+
 // Whether the session goes on.
 #[derive(Clone, Copy)]
 pub(crate) enum Turn {
@@ -102,25 +110,24 @@ pub(crate) fn take_turn<H: Handler, K: Keeper, I: Source, O: Sink>(
     keeper: &mut K,
     input: &mut I,
     output: &mut O,
-    buffer: &mut Buffer,
-    taken: &mut u64,
-    limit: u64,
+    taking: &mut Taking,
 ) -> Turn
     requires kept { Tells (K.told keeper.old).rows (H.rows world.old) }
-    requires within { taken.old ≤ limit }
-    ensures is { IsTurn H.steps H.fixed limit
+    requires within { taking.old.taken ≤ taking.old.limit }
+    ensures is { IsTurn H.steps H.fixed taking.old.limit
         (record {
           scene = scene world.old (K.told keeper.old) (I.told input.old) (O.told output.old);
-          buffer = buffer.old;
-          taken = taken.old;
+          buffer = taking.old.buffer;
+          taken = taking.old.taken;
         })
         (record {
           scene = scene world.new (K.told keeper.new) (I.told input.new) (O.told output.new);
-          buffer = buffer.new;
-          taken = taken.new;
+          buffer = taking.new.buffer;
+          taken = taking.new.taken;
         }) result }
     ensures kept { IsStored (H.rows world.new) (K.told keeper.old) (K.told keeper.new) }
-    ensures within { taken.new ≤ limit }
+    ensures limit { taking.new.limit ≡ taking.old.limit }
+    ensures within { taking.new.taken ≤ taking.old.limit }
     ensures read_later { (I.told input.old).faults ≤ (I.told input.new).faults }
     ensures write_later { (O.told output.old).faults ≤ (O.told output.new).faults }
     ensures read_fault { result ≡ Turn.Ends SessionEnd.ReadFault
@@ -130,18 +137,18 @@ pub(crate) fn take_turn<H: Handler, K: Keeper, I: Source, O: Sink>(
     ensures last_read { has_failed (I.told input.old) ≡ false
         → has_failed (I.told input.new) ≡ ends_by_read result }
 {
-    match await_request(input, buffer, taken, limit) {
+    match await_request(input, &mut taking.buffer, &mut taking.taken, taking.limit) {
         Awaited::Found(request) => {
             let turn = answer_request::<H, K, O>(
                 alloc,
                 handler,
                 world,
                 keeper,
-                buffer.as_slice(),
+                taking.buffer.as_slice(),
                 request,
                 output,
             );
-            buffer.drop_front(request.body.end);
+            taking.buffer.drop_front(request.body.end);
             turn
         }
         Awaited::Stopped(Stop::Bad(bad)) => send_refusal::<H, O>(alloc, output, bad),

@@ -22,7 +22,7 @@ pub(crate) trait AddedTo<K>: Stored {
 }
 
 // A row that was added, where its id was new.
-fn unless_twice(is_new: bool) -> Result<(), Trouble> {
+fn ensure_once(is_new: bool) -> Result<(), Trouble> {
     if is_new { Ok(()) } else { Err(Trouble::Fault) }
 }
 
@@ -35,7 +35,7 @@ pub(crate) fn read_all<R: AddedTo<K>, K, S: Alter>(
     let mut found = from.query(R::select(), &[])?;
     for _ in 0..u64::MAX {
         match found.next()? {
-            Some(row) => unless_twice(R::read(alloc, row)?.add_to(alloc, kept)?)?,
+            Some(row) => ensure_once(R::read(alloc, row)?.add_to(alloc, kept)?)?,
             None => return Ok(()),
         }
     }

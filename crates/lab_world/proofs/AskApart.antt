@@ -16,7 +16,7 @@ use Rattle.api_types.specs.declared.refusal.Refusal.{Refusal}
 use Rattle.api_types.specs.declared.refusal.Refusal.TheVariants.{Forbidden, Invalid}
 use Rattle.net_settings.specs.Settings.{SettingsParts}
 use Rattle.api_policy.specs.Visibility.{seen_ports, sees_port, sees_row}
-use Rattle.api_machine.specs.Footing.{Footing, blank_port, footing}
+use Rattle.apart_laws.specs.Footing.{Footing, blank_port, footing}
 use Rattle.api_machine.specs.WholeStep.{api_step}
 use Rattle.api_types.specs.Refusing.{first_refusal, not_found, answer_alone, when}
 use Rattle.api_machine.proofs.WholeStepApart.{step_apart}

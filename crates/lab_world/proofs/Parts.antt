@@ -17,7 +17,7 @@ use Rattle.plane_laws.proofs.KeptLaw.{stay-placed}
 use Rattle.plane_laws.proofs.ListLemmas.{AtMostOne-from_map}
 use Rattle.bus_core.specs.History.{change_at}
 use Rattle.bus_core.specs.Kept.{Kept, with_newest}
-use Rattle.api_machine.specs.Kept.{AreKept}
+use Rattle.kept_laws.specs.Kept.{AreKept}
 use Rattle.plane_types.specs.Node.{Agent, CanFollow, Node, after_change, after_resync, agents_of, follows, host_of, ready_for}
 use Rattle.world_laws.specs.Lead.{IsWorld}
 use Rattle.world_laws.specs.Steps.{Accept, May, Send, Step, add_from, deliver_by, step}

@@ -12,7 +12,7 @@ use Rattle.net_settings.specs.Settings.{SettingsParts}
 use Rattle.plane_types.specs.declared.ask.Ask.{Ask}
 use Rattle.plane_types.specs.declared.ask.Ask.TheVariants.{Api, Lab}
 use Rattle.plane_types.specs.declared.ask.LabCall.{LabCall}
-use Rattle.api_machine.specs.Kept.{AreKept}
+use Rattle.kept_laws.specs.Kept.{AreKept}
 use Rattle.api_machine.specs.WholeStep.{api_step}
 use Rattle.api_machine.proofs.CallsKept.{call_kept}
 use Rattle.world_laws.specs.Lead.{IsWorld}

@@ -2,7 +2,7 @@
 ghost use Rattle.std.specs.Prelude.{◌≡◌, ◌⊎◌, ◌-◌, ◌^◌, ◌<◌, ◌≤◌, IfErr, IfOk, OnErr, OnOk, true};
 ghost use Rattle.api_types.specs.Outcome.{Refused as RefusedWith};
 ghost use Rattle.api_types.specs.Rows.{Fits, after};
-ghost use Rattle.api_machine.specs.Kept.{AreKept};
+ghost use Rattle.kept_laws.specs.Kept.{AreKept};
 ghost use Rattle.api_machine.specs.WholeStep.{api_step};
 ghost use Rattle.call_parts.specs.InForm.{IsInForm};
 ghost use Rattle.keeper_core.specs.Counts.{RoseBy, Tells};

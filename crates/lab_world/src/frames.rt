@@ -5,7 +5,7 @@ ghost use Rattle.plane_laws.specs.Bounds.{HasEightBits};
 ghost use Rattle.lab_world.specs.Lab.{Answered, IsBarred, lab_outcome};
 ghost use Rattle.lab_world.specs.World.{ByLab, IsHandled};
 
-use crate::lab::bar_event;
+use crate::lab::ensure_event_allowed;
 use crate::world::World;
 use api_types::{Caller, Refusal};
 use fabric_run::send;
@@ -30,7 +30,7 @@ impl World {
             (λ refusal. (self.new ≡ self.old)
             × IsBarred (lab_outcome self.old caller.now (LabCall.Frames event.now)) refusal) }
     {
-        bar_event(alloc, self.machine.rows(), caller, event)?;
+        ensure_event_allowed(alloc, self.machine.rows(), caller, event)?;
         let _ = lifetime(event);
         self.hosts.reserve(alloc)?;
         let verdict = send(alloc, &self.hosts, event)?;
@@ -51,7 +51,7 @@ impl World {
         ensures err { IfErr result
             (IsBarred (lab_outcome self.now caller.now (LabCall.Explain event.now))) }
     {
-        bar_event(alloc, self.machine.rows(), caller, event)?;
+        ensure_event_allowed(alloc, self.machine.rows(), caller, event)?;
         let entries = self.hosts.all_entries(alloc)?;
         let verdict = explain(alloc, self.machine.rows(), &entries, event)?;
         Ok(LabAnswer::Seen(verdict))

@@ -3,7 +3,7 @@ ghost use Rattle.std.specs.Prelude.{◌≡◌, ◌⊎◌, None, Some, false, IfE
 ghost use Rattle.api_types.specs.Ident.{ident_text};
 ghost use Rattle.api_types.specs.declared.refusal.PolicyRule.TheVariants.{AdminOnly as ForAdmins};
 ghost use Rattle.api_types.specs.declared.refusal.Refusal.TheVariants.{Forbidden as ForbiddenBy, NoHost as NoHostOf, NoMessage as NoMessageOf};
-ghost use Rattle.api_types.specs.Refusing.{not_found as not_found_of};
+ghost use Rattle.api_types.specs.Refusing as refusing;
 ghost use Rattle.plane_types.specs.Node.{Node};
 ghost use Rattle.plane_types.specs.declared.ask.LabAnswer.TheVariants.{Tables as TablesOf};
 ghost use Rattle.bus_core.specs.Kept.{IsGone, change_of, first_of};
@@ -20,7 +20,7 @@ use plane_types::{Event, LabAnswer};
 use std::alloc::Global;
 
 /// Refuses a caller who is no administrator.
-pub(crate) fn bar_tenant(caller: &Caller) -> Result<(), Refusal>
+pub(crate) fn ensure_admin(caller: &Caller) -> Result<(), Refusal>
     ensures ok { OnOk result (caller.now.admin ≡ true) }
     ensures err { IfErr result
         (λ refusal. (caller.now.admin ≡ false) × (refusal ≡ ForbiddenBy ForAdmins)) }
@@ -35,7 +35,7 @@ pub(crate) fn bar_tenant(caller: &Caller) -> Result<(), Refusal>
 }
 
 fn no_port(alloc: Global, port: Id) -> Result<Refusal, OutOfMemory>
-    ensures { IfOk result (λ r. r ≡ not_found_of Kind.Port (ident_text port)) }
+    ensures { IfOk result (λ r. r ≡ refusing.not_found Kind.Port (ident_text port)) }
 {
     Ok(Refusal::NotFound {
         kind: Text::of(alloc, Kind::Port.title())?,
@@ -45,7 +45,7 @@ fn no_port(alloc: Global, port: Id) -> Result<Refusal, OutOfMemory>
 
 /// Refuses an event whose port isn't there or isn't seen, whose caller is no administrator, or
 /// whose physical network carries none so.
-pub(crate) fn bar_event(
+pub(crate) fn ensure_event_allowed(
     alloc: Global,
     rows: &Rows,
     caller: &Caller,
@@ -61,10 +61,10 @@ pub(crate) fn bar_event(
             if !sees(rows, caller, Kind::Port, *port) {
                 return Err(no_port(alloc, *port)?);
             }
-            bar_tenant(caller)
+            ensure_admin(caller)
         }
         Event::FromWire { physical, tag, .. } => {
-            bar_tenant(caller)?;
+            ensure_admin(caller)?;
             if network_on(rows, physical, *tag).is_none() {
                 return Err(Refusal::Invalid {
                     name: Text::of(alloc, "physical_network")?,

@@ -8,7 +8,7 @@ ghost use Rattle.api_types.specs.declared.call.Caller.{Caller};
 ghost use Rattle.plane_types.specs.declared.ask.Ask.{Ask};
 ghost use Rattle.plane_types.specs.declared.ask.Ask.TheVariants.{Lab};
 ghost use Rattle.plane_types.specs.declared.ask.LabCall.TheVariants.{Restart};
-ghost use Rattle.api_machine.specs.Footing.{footing};
+ghost use Rattle.apart_laws.specs.Footing.{footing};
 ghost use Rattle.world_laws.specs.Lead.{IsWorld};
 ghost use Rattle.world_laws.specs.World.{IsSynced, World};
 ghost use Rattle.lab_world.specs.World.{IsAskInForm, MovesBy, ask_outcome, state_of, told_of};

@@ -3,7 +3,7 @@ ghost use Rattle.std.specs.Prelude.{◌≡◌, IfErr, IfOk};
 ghost use Rattle.lab_world.specs.Lab.{Answered, IsBarred, lab_outcome};
 ghost use Rattle.lab_world.specs.World.{ByLab, IsHandled};
 
-use crate::lab::{bar_tenant, kept_change, place_of, tables_of};
+use crate::lab::{ensure_admin, kept_change, place_of, tables_of};
 use crate::world::World;
 use api_types::{Caller, Refusal};
 use net_addr::Text;
@@ -29,7 +29,7 @@ impl World {
             × IsBarred (lab_outcome self.old caller.now (LabCall.Deliver name.now number))
             refusal) }
     {
-        bar_tenant(caller)?;
+        ensure_admin(caller)?;
         let at = place_of(alloc, &self.hosts, name)?;
         let change = kept_change(&self.bus, number)?;
         let heard = self.hosts.deliver(alloc, at, number, change)?;
@@ -52,7 +52,7 @@ impl World {
             (λ refusal. (self.new ≡ self.old)
             × IsBarred (lab_outcome self.old caller.now (LabCall.Resync name.now)) refusal) }
     {
-        bar_tenant(caller)?;
+        ensure_admin(caller)?;
         let at = place_of(alloc, &self.hosts, name)?;
         let version = self.machine.version();
         let states = self.hosts.states_with(alloc, name, Some(version))?;
@@ -76,7 +76,7 @@ impl World {
             (λ refusal. (self.new ≡ self.old)
             × IsBarred (lab_outcome self.old caller.now (LabCall.Restart name.now)) refusal) }
     {
-        bar_tenant(caller)?;
+        ensure_admin(caller)?;
         let at = place_of(alloc, &self.hosts, name)?;
         let states = self.hosts.states_with(alloc, name, None)?;
         self.hosts.restart(at);
@@ -99,7 +99,7 @@ impl World {
             (λ refusal. (self.new ≡ self.old)
             × IsBarred (lab_outcome self.old caller.now (LabCall.Forget name.now)) refusal) }
     {
-        bar_tenant(caller)?;
+        ensure_admin(caller)?;
         let at = place_of(alloc, &self.hosts, name)?;
         let states = self.hosts.states(alloc)?;
         self.hosts.forget(at);
@@ -117,7 +117,7 @@ impl World {
             (λ refusal. (self.new ≡ self.old)
             × IsBarred (lab_outcome self.old caller.now LabCall.Settle) refusal) }
     {
-        bar_tenant(caller)?;
+        ensure_admin(caller)?;
         let version = self.machine.version();
         let ready = self.hosts.prepare(alloc, version, self.machine.rows())?;
         let states = self.hosts.states_at(alloc, version)?;
@@ -131,7 +131,7 @@ impl World {
             (λ answer. lab_outcome self.now caller.now LabCall.Hosts ≡ Answered answer self.now) }
         ensures err { IfErr result (IsBarred (lab_outcome self.now caller.now LabCall.Hosts)) }
     {
-        bar_tenant(caller)?;
+        ensure_admin(caller)?;
         Ok(LabAnswer::Hosts(self.hosts.states(alloc)?))
     }
 
@@ -148,7 +148,7 @@ impl World {
         ensures err { IfErr result
             (IsBarred (lab_outcome self.now caller.now (LabCall.Tables name.now))) }
     {
-        bar_tenant(caller)?;
+        ensure_admin(caller)?;
         tables_of(alloc, &self.hosts, name)
     }
 }

@@ -2,7 +2,7 @@
 ghost use Rattle.std.specs.Prelude.{◌≡◌, IfErr, IfOk};
 ghost use Rattle.lab_world.specs.Lab.{Answered, IsBarred, lab_outcome};
 
-use crate::lab::{bar_tenant, kept_change};
+use crate::lab::{ensure_admin, kept_change};
 use crate::world::World;
 use api_types::{Caller, Refusal};
 use plane_types::{LabAnswer, LabCall};
@@ -16,7 +16,7 @@ impl World {
             (λ answer. lab_outcome self.now caller.now LabCall.Version ≡ Answered answer self.now) }
         ensures err { IfErr result (IsBarred (lab_outcome self.now caller.now LabCall.Version)) }
     {
-        bar_tenant(caller)?;
+        ensure_admin(caller)?;
         Ok(LabAnswer::Version {
             first: self.bus.first(),
             last: self.bus.last(),
@@ -36,7 +36,7 @@ impl World {
         ensures err { IfErr result
             (IsBarred (lab_outcome self.now caller.now (LabCall.Change number))) }
     {
-        bar_tenant(caller)?;
+        ensure_admin(caller)?;
         let change = kept_change(&self.bus, number)?;
         let items = copy_change(alloc, change)?;
         Ok(LabAnswer::Change { number, items })
@@ -56,7 +56,7 @@ impl World {
         ensures err { IfErr result
             (IsBarred (lab_outcome self.now caller.now (LabCall.Page version number))) }
     {
-        bar_tenant(caller)?;
+        ensure_admin(caller)?;
         let now = self.machine.version();
         if version != now {
             return Err(Refusal::VersionMoved {

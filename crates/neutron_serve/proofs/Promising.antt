@@ -8,7 +8,7 @@ use Rattle.api_types.specs.Lists.{is_empty}
 use Rattle.api_types.specs.Outcome.{Moved, Refused, Told as ToldReply}
 use Rattle.api_types.specs.declared.call.Caller.{Caller}
 use Rattle.api_types.specs.declared.refusal.Refusal.{Refusal}
-use Rattle.api_machine.specs.Footing.{footing}
+use Rattle.apart_laws.specs.Footing.{footing}
 use Rattle.json_values.specs.Grammars.{is_project_name}
 use Rattle.plane_types.specs.Verdicts.{fabric_verdict}
 use Rattle.plane_types.specs.declared.ask.Ask.{Ask}

@@ -16,8 +16,8 @@ use Rattle.lab_world.specs.World.{ByLab, ByMachine, MovesBy, ask_outcome, state_
 use Rattle.lab_world.proofs.LabLaws.{lab_keeps_rows}
 use Rattle.lab_world.proofs.WorldLaws.{sound_of}
 use Rattle.owner_laws.proofs.CallsSpare.{calls_spare}
-use Rattle.owner_laws.proofs.Steps.{others_stay_refl}
-use Rattle.owner_laws.specs.Others.{OthersStay}
+use Rattle.apart_laws.proofs.Steps.{others_stay_refl}
+use Rattle.apart_laws.specs.Others.{OthersStay}
 
 module _ (project : List ℕ) (old new : World) where
   abbrev Stay : Type 0

@@ -18,7 +18,7 @@ use Rattle.api_types.specs.Consistent.{IsConsistent}
 use Rattle.api_types.specs.Lists.{Each}
 use Rattle.api_types.specs.Outcome.{Moved, Refused, Told}
 use Rattle.api_types.specs.declared.call.Caller.{Caller}
-use Rattle.api_machine.specs.Footing.{footing}
+use Rattle.apart_laws.specs.Footing.{footing}
 use Rattle.plane_types.specs.Crossing.{CrossesAtRouters}
 use Rattle.plane_types.specs.Hosts.{all_entries}
 use Rattle.plane_types.specs.PortSecurity.{AreLetOut, IsLetIn, IsLetOut}
@@ -36,7 +36,7 @@ use Rattle.world_laws.specs.Steps.{Send, step}
 use Rattle.world_laws.specs.World.{IsSynced, World, hosts_of}
 use Rattle.lab_world.specs.Lab.{Answered, Barred, event_refusal}
 use Rattle.lab_world.specs.World.{AskOutcome, ByLab, ByMachine, ask_outcome, state_of}
-use Rattle.owner_laws.specs.Others.{OthersStay}
+use Rattle.apart_laws.specs.Others.{OthersStay}
 use Rattle.http_heads.specs.Fields.{closes}
 use Rattle.http_heads.specs.Heads.{Asked}
 use Rattle.http_session.specs.Serves.{Scene, Serves}

@@ -6,7 +6,8 @@ ghost use Rattle.keeper_core.specs.Counts.{RoseBy, Tells};
 ghost use Rattle.keeper_core.specs.Kept.{IsStored};
 ghost use Rattle.lab_world.specs.World.{Handles, IsAskInForm, ask_outcome, is_change};
 ghost use Rattle.neutron_serve.specs.Replies.{refusal_bytes};
-ghost use Rattle.neutron_serve.specs.Causes.{cause_in, may_move as may_move_by, moves_hosts as moves_hosts_by, tells_entries};
+ghost use Rattle.neutron_serve.specs.Causes.{cause_in, tells_entries};
+ghost use Rattle.neutron_serve.specs.Causes as causes;
 ghost use Rattle.neutron_serve.specs.Requests.{request_of};
 ghost use Rattle.neutron_serve.specs.Steps.{byte_refusal, request_outcome};
 
@@ -119,7 +120,7 @@ fn keeps_entries(answer: &LabAnswer) -> bool
 
 // Whether hosts may be others than before a call of the lab that is answered so.
 fn moves_hosts(call: &LabCall, answer: &LabAnswer) -> bool
-    ensures { result ≡ moves_hosts_by call.now answer.now }
+    ensures { result ≡ causes.moves_hosts call.now answer.now }
 {
     match call {
         LabCall::Frames(_) => keeps_entries(answer),
@@ -135,7 +136,7 @@ fn moves_hosts(call: &LabCall, answer: &LabAnswer) -> bool
 
 // Whether hosts may be others than before an ask that is answered so.
 fn may_move(ask: &Ask, reply: &Reply) -> bool
-    ensures { result ≡ may_move_by ask.now reply.now }
+    ensures { result ≡ causes.may_move ask.now reply.now }
 {
     match (ask, reply) {
         (Ask::Lab(call), Reply::LabDone(answer)) => moves_hosts(call, answer),
@@ -146,7 +147,7 @@ fn may_move(ask: &Ask, reply: &Reply) -> bool
 // Whether the world is at a version still, and its hosts can't have moved.
 fn is_still(world: &World, version: u64, ask: &Ask, reply: &Reply) -> bool
     ensures { result
-        ≡ (world.now.history.version == version) && not (may_move_by ask.now reply.now) }
+        ≡ (world.now.history.version == version) && not (causes.may_move ask.now reply.now) }
 {
     world.version() == version && !may_move(ask, reply)
 }

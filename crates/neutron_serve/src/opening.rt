@@ -5,7 +5,7 @@ ghost use Rattle.api_check.specs.declared.broken.Inconsistent.{Inconsistent as B
 ghost use Rattle.api_types.specs.RowLists.{RowLists};
 ghost use Rattle.keeper_core.specs.Counts.{RoseBy, Tells};
 ghost use Rattle.net_settings.specs.Settings.{SettingsParts};
-ghost use Rattle.neutron_serve.specs.Runs.{is_manual as is_by_hand};
+ghost use Rattle.neutron_serve.specs.Runs as runs;
 ghost use Rattle.openings.specs.Openings as openings;
 ghost use Rattle.world_laws.specs.World.{first_world};
 
@@ -17,7 +17,7 @@ use openings::{Unopened, open_store};
 use std::alloc::Global;
 
 fn is_manual(delivery: Delivery) -> bool
-    ensures { result ≡ is_by_hand delivery }
+    ensures { result ≡ runs.is_manual delivery }
 {
     match delivery {
         Delivery::Automatic => false,
@@ -60,7 +60,7 @@ pub(crate) fn open<D: Desk>(
 ) -> Result<(World, D::Store), Unopened>
     ensures ok { IfOk result (λ o. (settings : SettingsParts) × (rows : RowLists)
         × openings.Opens opening.now settings rows (D.told desk.old)
-        × (o.0 ≡ first_world settings (is_by_hand opening.now.delivery) rows)
+        × (o.0 ≡ first_world settings (runs.is_manual opening.now.delivery) rows)
         × Tells (D.Store.told o.1).rows rows) }
     ensures told { IfOk result (λ o.
         IfSome (D.told desk.old).stores (λ _. is_some (D.Store.told o.1).rows ≡ true)) }

@@ -23,17 +23,17 @@ use Rattle.api_types.specs.declared.kind.Kind.{Kind}
 use Rattle.api_types.specs.declared.kind.Kind.TheVariants.{Floating, Group, Network, Policy, Port, Project, Router, Rule, Subnet}
 use Rattle.call_parts.specs.State.{State}
 use Rattle.net_settings.specs.Settings.{SettingsParts}
-use Rattle.owner_laws.proofs.FloatingsSpare.{floating_created_spares, floating_deleted_spares, floating_updated_spares}
-use Rattle.owner_laws.proofs.GroupsSpare.{group_created_spares, group_deleted_spares, group_updated_spares, rule_created_spares, rule_deleted_spares}
-use Rattle.owner_laws.proofs.InterfacesSpare.{interface_added_spares, interface_removed_stays}
-use Rattle.owner_laws.proofs.NetworkGone.{network_deleted_stays}
-use Rattle.owner_laws.proofs.NetworksSpare.{network_created_spares, network_updated_spares}
-use Rattle.owner_laws.proofs.PoliciesSpare.{policy_created_spares, policy_deleted_spares, policy_updated_spares}
-use Rattle.owner_laws.proofs.PortsSpare.{port_created_spares, port_deleted_stays, port_updated_spares}
-use Rattle.owner_laws.proofs.RoutersSpare.{router_created_spares, router_deleted_spares, router_updated_spares}
-use Rattle.owner_laws.proofs.Steps.{Spares, spares_all}
-use Rattle.owner_laws.proofs.SubnetsSpare.{subnet_created_spares, subnet_deleted_spares, subnet_updated_spares}
-use Rattle.owner_laws.specs.Others.{OthersStay, SparesOthers}
+use Rattle.plan_floatings.proofs.FloatingsSpare.{floating_created_spares, floating_deleted_spares, floating_updated_spares}
+use Rattle.plan_groups.proofs.GroupsSpare.{group_created_spares, group_deleted_spares, group_updated_spares, rule_created_spares, rule_deleted_spares}
+use Rattle.plan_routers.proofs.InterfacesSpare.{interface_added_spares, interface_removed_stays}
+use Rattle.plan_networks.proofs.NetworkGone.{network_deleted_stays}
+use Rattle.plan_networks.proofs.NetworksSpare.{network_created_spares, network_updated_spares}
+use Rattle.plan_policies.proofs.PoliciesSpare.{policy_created_spares, policy_deleted_spares, policy_updated_spares}
+use Rattle.plan_ports.proofs.PortsSpare.{port_created_spares, port_deleted_stays, port_updated_spares}
+use Rattle.plan_routers.proofs.RoutersSpare.{router_created_spares, router_deleted_spares, router_updated_spares}
+use Rattle.apart_laws.proofs.Steps.{Spares, spares_all}
+use Rattle.plan_subnets.proofs.SubnetsSpare.{subnet_created_spares, subnet_deleted_spares, subnet_updated_spares}
+use Rattle.apart_laws.specs.Others.{OthersStay, SparesOthers}
 use Rattle.std.proofs.Common.{List, false, not, true, ℕ, ◌≡◌}
 
 module _ (settings : SettingsParts) (state : State) (caller : Caller) (rows : RowLists) (reply : Reply) (c : IsConsistent state.rows) (tenant : caller.admin ≡ false) (named : not (is_empty caller.project) ≡ true) where

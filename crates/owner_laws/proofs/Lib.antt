@@ -1,16 +1,1 @@
-pub mod Filtered
-pub mod Outcomes
-pub mod Steps
-pub mod Drawn
-pub mod Leaving
-pub mod GroupsSpare
-pub mod PoliciesSpare
-pub mod NetworksSpare
-pub mod NetworkGone
-pub mod SubnetsSpare
-pub mod PortsSpare
-pub mod InterfacesSpare
-pub mod Serving
-pub mod RoutersSpare
-pub mod FloatingsSpare
 pub mod CallsSpare

@@ -1,9 +1,10 @@
 -- Where calls on floating addresses lead whose parts are known.
 use Rattle.std.proofs.Common.{◌≡◌, ◌∙◌, ℕ, List, [], ◌∷◌, Option, Some, None, ap, inl, inr, refl, sym}
-use Rattle.std.specs.Prelude.{◌⊎◌, is_none, option_map}
+use Rattle.std.specs.Prelude.{◌⊎◌, ◌==◌, ◌^◌, ◌-◌, is_none, option_map}
 use Rattle.net_addr.specs.Addresses.{number}
 use Rattle.net_settings.specs.Settings.{SettingsParts}
 use Rattle.api_ipam.specs.MacChoice.{free_mac}
+use Rattle.api_policy.specs.OtherFloatings.{other_floatings}
 use Rattle.api_policy.specs.Quotas.{over_quota}
 use Rattle.api_policy.specs.Seen.{floating_seen}
 use Rattle.api_types.specs.Association.{Aim, router_for, target_by, with_target}
@@ -33,6 +34,11 @@ use Rattle.api_types.specs.WithRows.{with_put}
 use Rattle.call_parts.specs.State.{State, drawing_at, is_last}
 use Rattle.plan_floatings.specs.FloatingCalls.{aim_asked, body_refusal, changed_floating, creation_refusal, deletion_refusal, floating_added, floating_changed, floating_deleted, floating_made, floating_replaced, floating_shown, floating_updated, floating_with, new_floating, outer_address, own_port, update_refusal}
 use Rattle.plan_floatings.specs.Plans.{floating_led, floating_on, lacking_refusal, outer_refusal, target_of, unjoined}
+
+-- beside a new floating address all are others
+pub all_others : (floatings : List FloatingRow) → other_floatings None floatings ≡ floatings
+all_others [] = refl
+all_others (f ∷ floatings) = ap (λ fs. f ∷ fs) (all_others floatings)
 
 -- what goes on with a target is refused where no router joins, and else goes on with what it finds
 pub with_target_is : (rows : RowLists) (project : List ℕ) (network : Ident) (aim : Option Aim) (rest : Option Target → Outcome)
@@ -154,6 +160,10 @@ module _ (settings : SettingsParts) (state : State) (caller : Caller) (form : Fl
 
     pub made_on : (n : NetworkRow) → network ≡ Some n → floating_made settings state caller form owner network ≡ floating_on settings state caller form owner n
     made_on n seen = ap by_body passed ∙ ap on_seen seen
+
+-- whether a version is left, by the version that is read
+pub left_at : (state : State) (version : ℕ) → version ≡ state.version → when (version == (2 ^ 64 - 1)) CountersSpent ≡ when (is_last state) CountersSpent
+left_at state version is = λ j. when (is j == (2 ^ 64 - 1)) CountersSpent
 
 module _ (state : State) (caller : Caller) (form : FloatingForm) (f : FloatingRow) where
   abbrev aim_then : Option Aim

@@ -1,4 +1,3 @@
-pub mod Associated
 pub mod FloatingCalls
 pub mod FloatingRules
 pub mod Plans

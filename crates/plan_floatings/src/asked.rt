@@ -3,19 +3,19 @@
 ghost use Rattle.std.specs.Prelude.{◌≡◌, IfErr, IfOk, None, Some, option_and_then, option_copied};
 ghost use Rattle.api_policy.specs.Checks.{IsAnswerOf};
 ghost use Rattle.api_policy.specs.OtherFloatings.{other_floatings};
-ghost use Rattle.api_policy.specs.Uses.{aim_in_use as aim_in_use_of};
+ghost use Rattle.api_policy.specs.Uses as uses;
 ghost use Rattle.api_types.specs.Association.{aim_at};
-ghost use Rattle.api_types.specs.Given.{value_of as value_of_of};
+ghost use Rattle.api_types.specs.Given as given;
 ghost use Rattle.api_types.specs.declared.kind.Kind.TheVariants.{Port as PortKind};
 ghost use Rattle.call_parts.specs.Answers.{Passes};
-ghost use Rattle.call_parts.specs.BodyNames.{unless_found as unless_found_of};
-ghost use Rattle.plan_floatings.specs.FloatingCalls.{aim_asked, port_asked as port_asked_of};
+ghost use Rattle.call_parts.specs.BodyNames as body_names;
+ghost use Rattle.plan_floatings.specs.FloatingCalls.{aim_asked};
+ghost use Rattle.plan_floatings.specs.FloatingCalls as floating_calls;
 ghost use Rattle.plan_floatings.specs.FloatingRules.{bad_aim};
 ghost use Rattle.plan_floatings.specs.Plans.{target_of, unjoined};
 
-use crate::aim::fixed_for;
-use crate::association::target_by;
-use crate::rules::check_aim;
+use crate::rules::ensure_aim_fits;
+use api_floating::{fixed_for, target_by};
 use api_policy::{aim_in_use, port_seen};
 use api_types::{Caller, Fixed, FloatingForm, Given, Id, Kind, PortRow, Refusal, Rows, Target};
 use call_parts::{none_with_id, value_of};
@@ -23,13 +23,13 @@ use net_addr::{Addr4, Text};
 use std::alloc::Global;
 
 fn port_asked<'r>(rows: &'r Rows, caller: &Caller, form: &FloatingForm) -> Option<&'r PortRow>
-    ensures { option_copied result ≡ port_asked_of rows.now caller.now form.now }
+    ensures { option_copied result ≡ floating_calls.port_asked rows.now caller.now form.now }
 {
     port_seen(rows, caller, value_of(&form.port_id))
 }
 
 /// Refuses a port to which no floating address of the project may lead, where the caller sees it.
-pub(crate) fn check_asked(
+pub(crate) fn ensure_asked_fits(
     alloc: Global,
     rows: &Rows,
     caller: &Caller,
@@ -37,25 +37,25 @@ pub(crate) fn check_asked(
     project: &Text,
 ) -> Result<(), Refusal>
     ensures { Passes
-        (option_and_then (bad_aim project.now (value_of_of form.now.fixed_ip_address))
-        (port_asked_of rows.now caller.now form.now)) result }
+        (option_and_then (bad_aim project.now (given.value_of form.now.fixed_ip_address))
+        (floating_calls.port_asked rows.now caller.now form.now)) result }
 {
     match port_asked(rows, caller, form) {
-        Some(port) => check_aim(alloc, project, value_of(&form.fixed_ip_address), port),
+        Some(port) => ensure_aim_fits(alloc, project, value_of(&form.fixed_ip_address), port),
         None => Ok(()),
     }
 }
 
 /// Refuses a port that is named, and that the caller doesn't see.
-pub(crate) fn unless_found(
+pub(crate) fn ensure_port_found(
     alloc: Global,
     rows: &Rows,
     caller: &Caller,
     form: &FloatingForm,
 ) -> Result<(), Refusal>
     ensures { Passes
-        (unless_found_of PortKind (value_of_of form.now.port_id)
-        (port_asked_of rows.now caller.now form.now)) result }
+        (body_names.unless_found PortKind (given.value_of form.now.port_id)
+        (floating_calls.port_asked rows.now caller.now form.now)) result }
 {
     let Given::Is(id) = &form.port_id else {
         return Ok(());
@@ -66,7 +66,7 @@ pub(crate) fn unless_found(
     }
 }
 
-fn unless_port_led(
+fn ensure_port_unused(
     rows: &Rows,
     caller: &Caller,
     own: Option<Id>,
@@ -76,7 +76,7 @@ fn unless_port_led(
 ) -> Result<(), Refusal>
     ensures { IsAnswerOf
         (option_and_then
-        (aim_in_use_of rows.now caller.now (other_floatings own rows.now.floatings) network)
+        (uses.aim_in_use rows.now caller.now (other_floatings own rows.now.floatings) network)
         (aim_at address port.now)) result }
 {
     match fixed_for(address, port.fixed.as_slice()) {
@@ -87,7 +87,7 @@ fn unless_port_led(
 
 /// Refuses an address of a port to which another floating address of the network leads than the one
 /// that is changed. Its cost grows with the floating addresses.
-pub(crate) fn unless_led(
+pub(crate) fn ensure_aim_unused(
     rows: &Rows,
     caller: &Caller,
     form: &FloatingForm,
@@ -96,30 +96,30 @@ pub(crate) fn unless_led(
 ) -> Result<(), Refusal>
     ensures { IsAnswerOf
         (option_and_then
-        (aim_in_use_of rows.now caller.now (other_floatings own rows.now.floatings) network)
+        (uses.aim_in_use rows.now caller.now (other_floatings own rows.now.floatings) network)
         (aim_asked rows.now caller.now form.now)) result }
 {
     match port_asked(rows, caller, form) {
         Some(port) => {
             let address = value_of(&form.fixed_ip_address);
-            unless_port_led(rows, caller, own, network, address, port)
+            ensure_port_unused(rows, caller, own, network, address, port)
         }
         None => Ok(()),
     }
 }
 
 /// The same for a new floating address, which leads nowhere yet.
-pub(crate) fn unless_led_by_any(
+pub(crate) fn ensure_aim_unused_by_any(
     rows: &Rows,
     caller: &Caller,
     form: &FloatingForm,
     network: Id,
 ) -> Result<(), Refusal>
     ensures { IsAnswerOf
-        (option_and_then (aim_in_use_of rows.now caller.now rows.now.floatings network)
+        (option_and_then (uses.aim_in_use rows.now caller.now rows.now.floatings network)
         (aim_asked rows.now caller.now form.now)) result }
 {
-    unless_led(rows, caller, form, None, network)
+    ensure_aim_unused(rows, caller, form, None, network)
 }
 
 fn target_at(

@@ -1,29 +1,24 @@
 //! Taking a floating address out, with the port that holds it.
 
 ghost use Rattle.std.specs.Prelude.{◌≡◌, ◌∷◌, [], IfErr, IfOk};
-ghost use Rattle.api_types.specs.Outcome.{Moved};
 ghost use Rattle.api_types.specs.Printed.{NoRow};
-ghost use Rattle.api_types.specs.RowLists.{RowLists};
 ghost use Rattle.api_types.specs.declared.kind.Kind.TheVariants.{Floating as FloatingKind, Port as PortKind};
-ghost use Rattle.call_parts.specs.Answers.{IsRefusalOf, Passes};
+ghost use Rattle.call_parts.specs.Answers.{IsRefusalOf, Leads, Passes};
 ghost use Rattle.call_parts.specs.Edits.{Drop as DropRow, made};
-ghost use Rattle.call_parts.specs.State.{State};
 ghost use Rattle.plan_floatings.specs.FloatingCalls.{deletion_refusal, floating_deleted};
 
-use api_policy::{floating_seen, owner_only, unless_last};
-use api_types::{Caller, FloatingRow, IdText, Kind, PortRow, Refusal, Rows};
-use call_parts::{Draft, not_found};
+use crate::finding::find_floating;
+use api_policy::{ensure_version_left, owner_only};
+use api_types::{FloatingRow, IdText, PortRow, Refusal, Rows};
+use call_parts::{Asking, Draft};
 use net_addr::OutOfMemory;
 use std::alloc::Global;
 
-fn check_deletion(version: u64, caller: &Caller, floating: &FloatingRow) -> Result<(), Refusal>
-    ensures { (rows : RowLists)
-        → Passes
-        (deletion_refusal (record { rows = rows; version = version }) caller.now floating.now)
-        result }
+fn ensure_deletable(asking: &Asking<'_>, floating: &FloatingRow) -> Result<(), Refusal>
+    ensures { Passes (deletion_refusal asking.now.state asking.now.caller floating.now) result }
 {
-    owner_only(caller, &floating.project)?;
-    unless_last(version)
+    owner_only(asking.caller(), &floating.project)?;
+    ensure_version_left(asking.version())
 }
 
 // The rows without the floating address and its port.
@@ -45,22 +40,14 @@ fn without_floating(
 
 /// The plan of a floating address's deletion, or why it is refused. Its cost grows with the ports
 /// and the floating addresses.
-pub fn delete_floating(
-    alloc: Global,
-    rows: &Rows,
-    version: u64,
-    caller: &Caller,
-    name: &IdText,
-) -> Result<Draft, Refusal>
-    ensures start { IfOk result (λ d. d.start ≡ rows.now) }
-    ensures ok { let state : State = record { rows = rows.now; version = version } in
-        IfOk result (λ d. floating_deleted state caller.now name.now ≡ Moved d.rows NoRow) }
-    ensures err { let state : State = record { rows = rows.now; version = version } in
-        IfErr result (IsRefusalOf (floating_deleted state caller.now name.now)) }
+pub fn delete_floating(alloc: Global, asking: &Asking<'_>, name: &IdText) -> Result<Draft, Refusal>
+    ensures ok { IfOk result
+        (λ d. Leads asking.now.state.rows
+        (floating_deleted asking.now.state asking.now.caller name.now) d (λ after. NoRow)) }
+    ensures err { IfErr result
+        (IsRefusalOf (floating_deleted asking.now.state asking.now.caller name.now)) }
 {
-    let Some(floating) = floating_seen(rows, caller, name.id) else {
-        return Err(not_found(alloc, Kind::Floating, &name.text));
-    };
-    check_deletion(version, caller, floating)?;
-    Ok(without_floating(alloc, rows, floating)?)
+    let floating = find_floating(alloc, asking, name)?;
+    ensure_deletable(asking, floating)?;
+    Ok(without_floating(alloc, asking.rows(), floating)?)
 }

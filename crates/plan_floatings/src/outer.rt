@@ -6,11 +6,12 @@ ghost use Rattle.net_addr.specs.declared.address.Addr.TheVariants.{V4 as FourOf}
 ghost use Rattle.api_ipam.specs.MacChoice.{free_mac};
 ghost use Rattle.api_policy.specs.Checks.{IsAnswerOf};
 ghost use Rattle.api_types.specs.Consistent.{IsConsistent};
-ghost use Rattle.api_types.specs.HeldAddresses.{is_address_held as is_address_held_of};
+ghost use Rattle.api_types.specs.HeldAddresses as held_addresses;
 ghost use Rattle.api_types.specs.Lists.{if_some};
 ghost use Rattle.api_types.specs.declared.port.Fixed.{Fixed as TheFixed};
 ghost use Rattle.call_parts.specs.Answers.{IsRefusalIn};
-ghost use Rattle.plan_floatings.specs.FloatingCalls.{address_held, outer_address as outer_address_of};
+ghost use Rattle.plan_floatings.specs.FloatingCalls.{address_held};
+ghost use Rattle.plan_floatings.specs.FloatingCalls as floating_calls;
 ghost use Rattle.plan_floatings.specs.Plans.{outer_refusal};
 
 use crate::rules::subnet_with;
@@ -28,7 +29,7 @@ pub(crate) struct Outer {
 }
 
 fn is_address_held(ports: &[Shared<PortRow>], network: Id, address: &Addr) -> bool
-    ensures { result ≡ is_address_held_of ports.now network address.now }
+    ensures { result ≡ held_addresses.is_address_held ports.now network address.now }
 {
     ports
         .iter()
@@ -37,7 +38,11 @@ fn is_address_held(ports: &[Shared<PortRow>], network: Id, address: &Addr) -> bo
 
 /// Refuses an address that is named and that a port of the network holds. Its cost grows with the
 /// ports and their addresses.
-pub(crate) fn unless_held(rows: &Rows, network: Id, named: Option<Addr4>) -> Result<(), Refusal>
+pub(crate) fn ensure_address_free(
+    rows: &Rows,
+    network: Id,
+    named: Option<Addr4>,
+) -> Result<(), Refusal>
     ensures { IsAnswerOf (address_held rows.now network named) result }
 {
     let Some(address) = named else {
@@ -53,7 +58,7 @@ pub(crate) fn unless_held(rows: &Rows, network: Id, named: Option<Addr4>) -> Res
 
 // The named address, in its subnet.
 fn named_address(rows: &Rows, network: Id, address: Addr4) -> Option<Fixed>
-    ensures { result ≡ outer_address_of rows.now network (Some address) }
+    ensures { result ≡ floating_calls.outer_address rows.now network (Some address) }
 {
     let subnet = subnet_with(rows, network, address)?;
     Some(Fixed {
@@ -64,7 +69,7 @@ fn named_address(rows: &Rows, network: Id, address: Addr4) -> Option<Fixed>
 
 // The least free pool address of the first subnet of version 4 that has one.
 fn pool_address(alloc: Global, rows: &Rows, network: Id) -> Result<Option<Fixed>, OutOfMemory>
-    ensures { IfOk result (λ o. o ≡ outer_address_of rows.now network None) }
+    ensures { IfOk result (λ o. o ≡ floating_calls.outer_address rows.now network None) }
 {
     let held = HeldAddresses::on(alloc, rows.ports().rows(), network)?;
     let subnets = subnets_on(alloc, rows.subnets().rows(), network)?;
@@ -77,7 +82,7 @@ fn outer_address(
     network: Id,
     named: Option<Addr4>,
 ) -> Result<Option<Fixed>, OutOfMemory>
-    ensures { IfOk result (λ o. o ≡ outer_address_of rows.now network named) }
+    ensures { IfOk result (λ o. o ≡ floating_calls.outer_address rows.now network named) }
 {
     match named {
         Some(address) => Ok(named_address(rows, network, address)),
@@ -96,7 +101,7 @@ pub(crate) fn outer_for(
 ) -> Result<Outer, Refusal>
     requires { IsConsistent rows.now }
     ensures address { IfOk result
-        (λ o. outer_address_of rows.now network named ≡ Some o.fixed) }
+        (λ o. floating_calls.outer_address rows.now network named ≡ Some o.fixed) }
     ensures four { IfOk result (λ o. is_v4 o.fixed.address ≡ true) }
     ensures mac { IfOk result (λ o. free_mac rows.now.ports network ≡ Some o.mac) }
     ensures refused { IfErr result (IsRefusalIn (outer_refusal rows.now network named)) }

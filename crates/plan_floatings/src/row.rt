@@ -2,10 +2,10 @@
 
 ghost use Rattle.std.specs.Prelude.{◌≡◌, ◌∷◌, [], IfOk, true};
 ghost use Rattle.net_addr.specs.Addresses.{is_v4, number};
-ghost use Rattle.plan_floatings.specs.FloatingCalls.{changed_floating as changed_floating_of, new_floating as new_floating_of, own_port as own_port_of, target_after as target_after_of};
+ghost use Rattle.plan_floatings.specs.FloatingCalls as calls;
 
-use crate::aim::four;
 use crate::outer::Outer;
+use api_floating::four;
 use api_ml2::bind;
 use api_types::{
     Fixed, FixedList, FloatingForm, FloatingRow, Given, Id, NetworkRow, PortRow, Target,
@@ -15,6 +15,13 @@ use net_addr::{Copies, OutOfMemory, Seq, Text};
 use net_settings::Settings;
 use std::alloc::Global;
 
+/// What a new floating address takes on its network, and what it leads to.
+#[derive(Drop)]
+pub(crate) struct Ends {
+    pub outer: Outer,
+    pub target: Option<Target>,
+}
+
 /// The row of a new floating address of the network.
 pub(crate) fn new_floating(
     alloc: Global,
@@ -23,14 +30,13 @@ pub(crate) fn new_floating(
     network: &NetworkRow,
     id: Id,
     own_port: Id,
-    outer: &Outer,
-    target: Option<Target>,
+    ends: &Ends,
 ) -> Result<FloatingRow, OutOfMemory>
-    requires { is_v4 outer.now.fixed.address ≡ true }
+    requires { is_v4 ends.now.outer.fixed.address ≡ true }
     ensures { IfOk result
         (λ f. f
-        ≡ new_floating_of form.now owner.now network.now id own_port
-        (number outer.now.fixed.address) target) }
+        ≡ calls.new_floating form.now owner.now network.now id own_port
+        (number ends.now.outer.fixed.address) ends.now.target) }
 {
     let empty = Text::new(alloc);
     Ok(FloatingRow {
@@ -39,8 +45,8 @@ pub(crate) fn new_floating(
         description: text_or(alloc, &empty, &form.description)?,
         network: network.id,
         own_port,
-        address: four(&outer.fixed.address),
-        target,
+        address: four(&ends.outer.fixed.address),
+        target: ends.target,
     })
 }
 
@@ -54,7 +60,7 @@ pub(crate) fn own_port(
 ) -> Result<PortRow, OutOfMemory>
     ensures { IfOk result
         (λ p. p
-        ≡ own_port_of settings.now network.now floating.now outer.now.mac outer.now.fixed) }
+        ≡ calls.own_port settings.now network.now floating.now outer.now.mac outer.now.fixed) }
 {
     let host = Text::new(alloc);
     Ok(PortRow {
@@ -80,7 +86,7 @@ pub(crate) fn own_port(
 // What the floating address leads to after the change: what it did where no port is named, and
 // nothing where the body takes it off.
 fn target_after(given: &Given<Id>, old: Option<Target>, new: Option<Target>) -> Option<Target>
-    ensures { result ≡ target_after_of given.now old new }
+    ensures { result ≡ calls.target_after given.now old new }
 {
     match given {
         Given::Absent => old,
@@ -97,7 +103,7 @@ pub(crate) fn changed_floating(
     floating: &FloatingRow,
     target: Option<Target>,
 ) -> Result<FloatingRow, OutOfMemory>
-    ensures { IfOk result (λ f. f ≡ changed_floating_of form.now floating.now target) }
+    ensures { IfOk result (λ f. f ≡ calls.changed_floating form.now floating.now target) }
 {
     Ok(FloatingRow {
         id: floating.id,

@@ -1,27 +1,28 @@
 //! The rules of a floating address's attributes.
 
 ghost use Rattle.std.specs.Prelude.{◌≡◌, ◌&&◌, None, if◌then◌else◌, not, option_and_then, option_copied};
-ghost use Rattle.api_types.specs.Given.{is_for_other as is_for_other_of, value_of as value_of_of};
+ghost use Rattle.api_types.specs.Given as given;
 ghost use Rattle.net_addr.specs.declared.address.Addr.TheVariants.{V4 as FourOf};
 ghost use Rattle.call_parts.specs.Answers.{Passes};
-ghost use Rattle.plan_floatings.specs.FloatingCalls.{lacks_port as lacks_port_of};
-ghost use Rattle.plan_floatings.specs.FloatingRules.{bad_address, bad_aim, bad_outside, subnet_with as subnet_with_of};
+ghost use Rattle.plan_floatings.specs.FloatingCalls as floating_calls;
+ghost use Rattle.plan_floatings.specs.FloatingRules.{bad_address, bad_aim, bad_outside};
+ghost use Rattle.plan_floatings.specs.FloatingRules as floating_rules;
 ghost use Rattle.plan_floatings.specs.Plans.{form_refusal, lacking_refusal};
 
-use crate::aim::{fixed_for, is_foreign};
+use api_floating::{fixed_for, is_foreign};
 use api_types::{Caller, FloatingForm, Id, NetworkRow, PortRow, Refusal, Rows, SubnetRow};
 use call_parts::{are_unlike, invalid, is_for_other, is_given, value_of};
 use net_addr::{Addr, Addr4, Text};
 use std::alloc::Global;
 
 fn lacks_port(form: &FloatingForm) -> bool
-    ensures { result ≡ lacks_port_of form.now }
+    ensures { result ≡ floating_calls.lacks_port form.now }
 {
     is_given(&form.fixed_ip_address) && value_of(&form.port_id).is_none()
 }
 
 /// Refuses an address of a port that isn't named.
-pub(crate) fn check_fixed(alloc: Global, form: &FloatingForm) -> Result<(), Refusal>
+pub(crate) fn ensure_port_named(alloc: Global, form: &FloatingForm) -> Result<(), Refusal>
     ensures { Passes (lacking_refusal form.now) result }
 {
     if lacks_port(form) {
@@ -31,17 +32,17 @@ pub(crate) fn check_fixed(alloc: Global, form: &FloatingForm) -> Result<(), Refu
 }
 
 /// Refuses what the body's attributes forbid each other.
-pub(crate) fn check_form(alloc: Global, form: &FloatingForm) -> Result<(), Refusal>
+pub(crate) fn ensure_form_valid(alloc: Global, form: &FloatingForm) -> Result<(), Refusal>
     ensures { Passes (form_refusal form.now) result }
 {
-    check_fixed(alloc, form)?;
+    ensure_port_named(alloc, form)?;
     if are_unlike(&form.project_id, &form.tenant_id) {
         return Err(invalid(alloc, "tenant_id"));
     }
     Ok(())
 }
 
-fn is_external(
+fn ensure_external(
     alloc: Global,
     rows: &Rows,
     owner: &Text,
@@ -57,7 +58,7 @@ fn is_external(
 
 /// Refuses a network that isn't external to the owner. A caller who is no administrator and names
 /// another project isn't told.
-pub(crate) fn check_outside(
+pub(crate) fn ensure_network_external(
     alloc: Global,
     rows: &Rows,
     caller: &Caller,
@@ -67,14 +68,14 @@ pub(crate) fn check_outside(
 ) -> Result<(), Refusal>
     ensures { Passes
         (if not caller.now.admin
-        && is_for_other_of caller.now form.now.project_id form.now.tenant_id then None else
+        && given.is_for_other caller.now form.now.project_id form.now.tenant_id then None else
         option_and_then (bad_outside rows.now owner.now) (option_copied network.entry)) result }
 {
     if !caller.admin && is_for_other(caller, &form.project_id, &form.tenant_id) {
         return Ok(());
     }
     match network {
-        Some(network) => is_external(alloc, rows, owner, network),
+        Some(network) => ensure_external(alloc, rows, owner, network),
         None => Ok(()),
     }
 }
@@ -82,7 +83,7 @@ pub(crate) fn check_outside(
 /// The first subnet of the network in which the address is a host address. Its cost grows with the
 /// subnets.
 pub(crate) fn subnet_with(rows: &Rows, network: Id, address: Addr4) -> Option<&SubnetRow>
-    ensures { option_copied result ≡ subnet_with_of rows.now network (FourOf address) }
+    ensures { option_copied result ≡ floating_rules.subnet_with rows.now network (FourOf address) }
 {
     for subnet in rows.subnets().rows() {
         if network == subnet.network && subnet.prefix.is_host(Addr::V4(address)) {
@@ -92,7 +93,7 @@ pub(crate) fn subnet_with(rows: &Rows, network: Id, address: Addr4) -> Option<&S
     None
 }
 
-fn is_host_address(
+fn ensure_host_address(
     alloc: Global,
     rows: &Rows,
     named: Option<Addr4>,
@@ -111,26 +112,26 @@ fn is_host_address(
 
 /// Refuses an address that is no host address of a subnet of the network. Its cost grows with the
 /// subnets.
-pub(crate) fn check_address(
+pub(crate) fn ensure_address_fits(
     alloc: Global,
     rows: &Rows,
     form: &FloatingForm,
     network: Option<&NetworkRow>,
 ) -> Result<(), Refusal>
     ensures { Passes
-        (option_and_then (bad_address rows.now (value_of_of form.now.floating_ip_address))
+        (option_and_then (bad_address rows.now (given.value_of form.now.floating_ip_address))
         (option_copied network.entry)) result }
 {
     match network {
         Some(network) => {
-            is_host_address(alloc, rows, value_of(&form.floating_ip_address), network)
+            ensure_host_address(alloc, rows, value_of(&form.floating_ip_address), network)
         }
         None => Ok(()),
     }
 }
 
 /// Refuses a port that is another project's or a service's, and one that hasn't the address.
-pub(crate) fn check_aim(
+pub(crate) fn ensure_aim_fits(
     alloc: Global,
     project: &Text,
     address: Option<Addr4>,

@@ -1,65 +1,61 @@
 //! Changing a floating address: what it leads to.
 
-ghost use Rattle.std.specs.Prelude.{◌≡◌, ℕ, [], IfErr, IfOk};
-ghost use Rattle.api_types.specs.Outcome.{Moved};
+ghost use Rattle.std.specs.Prelude.{[], IfErr, IfOk};
 ghost use Rattle.api_types.specs.Printed.{OneRow};
-ghost use Rattle.call_parts.specs.Answers.{IsRefusalOf, Passes};
-ghost use Rattle.call_parts.specs.State.{State};
+ghost use Rattle.call_parts.specs.Answers.{IsRefusalOf, Leads, Passes};
 ghost use Rattle.plan_floatings.specs.FloatingCalls.{floating_changed, floating_shown, floating_updated, update_refusal};
 
-use crate::asked::{check_asked, target_asked, unless_found, unless_led};
-use crate::creation::PlannedFloating;
+use crate::asked::{ensure_aim_unused, ensure_asked_fits, ensure_port_found, target_asked};
+use crate::finding::find_floating;
 use crate::row::changed_floating;
-use crate::rules::check_fixed;
-use api_policy::{floating_seen, owner_only, unless_last};
-use api_types::{Caller, FloatingForm, FloatingRow, IdText, Kind, Refusal, Rows};
-use call_parts::{Draft, not_found};
+use crate::rules::ensure_port_named;
+use api_policy::{ensure_version_left, owner_only};
+use api_types::{FloatingForm, FloatingRow, IdText, Refusal};
+use call_parts::{Asking, Draft, PlannedRow};
 use net_addr::Copies;
 use std::alloc::Global;
 
-fn check_update(
+fn ensure_changeable(
     alloc: Global,
-    rows: &Rows,
-    caller: &Caller,
+    asking: &Asking<'_>,
     form: &FloatingForm,
     floating: &FloatingRow,
 ) -> Result<(), Refusal>
-    ensures { (version : ℕ)
-        → Passes
-        (update_refusal (record { rows = rows.now; version = version }) caller.now form.now
-        floating.now) result }
+    ensures { Passes
+        (update_refusal asking.now.state asking.now.caller form.now floating.now) result }
 {
-    check_asked(alloc, rows, caller, form, &floating.project)?;
-    unless_found(alloc, rows, caller, form)?;
+    let (rows, caller) = (asking.rows(), asking.caller());
+    ensure_asked_fits(alloc, rows, caller, form, &floating.project)?;
+    ensure_port_found(alloc, rows, caller, form)?;
     owner_only(caller, &floating.project)?;
-    unless_led(rows, caller, form, Some(floating.id), floating.network)
+    ensure_aim_unused(rows, caller, form, Some(floating.id), floating.network)
 }
 
 // The plan of the change of a floating address that is found.
 fn change_floating(
     alloc: Global,
-    rows: &Rows,
-    version: u64,
-    caller: &Caller,
+    asking: &Asking<'_>,
     form: &FloatingForm,
     floating: &FloatingRow,
-) -> Result<PlannedFloating, Refusal>
-    ensures start { IfOk result (λ p. p.draft.start ≡ rows.now) }
-    ensures ok { let state : State = record { rows = rows.now; version = version } in
-        IfOk result
-        (λ p. floating_changed state caller.now form.now floating.now
-        ≡ Moved p.draft.rows (OneRow (floating_shown p.draft.rows caller.now p.floating []))) }
-    ensures err { let state : State = record { rows = rows.now; version = version } in
-        IfErr result (IsRefusalOf (floating_changed state caller.now form.now floating.now)) }
+) -> Result<PlannedRow<FloatingRow>, Refusal>
+    ensures ok { IfOk result
+        (λ p. Leads asking.now.state.rows
+        (floating_changed asking.now.state asking.now.caller form.now floating.now) p.draft
+        (λ after. OneRow (floating_shown after asking.now.caller p.row []))) }
+    ensures err { IfErr result
+        (IsRefusalOf
+        (floating_changed asking.now.state asking.now.caller form.now floating.now)) }
 {
-    check_update(alloc, rows, caller, form, floating)?;
+    ensure_changeable(alloc, asking, form, floating)?;
+    let rows = asking.rows();
+    let caller = asking.caller();
     let target = target_asked(rows, caller, form, &floating.project, floating.network)?;
-    unless_last(version)?;
+    ensure_version_left(asking.version())?;
     let changed = changed_floating(alloc, form, floating, target)?;
     let kept = changed.copy(alloc)?;
-    Ok(PlannedFloating {
+    Ok(PlannedRow {
         draft: Draft::begin(alloc, rows)?.put(alloc, changed)?,
-        floating: kept,
+        row: kept,
     })
 }
 
@@ -68,23 +64,18 @@ fn change_floating(
 /// that has its gateway on the network.
 pub fn update_floating(
     alloc: Global,
-    rows: &Rows,
-    version: u64,
-    caller: &Caller,
+    asking: &Asking<'_>,
     name: &IdText,
     form: &FloatingForm,
-) -> Result<PlannedFloating, Refusal>
-    ensures start { IfOk result (λ p. p.draft.start ≡ rows.now) }
-    ensures ok { let state : State = record { rows = rows.now; version = version } in
-        IfOk result
-        (λ p. floating_updated state caller.now name.now form.now
-        ≡ Moved p.draft.rows (OneRow (floating_shown p.draft.rows caller.now p.floating []))) }
-    ensures err { let state : State = record { rows = rows.now; version = version } in
-        IfErr result (IsRefusalOf (floating_updated state caller.now name.now form.now)) }
+) -> Result<PlannedRow<FloatingRow>, Refusal>
+    ensures ok { IfOk result
+        (λ p. Leads asking.now.state.rows
+        (floating_updated asking.now.state asking.now.caller name.now form.now) p.draft
+        (λ after. OneRow (floating_shown after asking.now.caller p.row []))) }
+    ensures err { IfErr result
+        (IsRefusalOf (floating_updated asking.now.state asking.now.caller name.now form.now)) }
 {
-    check_fixed(alloc, form)?;
-    let Some(floating) = floating_seen(rows, caller, name.id) else {
-        return Err(not_found(alloc, Kind::Floating, &name.text));
-    };
-    change_floating(alloc, rows, version, caller, form, floating)
+    ensure_port_named(alloc, form)?;
+    let floating = find_floating(alloc, asking, name)?;
+    change_floating(alloc, asking, form, floating)
 }

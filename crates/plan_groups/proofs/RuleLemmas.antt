@@ -25,7 +25,7 @@ use Rattle.call_parts.specs.State.{State, drawing_at}
 use Rattle.net_settings.specs.Settings.{SettingsParts}
 use Rattle.plan_groups.specs.GroupCalls.{is_remote_seen, rule_added, rule_body_refusal, rule_created, rule_creation_refusal, rule_deleted, rule_deletion_refusal, rule_shown}
 use Rattle.plan_groups.specs.Open.{IsOpen}
-use Rattle.plan_groups.specs.RuleParts.{bad_part, new_rule}
+use Rattle.api_secgroup.specs.RuleParts.{bad_part, new_rule}
 
 module _ (settings : SettingsParts) (state : State) (caller : Caller) (form : RuleForm) where
   abbrev seen : Option GroupRow

@@ -3,7 +3,7 @@ use Rattle.call_parts.specs.BodyNames.{no_id, text_of, unless_all}
 use Rattle.call_parts.specs.Edits.{Add, Drop, Edit, Put, accepted, dropped}
 use Rattle.api_policy.specs.Permits.{admin_only, owner_only}
 use Rattle.api_policy.specs.Quotas.{over_quota}
-use Rattle.plan_groups.specs.RuleParts.{bad_part, equal_rule, new_rule}
+use Rattle.api_secgroup.specs.RuleParts.{bad_part, equal_rule, new_rule}
 use Rattle.api_policy.specs.Seen.{group_seen, rule_seen}
 use Rattle.api_policy.specs.Uses.{default_in_use, group_in_use}
 use Rattle.api_policy.specs.Groups.{group_members, rule_members}

@@ -8,7 +8,7 @@ use Rattle.api_types.specs.declared.group.GroupRow.{GroupRow}
 use Rattle.call_parts.specs.BodyNames.{no_id}
 use Rattle.net_settings.specs.Settings.{SettingsParts}
 use Rattle.plan_groups.specs.GroupCalls.{rule_body_refusal, rule_creation_refusal}
-use Rattle.plan_groups.specs.RuleParts.{new_rule}
+use Rattle.api_secgroup.specs.RuleParts.{new_rule}
 use Rattle.std.specs.Prelude.{None, Some, ◌≡◌}
 
 pub record IsOpen (settings : SettingsParts) (rows : RowLists) (caller : Caller) (form : RuleForm)

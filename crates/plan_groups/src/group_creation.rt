@@ -1,9 +1,7 @@
 //! Making a group, with its two rules: all may go out.
 
 ghost use Rattle.std.specs.Prelude.{◌≡◌, ◌+◌, ◌<◌, ◌≤◌, ◌^◌, ◌∷◌, ℕ, [], IfErr, IfOk, None, not, true};
-ghost use Rattle.api_types.specs.Consistent.{IsConsistent};
 ghost use Rattle.api_types.specs.Lists.{is_empty};
-ghost use Rattle.api_types.specs.Outcome.{Moved};
 ghost use Rattle.api_types.specs.Printed.{NewRow};
 ghost use Rattle.api_types.specs.Registration.{ident};
 ghost use Rattle.api_types.specs.Table.{row_of};
@@ -12,31 +10,23 @@ ghost use Rattle.api_types.specs.declared.group.RuleRow.{RuleRow as TheRule};
 ghost use Rattle.api_types.specs.declared.kind.Row.TheVariants.{Group as GroupOf};
 ghost use Rattle.call_parts.specs.Edits.{Add, made};
 ghost use Rattle.call_parts.specs.InForm.{are_owners};
-ghost use Rattle.call_parts.specs.State.{State};
-ghost use Rattle.call_parts.specs.Answers.{IsRefusalOf, Passes, drawing_of};
-ghost use Rattle.plan_groups.specs.GroupCalls.{egress_rule as egress_rule_of, group_created, group_creation_refusal, group_made, group_shown, new_group as new_group_of};
+ghost use Rattle.call_parts.specs.Answers.{IsRefusalOf, Leads, Passes, drawing_of};
+ghost use Rattle.plan_groups.specs.GroupCalls as calls;
+ghost use Rattle.plan_groups.specs.GroupCalls.{group_created, group_creation_refusal, group_made, group_shown};
 ghost use Rattle.plan_groups.specs.NewGroup.{group_edits, rule_edits};
 ghost use Rattle.row_laws.specs.Drawn.{IsAbsent};
 
 use crate::drawing::draw_new;
 use api_policy::{admin_only, over_quota};
-use api_types::{
-    Caller, Direction, Ethertype, GroupForm, GroupRow, Id, Kind, Refusal, Rows, RuleRow,
+use api_types::{Direction, Ethertype, GroupForm, GroupRow, Id, Kind, Refusal, RuleRow};
+use call_parts::{
+    Asking, Draft, Drawn, PlannedRow, are_unlike, invalid, is_for_other, owner, text_or,
 };
-use call_parts::{Draft, Drawn, are_unlike, invalid, is_for_other, owner, text_or};
 use net_addr::{Copies, OutOfMemory, Text};
-use net_settings::Settings;
 use std::alloc::Global;
 
-/// A group as a call leaves it, with the rows and the change that lead there.
-#[derive(Drop)]
-pub struct PlannedGroup {
-    pub draft: Draft,
-    pub group: GroupRow,
-}
-
 fn new_group(alloc: Global, form: &GroupForm, owner: &Text, id: Id) -> Result<GroupRow, OutOfMemory>
-    ensures { IfOk result (λ g. g ≡ new_group_of form.now owner.now id) }
+    ensures { IfOk result (λ g. g ≡ calls.new_group form.now owner.now id) }
 {
     let empty = Text::new(alloc);
     Ok(GroupRow {
@@ -54,7 +44,7 @@ fn egress_rule(
     ethertype: Ethertype,
     id: Id,
 ) -> Result<RuleRow, OutOfMemory>
-    ensures { IfOk result (λ r. r ≡ egress_rule_of group.now ethertype id) }
+    ensures { IfOk result (λ r. r ≡ calls.egress_rule group.now ethertype id) }
 {
     Ok(RuleRow {
         id,
@@ -71,23 +61,23 @@ fn egress_rule(
     })
 }
 
-fn check_creation(
+fn ensure_creatable(
     alloc: Global,
-    settings: &Settings,
-    rows: &Rows,
-    caller: &Caller,
+    asking: &Asking<'_>,
     form: &GroupForm,
     owner: &Text,
 ) -> Result<(), Refusal>
     ensures { Passes
-        (group_creation_refusal settings.now rows.now caller.now form.now owner.now) result }
+        (group_creation_refusal asking.now.settings asking.now.state.rows asking.now.caller
+        form.now owner.now) result }
 {
+    let caller = asking.caller();
     if are_unlike(&form.project_id, &form.tenant_id) {
         return Err(invalid(alloc, "tenant_id"));
     }
     let for_other = is_for_other(caller, &form.project_id, &form.tenant_id);
     admin_only(caller, for_other)?;
-    over_quota(rows, settings, owner, Kind::Group)
+    over_quota(asking.rows(), asking.settings(), owner, Kind::Group)
 }
 
 // The draft with the two rules of a new group, of which the first has this count.
@@ -120,13 +110,13 @@ fn add_with_rules(
     group: GroupRow,
     ordinal: u32,
     first: u64,
-) -> Result<PlannedGroup, OutOfMemory>
+) -> Result<PlannedRow<GroupRow>, OutOfMemory>
     requires within { first + 2 ≤ 2 ^ 62 }
     requires new_group { row_of (λ (g : TheGroup). g.id) group.id draft.rows.groups ≡ None }
     requires new_rules { (k : ℕ) → k < 2
         → row_of (λ (r : TheRule). r.id) (ident ordinal (first + k)) draft.rows.rules ≡ None }
     ensures start { IfOk result (λ p. p.draft.start ≡ draft.start) }
-    ensures group { IfOk result (λ p. p.group ≡ group) }
+    ensures row { IfOk result (λ p. p.row ≡ group) }
     ensures rows { IfOk result
         (λ p. p.draft.rows
         ≡ made draft.rows
@@ -135,25 +125,25 @@ fn add_with_rules(
 {
     let draft = draft.add(alloc, group.copy(alloc)?)?;
     let draft = add_rules(alloc, draft, &group, ordinal, first)?;
-    Ok(PlannedGroup { draft, group })
+    Ok(PlannedRow { draft, row: group })
 }
 
 // The draft with the new group and its rules, by the ids that were drawn.
-fn added(
+fn add_group(
     alloc: Global,
     drawn: Drawn,
     form: &GroupForm,
     owner: &Text,
-) -> Result<PlannedGroup, OutOfMemory>
+) -> Result<PlannedRow<GroupRow>, OutOfMemory>
     requires within { drawn.first + 3 ≤ 2 ^ 62 }
     requires new { (k : ℕ) → k < 3
         → IsAbsent drawn.draft.rows (ident drawn.ordinal (drawn.first + k)) }
     ensures start { IfOk result (λ p. p.draft.start ≡ drawn.draft.start) }
-    ensures group { IfOk result
-        (λ p. p.group
-        ≡ new_group_of form.now owner.now (ident drawn.ordinal (drawn.first + 0))) }
+    ensures row { IfOk result
+        (λ p. p.row
+        ≡ calls.new_group form.now owner.now (ident drawn.ordinal (drawn.first + 0))) }
     ensures rows { IfOk result
-        (λ p. p.draft.rows ≡ made drawn.draft.rows (group_edits p.group (drawing_of drawn))) }
+        (λ p. p.draft.rows ≡ made drawn.draft.rows (group_edits p.row (drawing_of drawn))) }
 {
     let Drawn {
         draft,
@@ -167,50 +157,42 @@ fn added(
 // The plan of the creation of a group that the project is to own.
 fn make_group(
     alloc: Global,
-    settings: &Settings,
-    rows: &Rows,
-    version: u64,
-    caller: &Caller,
+    asking: &Asking<'_>,
     form: &GroupForm,
     owner: &Text,
-) -> Result<PlannedGroup, Refusal>
-    requires consistent { IsConsistent rows.now }
-    requires named { not (is_empty owner.now) ≡ true }
-    ensures start { IfOk result (λ p. p.draft.start ≡ rows.now) }
-    ensures ok { let state : State = record { rows = rows.now; version = version } in
-        IfOk result
-        (λ p. group_made settings.now state caller.now form.now owner.now
-        ≡ Moved p.draft.rows (NewRow (group_shown p.draft.rows caller.now p.group []))) }
-    ensures err { let state : State = record { rows = rows.now; version = version } in
-        IfErr result
-        (IsRefusalOf (group_made settings.now state caller.now form.now owner.now)) }
+) -> Result<PlannedRow<GroupRow>, Refusal>
+    requires { not (is_empty owner.now) ≡ true }
+    ensures ok { IfOk result
+        (λ p. Leads asking.now.state.rows
+        (group_made asking.now.settings asking.now.state asking.now.caller form.now owner.now)
+        p.draft (λ after. NewRow (group_shown after asking.now.caller p.row []))) }
+    ensures err { IfErr result
+        (IsRefusalOf
+        (group_made asking.now.settings asking.now.state asking.now.caller form.now
+        owner.now)) }
 {
-    check_creation(alloc, settings, rows, caller, form, owner)?;
-    let drawn = draw_new(alloc, rows, version, owner, 3)?;
-    Ok(added(alloc, drawn, form, owner)?)
+    ensure_creatable(alloc, asking, form, owner)?;
+    let drawn = draw_new(alloc, asking, owner, 3)?;
+    Ok(add_group(alloc, drawn, form, owner)?)
 }
 
 /// The plan of a group's creation, or why it is refused. Its cost grows with the groups and the
 /// projects.
 pub fn create_group(
     alloc: Global,
-    settings: &Settings,
-    rows: &Rows,
-    version: u64,
-    caller: &Caller,
+    asking: &Asking<'_>,
     form: &GroupForm,
-) -> Result<PlannedGroup, Refusal>
-    requires consistent { IsConsistent rows.now }
-    requires named { not (is_empty caller.now.project) ≡ true }
+) -> Result<PlannedRow<GroupRow>, Refusal>
+    requires named { not (is_empty asking.now.caller.project) ≡ true }
     requires owners { are_owners form.now.project_id form.now.tenant_id ≡ true }
-    ensures start { IfOk result (λ p. p.draft.start ≡ rows.now) }
-    ensures ok { let state : State = record { rows = rows.now; version = version } in
-        IfOk result
-        (λ p. group_created settings.now state caller.now form.now
-        ≡ Moved p.draft.rows (NewRow (group_shown p.draft.rows caller.now p.group []))) }
-    ensures err { let state : State = record { rows = rows.now; version = version } in
-        IfErr result (IsRefusalOf (group_created settings.now state caller.now form.now)) }
+    ensures ok { IfOk result
+        (λ p. Leads asking.now.state.rows
+        (group_created asking.now.settings asking.now.state asking.now.caller form.now) p.draft
+        (λ after. NewRow (group_shown after asking.now.caller p.row []))) }
+    ensures err { IfErr result
+        (IsRefusalOf
+        (group_created asking.now.settings asking.now.state asking.now.caller form.now)) }
 {
-    let owner = owner(caller, &form.project_id, &form.tenant_id);
-    make_group(alloc, settings, rows, version, caller, form, owner)
+    let owner = owner(asking.caller(), &form.project_id, &form.tenant_id);
+    make_group(alloc, asking, form, owner)
 }

@@ -1,22 +1,20 @@
 //! The change of a group.
 
 ghost use Rattle.std.specs.Prelude.{◌≡◌, [], IfErr, IfOk};
-ghost use Rattle.api_types.specs.Outcome.{Moved};
 ghost use Rattle.api_types.specs.Printed.{OneRow};
-ghost use Rattle.api_types.specs.RowLists.{RowLists};
-ghost use Rattle.call_parts.specs.State.{State};
-ghost use Rattle.call_parts.specs.Answers.{IsRefusalOf, Passes};
-ghost use Rattle.plan_groups.specs.GroupCalls.{changed_group as changed_group_of, group_shown, group_update_refusal, group_updated};
+ghost use Rattle.call_parts.specs.Answers.{IsRefusalOf, Leads, Passes};
+ghost use Rattle.plan_groups.specs.GroupCalls.{group_shown, group_update_refusal, group_updated};
+ghost use Rattle.plan_groups.specs.GroupCalls as group_calls;
 
-use crate::group_creation::PlannedGroup;
-use api_policy::{group_seen, owner_only, unless_last};
-use api_types::{Caller, GroupForm, GroupRow, IdText, Kind, Refusal, Rows};
-use call_parts::{Draft, invalid, is_given, not_found, text_or};
+use crate::finding::find_group;
+use api_policy::{ensure_version_left, owner_only};
+use api_types::{GroupForm, GroupRow, IdText, Refusal};
+use call_parts::{Asking, Draft, PlannedRow, invalid, is_given, text_or};
 use net_addr::{Copies, OutOfMemory};
 use std::alloc::Global;
 
 fn changed_group(alloc: Global, form: &GroupForm, group: &GroupRow) -> Result<GroupRow, OutOfMemory>
-    ensures { IfOk result (λ g. g ≡ changed_group_of form.now group.now) }
+    ensures { IfOk result (λ g. g ≡ group_calls.changed_group form.now group.now) }
 {
     Ok(GroupRow {
         id: group.id,
@@ -28,50 +26,42 @@ fn changed_group(alloc: Global, form: &GroupForm, group: &GroupRow) -> Result<Gr
 }
 
 // A default group keeps its name.
-fn check_update(
+fn ensure_changeable(
     alloc: Global,
-    version: u64,
-    caller: &Caller,
+    asking: &Asking<'_>,
     form: &GroupForm,
     group: &GroupRow,
 ) -> Result<(), Refusal>
-    ensures { (rows : RowLists)
-        → Passes
-        (group_update_refusal (record { rows = rows; version = version }) caller.now form.now
-        group.now) result }
+    ensures { Passes
+        (group_update_refusal asking.now.state asking.now.caller form.now group.now) result }
 {
     if group.is_default && is_given(&form.name) {
         return Err(invalid(alloc, "name"));
     }
-    owner_only(caller, &group.project)?;
-    unless_last(version)
+    owner_only(asking.caller(), &group.project)?;
+    ensure_version_left(asking.version())
 }
 
 /// The plan of a group's change, or why it is refused. Its cost grows with the groups.
 pub fn update_group(
     alloc: Global,
-    rows: &Rows,
-    version: u64,
-    caller: &Caller,
+    asking: &Asking<'_>,
     name: &IdText,
     form: &GroupForm,
-) -> Result<PlannedGroup, Refusal>
-    ensures start { IfOk result (λ p. p.draft.start ≡ rows.now) }
-    ensures ok { let state : State = record { rows = rows.now; version = version } in
-        IfOk result
-        (λ p. group_updated state caller.now name.now form.now
-        ≡ Moved p.draft.rows (OneRow (group_shown p.draft.rows caller.now p.group []))) }
-    ensures err { let state : State = record { rows = rows.now; version = version } in
-        IfErr result (IsRefusalOf (group_updated state caller.now name.now form.now)) }
+) -> Result<PlannedRow<GroupRow>, Refusal>
+    ensures ok { IfOk result
+        (λ p. Leads asking.now.state.rows
+        (group_updated asking.now.state asking.now.caller name.now form.now) p.draft
+        (λ after. OneRow (group_shown after asking.now.caller p.row []))) }
+    ensures err { IfErr result
+        (IsRefusalOf (group_updated asking.now.state asking.now.caller name.now form.now)) }
 {
-    let Some(group) = group_seen(rows, caller, name.id) else {
-        return Err(not_found(alloc, Kind::Group, &name.text));
-    };
-    check_update(alloc, version, caller, form, group)?;
+    let group = find_group(alloc, asking, name)?;
+    ensure_changeable(alloc, asking, form, group)?;
     let changed = changed_group(alloc, form, group)?;
     let kept = changed.copy(alloc)?;
-    Ok(PlannedGroup {
-        draft: Draft::begin(alloc, rows)?.put(alloc, changed)?,
-        group: kept,
+    Ok(PlannedRow {
+        draft: Draft::begin(alloc, asking.rows())?.put(alloc, changed)?,
+        row: kept,
     })
 }

@@ -1,47 +1,36 @@
 //! Taking a rule out.
 
 ghost use Rattle.std.specs.Prelude.{◌≡◌, IfErr, IfOk};
-ghost use Rattle.api_types.specs.Outcome.{Moved};
 ghost use Rattle.api_types.specs.Printed.{NoRow};
-ghost use Rattle.api_types.specs.RowLists.{RowLists};
 ghost use Rattle.api_policy.specs.Checks.{IsAnswerOf};
-ghost use Rattle.call_parts.specs.State.{State};
-ghost use Rattle.call_parts.specs.Answers.{IsRefusalOf};
+ghost use Rattle.call_parts.specs.Answers.{IsRefusalOf, Leads};
 ghost use Rattle.plan_groups.specs.GroupCalls.{rule_deleted, rule_deletion_refusal};
 
-use api_policy::{owner_only, rule_seen, unless_last};
-use api_types::{Caller, IdText, Kind, Refusal, Rows, RuleRow};
-use call_parts::{Draft, not_found};
+use crate::finding::find_rule;
+use api_policy::{ensure_version_left, owner_only};
+use api_types::{IdText, Refusal, RuleRow};
+use call_parts::{Asking, Draft};
 use std::alloc::Global;
 
-fn check_deletion(version: u64, caller: &Caller, rule: &RuleRow) -> Result<(), Refusal>
-    ensures { (rows : RowLists)
-        → IsAnswerOf
-        (rule_deletion_refusal (record { rows = rows; version = version }) caller.now rule.now)
-        result }
+fn ensure_deletable(asking: &Asking<'_>, rule: &RuleRow) -> Result<(), Refusal>
+    ensures { IsAnswerOf
+        (rule_deletion_refusal asking.now.state asking.now.caller rule.now) result }
 {
+    let caller = asking.caller();
     owner_only(caller, &rule.project)?;
-    unless_last(version)
+    ensure_version_left(asking.version())
 }
 
 /// The plan of a rule's deletion, or why it is refused. Its cost grows with the rules.
-pub fn delete_rule(
-    alloc: Global,
-    rows: &Rows,
-    version: u64,
-    caller: &Caller,
-    name: &IdText,
-) -> Result<Draft, Refusal>
-    ensures start { IfOk result (λ d. d.start ≡ rows.now) }
-    ensures ok { let state : State = record { rows = rows.now; version = version } in
-        IfOk result (λ d. rule_deleted state caller.now name.now ≡ Moved d.rows NoRow) }
-    ensures err { let state : State = record { rows = rows.now; version = version } in
-        IfErr result (IsRefusalOf (rule_deleted state caller.now name.now)) }
+pub fn delete_rule(alloc: Global, asking: &Asking<'_>, name: &IdText) -> Result<Draft, Refusal>
+    ensures ok { IfOk result
+        (λ d. Leads asking.now.state.rows
+        (rule_deleted asking.now.state asking.now.caller name.now) d (λ after. NoRow)) }
+    ensures err { IfErr result
+        (IsRefusalOf (rule_deleted asking.now.state asking.now.caller name.now)) }
 {
-    let Some(rule) = rule_seen(rows, caller, name.id) else {
-        return Err(not_found(alloc, Kind::Rule, &name.text));
-    };
-    check_deletion(version, caller, rule)?;
-    let draft = Draft::begin(alloc, rows)?;
+    let rule = find_rule(alloc, asking, name)?;
+    ensure_deletable(asking, rule)?;
+    let draft = Draft::begin(alloc, asking.rows())?;
     Ok(draft.drop_row::<RuleRow>(alloc, rule.id)?)
 }

@@ -1,22 +1,20 @@
 //! Taking a network out, with its subnets, its DHCP port and its policies.
 
 ghost use Rattle.std.specs.Prelude.{◌≡◌, IfErr, IfOk, filter, map};
-ghost use Rattle.api_types.specs.HeldAddresses.{ports_on as ports_on_of, subnets_on as subnets_on_of};
+ghost use Rattle.api_types.specs.HeldAddresses as held_addresses;
 ghost use Rattle.api_types.specs.Printed.{NoRow};
 ghost use Rattle.api_types.specs.Table.{ident_eq};
 ghost use Rattle.api_types.specs.declared.policy.PolicyRow.{PolicyRow as ThePolicy};
 ghost use Rattle.api_types.specs.declared.port.PortRow.{PortRow as ThePort};
 ghost use Rattle.api_types.specs.declared.subnet.SubnetRow.{SubnetRow as TheSubnet};
 ghost use Rattle.call_parts.specs.Edits.{made};
-ghost use Rattle.call_parts.specs.State.{State};
 ghost use Rattle.plan_networks.specs.NetworkCalls.{deletion_refusal, network_deleted, network_gone};
 ghost use Rattle.call_parts.specs.Answers.{IsRefusalOf, Leads, Passes};
 
-use api_policy::{network_in_use, network_seen, owner_only, unless_last};
-use api_types::{
-    Caller, Id, IdText, Kind, NetworkRow, PolicyRow, PortRow, Refusal, Rows, Shared, SubnetRow,
-};
-use call_parts::{Draft, not_found};
+use crate::finding::find_network;
+use api_policy::{ensure_version_left, network_in_use, owner_only};
+use api_types::{Id, IdText, NetworkRow, PolicyRow, PortRow, Refusal, Rows, Shared, SubnetRow};
+use call_parts::{Asking, Draft};
 use net_addr::{OutOfMemory, Seq};
 use std::alloc::Global;
 
@@ -26,7 +24,8 @@ fn subnets_on(
     network: Id,
 ) -> Result<Seq<Id>, OutOfMemory>
     ensures { IfOk result
-        (λ ids. ids ≡ map (λ (s : TheSubnet). s.id) (subnets_on_of subnets.now network)) }
+        (λ ids. ids ≡ map (λ (s : TheSubnet). s.id)
+        (held_addresses.subnets_on subnets.now network)) }
 {
     let mut ids = Seq::new(alloc);
     for subnet in subnets {
@@ -39,7 +38,7 @@ fn subnets_on(
 
 fn ports_on(alloc: Global, ports: &[Shared<PortRow>], network: Id) -> Result<Seq<Id>, OutOfMemory>
     ensures { IfOk result
-        (λ ids. ids ≡ map (λ (p : ThePort). p.id) (ports_on_of ports.now network)) }
+        (λ ids. ids ≡ map (λ (p : ThePort). p.id) (held_addresses.ports_on ports.now network)) }
 {
     let mut ids = Seq::new(alloc);
     for port in ports {
@@ -84,38 +83,24 @@ fn without_network(alloc: Global, rows: &Rows, network: Id) -> Result<Draft, Out
     draft.drop_row::<NetworkRow>(alloc, network)
 }
 
-fn check_deletion(
-    rows: &Rows,
-    version: u64,
-    caller: &Caller,
-    network: &NetworkRow,
-) -> Result<(), Refusal>
-    ensures { let state : State = record { rows = rows.now; version = version } in
-        Passes (deletion_refusal state caller.now network.now) result }
+fn ensure_deletable(asking: &Asking<'_>, network: &NetworkRow) -> Result<(), Refusal>
+    ensures { Passes (deletion_refusal asking.now.state asking.now.caller network.now) result }
 {
+    let (rows, caller) = (asking.rows(), asking.caller());
     owner_only(caller, &network.project)?;
     network_in_use(rows, caller, network.id)?;
-    unless_last(version)
+    ensure_version_left(asking.version())
 }
 
 /// Where a network's deletion leads. Its cost grows with the rows.
-pub fn delete_network(
-    alloc: Global,
-    rows: &Rows,
-    version: u64,
-    caller: &Caller,
-    name: &IdText,
-) -> Result<Draft, Refusal>
-    ensures ok { let state : State = record { rows = rows.now; version = version } in
-        IfOk result
-        (λ draft.
-        Leads rows.now (network_deleted state caller.now name.now) draft (λ rows. NoRow)) }
-    ensures err { let state : State = record { rows = rows.now; version = version } in
-        IfErr result (IsRefusalOf (network_deleted state caller.now name.now)) }
+pub fn delete_network(alloc: Global, asking: &Asking<'_>, name: &IdText) -> Result<Draft, Refusal>
+    ensures ok { IfOk result
+        (λ d. Leads asking.now.state.rows
+        (network_deleted asking.now.state asking.now.caller name.now) d (λ after. NoRow)) }
+    ensures err { IfErr result
+        (IsRefusalOf (network_deleted asking.now.state asking.now.caller name.now)) }
 {
-    let Some(network) = network_seen(rows, caller, name.id) else {
-        return Err(not_found(alloc, Kind::Network, &name.text));
-    };
-    check_deletion(rows, version, caller, network)?;
-    Ok(without_network(alloc, rows, network.id)?)
+    let network = find_network(alloc, asking, name)?;
+    ensure_deletable(asking, network)?;
+    Ok(without_network(alloc, asking.rows(), network.id)?)
 }

@@ -9,12 +9,14 @@
 mod checks;
 mod creation;
 mod deletion;
+mod drawing;
+mod finding;
+mod laws;
 mod opening;
-mod planned;
 mod rules;
 mod update;
 
 pub use creation::create_network;
 pub use deletion::delete_network;
-pub use planned::PlannedNetwork;
+pub use laws::{network_calls_keep, network_calls_spare_others, network_calls_stay_apart};
 pub use update::update_network;

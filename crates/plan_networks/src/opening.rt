@@ -3,10 +3,11 @@
 ghost use Rattle.std.specs.Prelude.{◌≡◌, ◌≤◌, ◌<◌, ◌^◌, IfOk, None, find, option_copied, true};
 ghost use Rattle.api_types.specs.Table.{row_of};
 ghost use Rattle.api_types.specs.Registration.{ident};
-ghost use Rattle.api_policy.specs.Networks.{permits_all as permits_all_of};
-ghost use Rattle.api_policy.specs.Uses.{open_policy as open_policy_of};
+ghost use Rattle.api_policy.specs.Networks as networks;
+ghost use Rattle.api_policy.specs.Uses as uses;
 ghost use Rattle.call_parts.specs.Edits.{made};
-ghost use Rattle.plan_networks.specs.NetworkCalls.{closing, is_cleared as is_cleared_of, is_opened as is_opened_of, new_open_policy as new_open_policy_of, one_if as one_if_of, opening as opening_of};
+ghost use Rattle.plan_networks.specs.NetworkCalls.{closing};
+ghost use Rattle.plan_networks.specs.NetworkCalls as network_calls;
 
 use api_types::{Action, Given, Id, NetworkRow, PolicyRow, Shared};
 use call_parts::{Draft, value_or};
@@ -14,7 +15,7 @@ use net_addr::{Copies, OutOfMemory, Text};
 use std::alloc::Global;
 
 fn permits_all(policy: &PolicyRow, network: Id, action: Action) -> bool
-    ensures { result ≡ permits_all_of network action policy.now }
+    ensures { result ≡ networks.permits_all network action policy.now }
 {
     network == policy.object && (action == policy.action && policy.target.as_str() == "*")
 }
@@ -25,7 +26,7 @@ fn open_policy(
     network: Id,
     action: Action,
 ) -> Option<&Shared<PolicyRow>>
-    ensures { option_copied result ≡ open_policy_of policies.now network action }
+    ensures { option_copied result ≡ uses.open_policy policies.now network action }
 {
     policies
         .iter()
@@ -35,14 +36,14 @@ fn open_policy(
 /// As the next id, after this many.
 pub(crate) fn one_if(holds: bool) -> u64
     ensures few { result ≤ 1 }
-    ensures value { result ≡ one_if_of holds }
+    ensures value { result ≡ network_calls.one_if holds }
 {
     if holds { 1 } else { 0 }
 }
 
 /// Whether a form clears the attribute.
 pub(crate) fn is_cleared(asked: &Given<bool>) -> bool
-    ensures { result ≡ is_cleared_of asked.now }
+    ensures { result ≡ network_calls.is_cleared asked.now }
 {
     !value_or(true, asked)
 }
@@ -54,7 +55,8 @@ pub(crate) fn is_opened(
     action: Action,
     asked: &Given<bool>,
 ) -> bool
-    ensures { result ≡ is_opened_of asked.now (open_policy_of policies.now network action) }
+    ensures { result ≡ network_calls.is_opened asked.now
+        (uses.open_policy policies.now network action) }
 {
     value_or(false, asked) && open_policy(policies, network, action).is_none()
 }
@@ -65,7 +67,7 @@ fn new_open_policy(
     action: Action,
     id: Id,
 ) -> Result<PolicyRow, OutOfMemory>
-    ensures { IfOk result (λ l. l ≡ new_open_policy_of network.now action id) }
+    ensures { IfOk result (λ l. l ≡ network_calls.new_open_policy network.now action id) }
 {
     Ok(PolicyRow {
         id,
@@ -92,7 +94,7 @@ pub(crate) fn open(
     ensures start { IfOk result (λ d. d.start ≡ draft.start) }
     ensures rows { IfOk result
         (λ d. d.rows
-        ≡ made draft.rows (opening_of network.now action (ident ordinal count) opens)) }
+        ≡ made draft.rows (network_calls.opening network.now action (ident ordinal count) opens)) }
 {
     if !opens {
         return Ok(draft);
@@ -113,7 +115,7 @@ pub(crate) fn close(
     ensures start { IfOk result (λ d. d.start ≡ draft.start) }
     ensures rows { IfOk result
         (λ d. d.rows
-        ≡ made draft.rows (closing (open_policy_of policies.now network action) cleared)) }
+        ≡ made draft.rows (closing (uses.open_policy policies.now network action) cleared)) }
 {
     if !cleared {
         return Ok(draft);

@@ -2,34 +2,42 @@
 
 ghost use Rattle.std.specs.Prelude.{◌≡◌, ◌+◌, ◌≤◌, ◌<◌, ◌^◌, ◌||◌, ◌++◌, [], if◌then◌else◌, ℕ, IfErr, IfOk, None, true};
 ghost use Rattle.api_policy.specs.Standing.{without_closed};
-ghost use Rattle.api_policy.specs.Uses.{open_in_use as open_in_use_of, open_policy};
-ghost use Rattle.api_types.specs.Consistent.{IsConsistent};
+ghost use Rattle.api_policy.specs.Uses.{open_policy};
+ghost use Rattle.api_policy.specs.Uses as uses;
 ghost use Rattle.api_types.specs.Printed.{OneRow};
 ghost use Rattle.api_types.specs.Registration.{ident};
 ghost use Rattle.api_types.specs.Table.{row_of};
 ghost use Rattle.api_types.specs.declared.policy.Action.TheVariants.{External as ExternalOf, Shared as SharedOf};
 ghost use Rattle.call_parts.specs.Edits.{made};
-ghost use Rattle.call_parts.specs.State.{State};
-ghost use Rattle.plan_networks.specs.NetworkCalls.{changed_network as changed_network_of, is_opened as is_opened_of, network_edits, network_shown, network_updated, opens as opens_of, reopening, update_refusal};
+ghost use Rattle.plan_networks.specs.NetworkCalls as calls;
+ghost use Rattle.plan_networks.specs.NetworkCalls.{network_edits, network_shown, network_updated, reopening, update_refusal};
 ghost use Rattle.call_parts.specs.Answers.{IsRefusalOf, Leads, Passes, drawing_of};
 ghost use Rattle.row_laws.specs.Drawn.{IsAbsent};
 
+use crate::drawing::draw_new;
+use crate::finding::find_network;
 use crate::opening::{close, is_cleared, is_opened, one_if, open};
-use crate::planned::{PlannedNetwork, draw_new};
-use api_policy::{Standing, admin_only, network_for_admin, network_seen, open_in_use, owner_only};
+use api_policy::{Standing, admin_only, network_for_admin, open_in_use, owner_only};
 use api_types::{
-    Action, Caller, Given, IdText, Kind, NetworkForm, NetworkRow, PolicyRow, Refusal, Rows, Shared,
+    Action, Caller, Given, IdText, NetworkForm, NetworkRow, PolicyRow, Refusal, Rows, Shared,
 };
-use call_parts::{Draft, Drawn, not_found, text_or, value_or};
+use call_parts::{Asking, Draft, Drawn, PlannedRow, text_or, value_or};
 use net_addr::{Copies, OutOfMemory};
 use std::alloc::Global;
+
+/// The id that a policy gets if it is made.
+#[derive(Clone, Copy)]
+struct NextId {
+    ordinal: u32,
+    count: u64,
+}
 
 fn changed_network(
     alloc: Global,
     form: &NetworkForm,
     network: &NetworkRow,
 ) -> Result<NetworkRow, OutOfMemory>
-    ensures { IfOk result (λ n. n ≡ changed_network_of form.now network.now) }
+    ensures { IfOk result (λ n. n ≡ calls.changed_network form.now network.now) }
 {
     Ok(NetworkRow {
         id: network.id,
@@ -41,8 +49,8 @@ fn changed_network(
     })
 }
 
-// What forbids to take these policies from the network.
-fn check_closing(
+// Refuses to take these policies from the network where a port needs one.
+fn ensure_closable(
     rows: &Rows,
     caller: &Caller,
     network: &NetworkRow,
@@ -51,7 +59,7 @@ fn check_closing(
 ) -> Result<(), Refusal>
     ensures { Passes
         (if shared || external
-        then open_in_use_of rows.now caller.now
+        then uses.open_in_use rows.now caller.now
         (without_closed network.now.id shared external rows.now.policies) network.now
         else None) result }
 {
@@ -67,29 +75,28 @@ fn check_closing(
     open_in_use(rows, caller, &standing, network)
 }
 
-// What forbids the change, whatever the version.
-fn check_update(
-    rows: &Rows,
-    caller: &Caller,
+// Refuses the change, whatever the version.
+fn ensure_changeable(
+    asking: &Asking<'_>,
     form: &NetworkForm,
     network: &NetworkRow,
 ) -> Result<(), Refusal>
-    ensures { (version : ℕ)
-        → Passes
-        (update_refusal (record { rows = rows.now; version = version }) caller.now form.now
-        network.now) result }
+    ensures { Passes
+        (update_refusal asking.now.state asking.now.caller form.now network.now) result }
 {
+    let rows = asking.rows();
+    let caller = asking.caller();
     admin_only(caller, network_for_admin(caller, form))?;
     owner_only(caller, &network.project)?;
     let shared = is_cleared(&form.shared);
     let external = is_cleared(&form.router_external);
-    check_closing(rows, caller, network, shared, external)
+    ensure_closable(rows, caller, network, shared, external)
 }
 
 // How many ids the action's policy takes.
 fn opens(rows: &Rows, network: &NetworkRow, action: Action, asked: &Given<bool>) -> u64
     ensures few { result ≤ 1 }
-    ensures count { result ≡ opens_of rows.now network.now action asked.now }
+    ensures count { result ≡ calls.opens rows.now network.now action asked.now }
 {
     one_if(is_opened(rows.policies().rows(), network.id, action, asked))
 }
@@ -102,21 +109,30 @@ fn reopen(
     network: &NetworkRow,
     action: Action,
     asked: &Given<bool>,
-    ordinal: u32,
-    count: u64,
+    next: NextId,
 ) -> Result<Draft, OutOfMemory>
-    requires small { is_opened_of asked.now (open_policy policies.now network.now.id action) ≡ true
-        → count < 2 ^ 62 }
-    requires new { is_opened_of asked.now (open_policy policies.now network.now.id action) ≡ true
-        → row_of (λ l. l.id) (ident ordinal count) draft.rows.policies ≡ None }
+    requires small { calls.is_opened asked.now
+        (open_policy policies.now network.now.id action) ≡ true
+        → next.count < 2 ^ 62 }
+    requires new { calls.is_opened asked.now
+        (open_policy policies.now network.now.id action) ≡ true
+        → row_of (λ l. l.id) (ident next.ordinal next.count) draft.rows.policies ≡ None }
     ensures start { IfOk result (λ d. d.start ≡ draft.start) }
     ensures rows { IfOk result
         (λ d. d.rows
         ≡ made draft.rows
-        (reopening network.now policies.now action asked.now (ident ordinal count))) }
+        (reopening network.now policies.now action asked.now (ident next.ordinal next.count))) }
 {
     let opens = is_opened(policies, network.id, action, asked);
-    let draft = open(alloc, draft, network, action, ordinal, count, opens)?;
+    let draft = open(
+        alloc,
+        draft,
+        network,
+        action,
+        next.ordinal,
+        next.count,
+        opens,
+    )?;
     close(
         alloc,
         draft,
@@ -138,12 +154,12 @@ fn reopen_both(
     first: u64,
 ) -> Result<Draft, OutOfMemory>
     requires within { first
-        + (opens_of rows.now network.now SharedOf form.now.shared
-        + opens_of rows.now network.now ExternalOf form.now.router_external)
+        + (calls.opens rows.now network.now SharedOf form.now.shared
+        + calls.opens rows.now network.now ExternalOf form.now.router_external)
         ≤ 2 ^ 62 }
     requires new { (k : ℕ)
-        → k < opens_of rows.now network.now SharedOf form.now.shared
-        + opens_of rows.now network.now ExternalOf form.now.router_external
+        → k < calls.opens rows.now network.now SharedOf form.now.shared
+        + calls.opens rows.now network.now ExternalOf form.now.router_external
         → row_of (λ l. l.id) (ident ordinal (first + k)) draft.rows.policies ≡ None }
     ensures start { IfOk result (λ d. d.start ≡ draft.start) }
     ensures rows { IfOk result
@@ -151,22 +167,21 @@ fn reopen_both(
         ≡ made draft.rows
         (reopening network.now rows.now.policies SharedOf form.now.shared (ident ordinal first)
         ++ reopening network.now rows.now.policies ExternalOf form.now.router_external
-        (ident ordinal (first + opens_of rows.now network.now SharedOf form.now.shared)))) }
+        (ident ordinal (first + calls.opens rows.now network.now SharedOf form.now.shared)))) }
 {
     let policies = rows.policies().rows();
     let asked = &form.shared;
-    let draft = reopen(
-        alloc,
-        draft,
-        policies,
-        network,
-        Action::Shared,
-        asked,
+    let next = NextId {
         ordinal,
-        first,
-    )?;
+        count: first,
+    };
+    let draft = reopen(alloc, draft, policies, network, Action::Shared, asked, next)?;
     let second = first + opens(rows, network, Action::Shared, asked);
     let asked = &form.router_external;
+    let next = NextId {
+        ordinal,
+        count: second,
+    };
     reopen(
         alloc,
         draft,
@@ -174,8 +189,7 @@ fn reopen_both(
         network,
         Action::External,
         asked,
-        ordinal,
-        second,
+        next,
     )
 }
 
@@ -186,17 +200,17 @@ fn change_network(
     rows: &Rows,
     form: &NetworkForm,
     network: &NetworkRow,
-) -> Result<PlannedNetwork, OutOfMemory>
+) -> Result<PlannedRow<NetworkRow>, OutOfMemory>
     requires within { drawn.first
-        + (opens_of rows.now network.now SharedOf form.now.shared
-        + opens_of rows.now network.now ExternalOf form.now.router_external)
+        + (calls.opens rows.now network.now SharedOf form.now.shared
+        + calls.opens rows.now network.now ExternalOf form.now.router_external)
         ≤ 2 ^ 62 }
     requires new { (k : ℕ)
-        → k < opens_of rows.now network.now SharedOf form.now.shared
-        + opens_of rows.now network.now ExternalOf form.now.router_external
+        → k < calls.opens rows.now network.now SharedOf form.now.shared
+        + calls.opens rows.now network.now ExternalOf form.now.router_external
         → IsAbsent drawn.draft.rows (ident drawn.ordinal (drawn.first + k)) }
     ensures start { IfOk result (λ p. p.draft.start ≡ drawn.draft.start) }
-    ensures network { IfOk result (λ p. p.network ≡ changed_network_of form.now network.now) }
+    ensures row { IfOk result (λ p. p.row ≡ calls.changed_network form.now network.now) }
     ensures rows { IfOk result
         (λ p. p.draft.rows
         ≡ made drawn.draft.rows (network_edits rows.now form.now network.now (drawing_of drawn))) }
@@ -209,9 +223,9 @@ fn change_network(
     let changed = changed_network(alloc, form, network)?;
     let draft = draft.put(alloc, changed.copy(alloc)?)?;
     let draft = reopen_both(alloc, draft, rows, form, network, ordinal, first)?;
-    Ok(PlannedNetwork {
+    Ok(PlannedRow {
         draft,
-        network: changed,
+        row: changed,
     })
 }
 
@@ -219,26 +233,22 @@ fn change_network(
 /// and where it closes the network, with the ports times the policies.
 pub fn update_network(
     alloc: Global,
-    rows: &Rows,
-    version: u64,
-    caller: &Caller,
+    asking: &Asking<'_>,
     name: &IdText,
     form: &NetworkForm,
-) -> Result<PlannedNetwork, Refusal>
-    requires { IsConsistent rows.now }
-    ensures ok { let state : State = record { rows = rows.now; version = version } in
-        IfOk result
-        (λ p. Leads rows.now (network_updated state caller.now name.now form.now) p.draft
-        (λ after. OneRow (network_shown after caller.now p.network []))) }
-    ensures err { let state : State = record { rows = rows.now; version = version } in
-        IfErr result (IsRefusalOf (network_updated state caller.now name.now form.now)) }
+) -> Result<PlannedRow<NetworkRow>, Refusal>
+    ensures ok { IfOk result
+        (λ p. Leads asking.now.state.rows
+        (network_updated asking.now.state asking.now.caller name.now form.now) p.draft
+        (λ after. OneRow (network_shown after asking.now.caller p.row []))) }
+    ensures err { IfErr result
+        (IsRefusalOf (network_updated asking.now.state asking.now.caller name.now form.now)) }
 {
-    let Some(network) = network_seen(rows, caller, name.id) else {
-        return Err(not_found(alloc, Kind::Network, &name.text));
-    };
-    check_update(rows, caller, form, network)?;
+    let network = find_network(alloc, asking, name)?;
+    ensure_changeable(asking, form, network)?;
+    let rows = asking.rows();
     let many = opens(rows, network, Action::Shared, &form.shared)
         + opens(rows, network, Action::External, &form.router_external);
-    let drawn = draw_new(alloc, rows, version, &network.project, many)?;
+    let drawn = draw_new(alloc, asking, &network.project, many)?;
     Ok(change_network(alloc, drawn, rows, form, network)?)
 }

@@ -1,64 +1,49 @@
 //! The deletion of a policy.
 
 ghost use Rattle.std.specs.Prelude.{◌≡◌, IfErr, IfOk};
-ghost use Rattle.api_types.specs.Outcome.{Moved};
 ghost use Rattle.api_types.specs.Printed.{NoRow};
 ghost use Rattle.api_types.specs.declared.policy.PolicyRow.{PolicyRow as ThePolicy};
 ghost use Rattle.api_policy.specs.Checks.{IsAnswerOf};
-ghost use Rattle.api_policy.specs.Uses.{policy_in_use as policy_in_use_of};
+ghost use Rattle.api_policy.specs.Uses as uses;
 ghost use Rattle.api_types.specs.WithRows.{gone_from};
-ghost use Rattle.call_parts.specs.State.{State};
-ghost use Rattle.call_parts.specs.Answers.{IsRefusalOf};
+ghost use Rattle.call_parts.specs.Answers.{IsRefusalOf, Leads};
 ghost use Rattle.plan_policies.specs.PolicyCalls.{deletion_refusal, policy_deleted};
 
-use api_policy::{Standing, owner_only, policy_in_use, policy_seen, unless_last};
-use api_types::{Caller, IdText, Kind, PolicyRow, Refusal, Rows};
-use call_parts::{Draft, not_found};
+use crate::finding::find_policy;
+use api_policy::{Standing, ensure_version_left, owner_only, policy_in_use};
+use api_types::{Caller, IdText, PolicyRow, Refusal, Rows};
+use call_parts::{Asking, Draft};
 use std::alloc::Global;
 
 // Refuses where a port needs the policy.
-fn unless_needed(rows: &Rows, caller: &Caller, policy: &PolicyRow) -> Result<(), Refusal>
+fn ensure_unneeded(rows: &Rows, caller: &Caller, policy: &PolicyRow) -> Result<(), Refusal>
     ensures { IsAnswerOf
-        (policy_in_use_of rows.now caller.now
+        (uses.policy_in_use rows.now caller.now
         (gone_from (λ (q : ThePolicy). q.id) policy.now.id rows.now.policies) policy.now) result }
 {
     let standing = Standing::Without { policy: policy.id };
     policy_in_use(rows, caller, &standing, policy)
 }
 
-fn check_deletion(
-    rows: &Rows,
-    version: u64,
-    caller: &Caller,
-    policy: &PolicyRow,
-) -> Result<(), Refusal>
-    ensures { let state : State = record { rows = rows.now; version = version } in
-        IsAnswerOf (deletion_refusal state caller.now policy.now) result }
+fn ensure_deletable(asking: &Asking<'_>, policy: &PolicyRow) -> Result<(), Refusal>
+    ensures { IsAnswerOf (deletion_refusal asking.now.state asking.now.caller policy.now) result }
 {
-    owner_only(caller, &policy.project)?;
-    unless_needed(rows, caller, policy)?;
-    unless_last(version)
+    owner_only(asking.caller(), &policy.project)?;
+    ensure_unneeded(asking.rows(), asking.caller(), policy)?;
+    ensure_version_left(asking.version())
 }
 
 /// The plan of a policy's deletion, or why it is refused. Its cost grows as that of
 /// `policy_in_use`.
-pub fn delete_policy(
-    alloc: Global,
-    rows: &Rows,
-    version: u64,
-    caller: &Caller,
-    name: &IdText,
-) -> Result<Draft, Refusal>
-    ensures start { IfOk result (λ d. d.start ≡ rows.now) }
-    ensures ok { let state : State = record { rows = rows.now; version = version } in
-        IfOk result (λ d. policy_deleted state caller.now name.now ≡ Moved d.rows NoRow) }
-    ensures err { let state : State = record { rows = rows.now; version = version } in
-        IfErr result (IsRefusalOf (policy_deleted state caller.now name.now)) }
+pub fn delete_policy(alloc: Global, asking: &Asking<'_>, name: &IdText) -> Result<Draft, Refusal>
+    ensures ok { IfOk result
+        (λ d. Leads asking.now.state.rows
+        (policy_deleted asking.now.state asking.now.caller name.now) d (λ after. NoRow)) }
+    ensures err { IfErr result
+        (IsRefusalOf (policy_deleted asking.now.state asking.now.caller name.now)) }
 {
-    let Some(policy) = policy_seen(rows, caller, name.id) else {
-        return Err(not_found(alloc, Kind::Policy, &name.text));
-    };
-    check_deletion(rows, version, caller, policy)?;
-    let draft = Draft::begin(alloc, rows)?;
+    let policy = find_policy(alloc, asking, name)?;
+    ensure_deletable(asking, policy)?;
+    let draft = Draft::begin(alloc, asking.rows())?;
     Ok(draft.drop_row::<PolicyRow>(alloc, policy.id)?)
 }

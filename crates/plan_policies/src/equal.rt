@@ -8,7 +8,8 @@ ghost use Rattle.api_policy.specs.Checks.{IsAnswerOf};
 ghost use Rattle.api_types.specs.WithRows.{gone_from};
 ghost use Rattle.api_types.specs.declared.policy.PolicyRow.{PolicyRow as ThePolicy};
 ghost use Rattle.api_policy.specs.Standing.{aimed};
-ghost use Rattle.plan_policies.specs.PolicyCalls.{equal_policy, policy_exists as policy_exists_of};
+ghost use Rattle.plan_policies.specs.PolicyCalls.{equal_policy};
+ghost use Rattle.plan_policies.specs.PolicyCalls as policy_calls;
 
 use api_types::{Action, Id, Kind, PolicyRow, Refusal, Shared};
 use net_addr::Text;
@@ -55,8 +56,9 @@ pub(crate) fn equal_other<'r>(
 }
 
 // Refuses where a policy says the same.
-pub(crate) fn unless_equal(equal: Option<&Shared<PolicyRow>>) -> Result<(), Refusal>
-    ensures { IsAnswerOf (option_map policy_exists_of (option_copied equal.entry)) result }
+pub(crate) fn ensure_none(equal: Option<&Shared<PolicyRow>>) -> Result<(), Refusal>
+    ensures { IsAnswerOf (option_map policy_calls.policy_exists
+        (option_copied equal.entry)) result }
 {
     match equal {
         Some(policy) => Err(Refusal::Exists {

@@ -9,8 +9,11 @@
 mod creation;
 mod deletion;
 mod equal;
+mod finding;
+mod laws;
 mod update;
 
-pub use creation::{PlannedPolicy, create_policy};
+pub use creation::create_policy;
 pub use deletion::delete_policy;
+pub use laws::{policy_calls_keep, policy_calls_spare_others, policy_calls_stay_apart};
 pub use update::update_policy;

@@ -1,7 +1,6 @@
 -- Where calls on ports lead whose parts are known.
-use Rattle.std.proofs.Common.{◌≡◌, ◌∙◌, ℕ, lit<, Bool, true, false, List, [], ◌∷◌, Option, Some, None, ap, arith, inl, inr, refl, sym}
-use Rattle.std.specs.Prelude.{◌⊎◌, not}
-use Rattle.std.proofs.lemmas.Bool.Decides.{nat_tests}
+use Rattle.std.proofs.Common.{◌≡◌, ◌∙◌, ℕ, lit<, true, List, [], ◌∷◌, Option, Some, None, ap, inl, inr, refl, subst, sym}
+use Rattle.std.specs.Prelude.{◌⊎◌, ◌==◌, ◌^◌, ◌-◌, not}
 use Rattle.api_ipam.specs.FixedChoice.{first_addresses, first_known, named_subnets, next_addresses, next_known, old_renewed}
 use Rattle.api_ipam.specs.MacChoice.{mac_for}
 use Rattle.api_policy.specs.Permits.{admin_only, network_access, network_owner, owner_only}
@@ -46,6 +45,12 @@ use Rattle.call_parts.proofs.DrawnLemmas.{drawn_is}
 use Rattle.api_policy.specs.Reserved.{port_for_admin, port_for_owner}
 
 -- making a port
+
+-- its addresses are chosen by the rows and the MAC address that are read
+pub supply_at : (rows : RowLists) (form : PortForm) (n : NetworkRow) (s : Supply) (read : RowLists) (m : ℕ) → read ≡ rows → m ≡ mac_at_first rows.ports form n.id → IsFirstSupply read n.id m s
+    → IsFirstSupply rows n.id (mac_at_first rows.ports form n.id) s
+supply_at rows form n s read m same named is =
+    subst (λ (r : RowLists). IsFirstSupply r n.id (mac_at_first rows.ports form n.id) s) same (subst (λ (k : ℕ). IsFirstSupply read n.id k s) named is)
 
 module _ (settings : SettingsParts) (state : State) (caller : Caller) (form : PortForm) (n : NetworkRow) (owner : List ℕ) where
   abbrev mac : Option ℕ
@@ -136,8 +141,8 @@ module _ (settings : SettingsParts) (state : State) (caller : Caller) (form : Po
 
 module _ (settings : SettingsParts) (state : State) (caller : Caller) (form : PortForm) (n : NetworkRow) (p : PortRow) where
   -- where the change goes on, by what is refused of it and what it finds
-  abbrev changed_by : Option Refusal → Option (List Fixed) → Bool → Outcome
-  changed_by refusal fixed last = unless refusal (needing (PoolsSpent p.network) fixed (λ fs. unless (when last CountersSpent) (port_replaced caller state.rows (changed_port settings form n p fs))))
+  abbrev changed_by : Option Refusal → Option (List Fixed) → Option Refusal → Outcome
+  changed_by refusal fixed spent = unless refusal (needing (PoolsSpent p.network) fixed (λ fs. unless spent (port_replaced caller state.rows (changed_port settings form n p fs))))
 
   module _ (s : Supply) (is : IsNextSupply state.rows form p s) where
     abbrev subnets : List SubnetRow
@@ -172,29 +177,28 @@ module _ (settings : SettingsParts) (state : State) (caller : Caller) (form : Po
 
     pub change_refused : (e : Refusal) → IsRefusalIn (next_refused state.rows caller form p s) e → IsRefusalOf (port_changed settings state caller form n p) e
     change_refused e (inl memory) = inl memory
-    change_refused e (inr refused) = inr (ap (λ r. changed_by r (addresses_after state.rows form p) (is_last state)) (sym change_is ∙ refused))
+    change_refused e (inr refused) = inr (ap (λ r. changed_by r (addresses_after state.rows form p) (when (is_last state) CountersSpent)) (sym change_is ∙ refused))
 
     module _ (passed : next_refused state.rows caller form p s ≡ None) where
-      change_by : (o : Option (List Fixed)) (b : Bool) → next_fixed form p s ≡ o → is_last state ≡ b → port_changed settings state caller form n p ≡ changed_by None o b
-      change_by o b found last = λ j. changed_by ((sym change_is ∙ passed) j) ((sym after_is ∙ found) j) (last j)
+      change_by : (o : Option (List Fixed)) (spent : Option Refusal) → next_fixed form p s ≡ o → when (is_last state) CountersSpent ≡ spent
+          → port_changed settings state caller form n p ≡ changed_by None o spent
+      change_by o spent found last = λ j. changed_by ((sym change_is ∙ passed) j) ((sym after_is ∙ found) j) (last j)
 
       pub change_unfixed : (e : Refusal) → (e ≡ OutOfMemory) ⊎ ((e ≡ PoolsSpent p.network) × (next_fixed form p s ≡ None)) → IsRefusalOf (port_changed settings state caller form n p) e
       change_unfixed e (inl memory) = inl memory
-      change_unfixed e (inr spent) = inr (change_by None (is_last state) spent.1 refl ∙ ap Refused (sym spent.0))
+      change_unfixed e (inr spent) = inr (change_by None (when (is_last state) CountersSpent) spent.1 refl ∙ ap Refused (sym spent.0))
 
       module _ (fs : List Fixed) (found : next_fixed form p s ≡ Some fs) where
-        pub change_last : is_last state ≡ true → port_changed settings state caller form n p ≡ Refused CountersSpent
-        change_last last = change_by (Some fs) true found last
+        pub change_last : (e : Refusal) → when (is_last state) CountersSpent ≡ Some e → IsRefusalOf (port_changed settings state caller form n p) e
+        change_last e last = inr (change_by (Some fs) (Some e) found last)
 
-        pub change_replaces : (q : PortRow) → is_last state ≡ false → q ≡ changed_port settings form n p fs → port_changed settings state caller form n p ≡ port_replaced caller state.rows q
-        change_replaces q last is_q = change_by (Some fs) false found last ∙ ap (port_replaced caller state.rows) (sym is_q)
+        pub change_replaces : (q : PortRow) → when (is_last state) CountersSpent ≡ None → q ≡ changed_port settings form n p fs
+            → port_changed settings state caller form n p ≡ port_replaced caller state.rows q
+        change_replaces q room is_q = change_by (Some fs) None found room ∙ ap (port_replaced caller state.rows) (sym is_q)
 
--- the version can't rise where it is the last one, and else it can
-pub is_last_so : (rows : RowLists) (version : ℕ) → version ≡ 18446744073709551615 → is_last (record { rows = rows; version = version }) ≡ true
-is_last_so rows version h = grind (arith, nat_tests)
-
-pub not_last : (rows : RowLists) (version : ℕ) → (version ≡ 18446744073709551615 → ⊥) → is_last (record { rows = rows; version = version }) ≡ false
-not_last rows version h = grind (arith, nat_tests)
+-- whether a version is left, by the version that is read
+pub left_at : (state : State) (version : ℕ) → version ≡ state.version → when (version == (2 ^ 64 - 1)) CountersSpent ≡ when (is_last state) CountersSpent
+left_at state version is = λ j. when (is j == (2 ^ 64 - 1)) CountersSpent
 
 module _ (settings : SettingsParts) (state : State) (caller : Caller) (name : IdText) (form : PortForm) where
   abbrev on_network : PortRow → Option NetworkRow → Outcome

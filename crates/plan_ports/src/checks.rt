@@ -5,19 +5,21 @@ ghost use Rattle.api_ipam.specs.Euis.{fits_eui};
 ghost use Rattle.api_policy.specs.Checks.{IsAnswerOf};
 ghost use Rattle.api_policy.specs.Seen.{network_seen};
 ghost use Rattle.api_types.specs.Consistent.{IsConsistent};
-ghost use Rattle.api_types.specs.Given.{value_of, value_or as value_or_of};
-ghost use Rattle.api_types.specs.HeldAddresses.{is_mac_held as mac_held_of, is_mac_of_other as mac_of_other};
+ghost use Rattle.api_types.specs.Given.{value_of};
+ghost use Rattle.api_types.specs.Given as given_specs;
+ghost use Rattle.api_types.specs.HeldAddresses as held_addresses;
 ghost use Rattle.api_types.specs.Lists.{Pass};
 ghost use Rattle.call_parts.specs.Answers.{Passes};
 ghost use Rattle.plan_ports.specs.Plans.{change_refusal, first_refused, first_taken, holder_refusal, next_bad, next_refused, next_taken, standing_refusal};
-ghost use Rattle.plan_ports.specs.PortCalls.{bad_bare_after, bad_first_fixed, body_refusal, changes_service as changes_service_of, mac_taken as mac_taken_of};
+ghost use Rattle.plan_ports.specs.PortCalls.{bad_bare_after, bad_first_fixed, body_refusal};
+ghost use Rattle.plan_ports.specs.PortCalls as port_calls;
 ghost use Rattle.plan_ports.specs.PortRules.{bad_bare};
 
 use crate::rules::{
-    check_bare, check_fixed, check_groups, check_subnets, is_bare, is_groupless, is_pairless,
-    items_of,
+    ensure_bare, ensure_groups_owned, ensure_placed, ensure_subnets_seen, is_bare, is_groupless,
+    is_pairless, items_of,
 };
-use crate::supply::{Supply, mac_at_first, unless_held};
+use crate::supply::{Supply, ensure_addresses_free, mac_at_first};
 use api_ipam::{first_known, next_known, old_renewed, subnets_on};
 use api_policy::{
     admin_only, network_access, network_owner, over_quota, owner_only, port_for_admin,
@@ -26,21 +28,20 @@ use api_policy::{
 use api_types::{
     Caller, Given, Id, Kind, NetworkRow, PortForm, PortRow, Refusal, Rows, Shared, Value,
 };
-use call_parts::{are_unlike, invalid, is_given, value_or};
+use call_parts::{Asking, are_unlike, invalid, is_given, value_or};
 use net_addr::{Mac, Text};
-use net_settings::Settings;
 use std::alloc::Global;
 
 fn is_mac_held(ports: &[Shared<PortRow>], network: Id, mac: Mac) -> bool
-    ensures { result ≡ mac_held_of ports.now network mac }
+    ensures { result ≡ held_addresses.is_mac_held ports.now network mac }
 {
     ports
         .iter()
         .any(|port| network == port.network && port.mac == mac)
 }
 
-fn mac_taken(held: bool, mac: Mac, network: Id) -> Result<(), Refusal>
-    ensures { IsAnswerOf (mac_taken_of (λ m. held) network (Some mac)) result }
+fn ensure_not_held(held: bool, mac: Mac, network: Id) -> Result<(), Refusal>
+    ensures { IsAnswerOf (port_calls.mac_taken (λ m. held) network (Some mac)) result }
 {
     if held {
         let value = Value::Mac(mac);
@@ -50,44 +51,46 @@ fn mac_taken(held: bool, mac: Mac, network: Id) -> Result<(), Refusal>
 }
 
 // Refuses a MAC address that is given and that a port of the network has.
-fn unless_mac_held(
+fn ensure_mac_free(
     ports: &[Shared<PortRow>],
     network: Id,
     given: &Given<Mac>,
 ) -> Result<(), Refusal>
     ensures { IsAnswerOf
-        (mac_taken_of (mac_held_of ports.now network) network (value_of given.now)) result }
+        (port_calls.mac_taken
+        (held_addresses.is_mac_held ports.now network) network (value_of given.now)) result }
 {
     match given {
-        Given::Is(mac) => mac_taken(is_mac_held(ports, network, *mac), *mac, network),
+        Given::Is(mac) => ensure_not_held(is_mac_held(ports, network, *mac), *mac, network),
         _ => Ok(()),
     }
 }
 
 fn is_mac_of_other(ports: &[Shared<PortRow>], port: &PortRow, mac: Mac) -> bool
-    ensures { result ≡ mac_of_other ports.now port.now mac }
+    ensures { result ≡ held_addresses.is_mac_of_other ports.now port.now mac }
 {
     is_mac_held(ports, port.network, mac) && port.mac != mac
 }
 
 // Refuses a MAC address that is given and that another port of the network has.
-fn unless_mac_of_other(
+fn ensure_mac_free_for(
     ports: &[Shared<PortRow>],
     port: &PortRow,
     given: &Given<Mac>,
 ) -> Result<(), Refusal>
     ensures { IsAnswerOf
-        (mac_taken_of (mac_of_other ports.now port.now) port.now.network (value_of given.now))
+        (port_calls.mac_taken
+        (held_addresses.is_mac_of_other ports.now port.now) port.now.network (value_of given.now))
         result }
 {
     match given {
-        Given::Is(mac) => mac_taken(is_mac_of_other(ports, port, *mac), *mac, port.network),
+        Given::Is(mac) => ensure_not_held(is_mac_of_other(ports, port, *mac), *mac, port.network),
         _ => Ok(()),
     }
 }
 
 // Refuses addresses that break the rule of `fixed_ips`, where the network is seen.
-fn check_first_fixed(
+fn ensure_first_placed(
     alloc: Global,
     rows: &Rows,
     caller: &Caller,
@@ -103,10 +106,10 @@ fn check_first_fixed(
     }
     let subnets = subnets_on(alloc, rows.subnets().rows(), network.id)?;
     let mac = mac_at_first(rows.ports().rows(), network.id, form);
-    check_fixed(alloc, rows, caller, subnets.as_slice(), mac, &[], items)
+    ensure_placed(alloc, rows, caller, subnets.as_slice(), mac, &[], items)
 }
 
-fn check_fixed_on(
+fn ensure_placed_on(
     alloc: Global,
     rows: &Rows,
     caller: &Caller,
@@ -119,19 +122,19 @@ fn check_fixed_on(
         (option_copied network.entry)) result }
 {
     match network {
-        Some(network) => check_first_fixed(alloc, rows, caller, form, network),
+        Some(network) => ensure_first_placed(alloc, rows, caller, form, network),
         None => Ok(()),
     }
 }
 
 // Refuses groups and pairs of a new port without port security.
-fn check_bare_body(alloc: Global, form: &PortForm) -> Result<(), Refusal>
+fn ensure_body_bare(alloc: Global, form: &PortForm) -> Result<(), Refusal>
     ensures { Passes
-        (bad_bare (value_or_of true form.now.port_security_enabled)
-        (value_or_of [] form.now.security_groups)
-        (value_or_of [] form.now.allowed_address_pairs)) result }
+        (bad_bare (given_specs.value_or true form.now.port_security_enabled)
+        (given_specs.value_or [] form.now.security_groups)
+        (given_specs.value_or [] form.now.allowed_address_pairs)) result }
 {
-    check_bare(
+    ensure_bare(
         alloc,
         value_or(true, &form.port_security_enabled),
         is_bare(&form.security_groups),
@@ -141,7 +144,7 @@ fn check_bare_body(alloc: Global, form: &PortForm) -> Result<(), Refusal>
 
 /// Refuses the body of a new port that breaks a rule, or names a subnet that isn't seen, where this
 /// is the network that is seen. Its cost grows with the subnets, the ports and the policies.
-pub(crate) fn check_body(
+pub(crate) fn ensure_body_valid(
     alloc: Global,
     rows: &Rows,
     caller: &Caller,
@@ -156,13 +159,13 @@ pub(crate) fn check_body(
     if are_unlike(&form.project_id, &form.tenant_id) {
         return Err(invalid(alloc, "tenant_id"));
     }
-    check_fixed_on(alloc, rows, caller, form, network)?;
-    check_bare_body(alloc, form)?;
-    check_subnets(alloc, rows, caller, items_of(form))
+    ensure_placed_on(alloc, rows, caller, form, network)?;
+    ensure_body_bare(alloc, form)?;
+    ensure_subnets_seen(alloc, rows, caller, items_of(form))
 }
 
 // Refuses a group that isn't the owner's, and what the rules of policy forbid on the network.
-fn check_standing(
+fn ensure_permitted(
     alloc: Global,
     rows: &Rows,
     caller: &Caller,
@@ -173,14 +176,14 @@ fn check_standing(
     ensures { Passes
         (standing_refusal rows.now caller.now form.now network.now owner.now) result }
 {
-    check_groups(alloc, rows, caller, owner, &form.security_groups)?;
+    ensure_groups_owned(alloc, rows, caller, owner, &form.security_groups)?;
     admin_only(caller, port_for_admin(caller, form))?;
     network_owner(rows, caller, port_for_owner(form), network.id)?;
     network_access(rows, caller, network.id)
 }
 
 // Refuses an address that is known of the new port and held, and then its MAC address.
-fn check_values(
+fn ensure_values_free(
     alloc: Global,
     rows: &Rows,
     form: &PortForm,
@@ -196,17 +199,15 @@ fn check_values(
         supply.mac,
         &form.fixed_ips,
     )?;
-    unless_held(&supply.held, network, known.as_slice())?;
-    unless_mac_held(rows.ports().rows(), network, &form.mac_address)
+    ensure_addresses_free(&supply.held, network, known.as_slice())?;
+    ensure_mac_free(rows.ports().rows(), network, &form.mac_address)
 }
 
 /// Refuses a port on the network that breaks a rule of policy, whose addresses are held there, or
 /// that would be above the owner's quota. Its cost grows with the ports and the policies.
-pub(crate) fn check_creation(
+pub(crate) fn ensure_creatable(
     alloc: Global,
-    settings: &Settings,
-    rows: &Rows,
-    caller: &Caller,
+    asking: &Asking<'_>,
     form: &PortForm,
     network: &NetworkRow,
     owner: &Text,
@@ -214,16 +215,17 @@ pub(crate) fn check_creation(
 ) -> Result<(), Refusal>
     requires { Pass fits_eui supply.now.subnets }
     ensures { Passes
-        (first_refused settings.now rows.now caller.now form.now network.now owner.now supply.now)
-        result }
+        (first_refused asking.now.settings asking.now.state.rows asking.now.caller form.now
+        network.now owner.now supply.now) result }
 {
-    check_standing(alloc, rows, caller, form, network, owner)?;
-    check_values(alloc, rows, form, network.id, supply)?;
-    over_quota(rows, settings, owner, Kind::Port)
+    let (rows, caller) = (asking.rows(), asking.caller());
+    ensure_permitted(alloc, rows, caller, form, network, owner)?;
+    ensure_values_free(alloc, rows, form, network.id, supply)?;
+    over_quota(rows, asking.settings(), owner, Kind::Port)
 }
 
 // Refuses addresses that break the rule of `fixed_ips`, by those that the port has.
-fn check_next_fixed(
+fn ensure_next_placed(
     alloc: Global,
     rows: &Rows,
     caller: &Caller,
@@ -236,7 +238,7 @@ fn check_next_fixed(
 {
     let subnets = supply.subnets.as_slice();
     let old = old_renewed(alloc, subnets, port, supply.mac)?;
-    check_fixed(
+    ensure_placed(
         alloc,
         rows,
         caller,
@@ -248,10 +250,10 @@ fn check_next_fixed(
 }
 
 // Refuses groups and pairs of a port without port security, as all would stand.
-fn check_bare_after(alloc: Global, form: &PortForm, port: &PortRow) -> Result<(), Refusal>
+fn ensure_bare_after(alloc: Global, form: &PortForm, port: &PortRow) -> Result<(), Refusal>
     ensures { Passes (bad_bare_after form.now port.now) result }
 {
-    check_bare(
+    ensure_bare(
         alloc,
         value_or(port.secured, &form.port_security_enabled),
         is_groupless(&form.security_groups, &port.groups),
@@ -260,7 +262,7 @@ fn check_bare_after(alloc: Global, form: &PortForm, port: &PortRow) -> Result<()
 }
 
 // Refuses a change that breaks a rule, or names a subnet or a group that isn't seen.
-fn check_change(
+fn ensure_change_valid(
     alloc: Global,
     rows: &Rows,
     caller: &Caller,
@@ -271,15 +273,15 @@ fn check_change(
     requires { Pass fits_eui supply.now.subnets }
     ensures { Passes (change_refusal rows.now caller.now form.now port.now supply.now) result }
 {
-    check_next_fixed(alloc, rows, caller, form, port, supply)?;
-    check_bare_after(alloc, form, port)?;
-    check_subnets(alloc, rows, caller, items_of(form))?;
-    check_groups(alloc, rows, caller, &port.project, &form.security_groups)
+    ensure_next_placed(alloc, rows, caller, form, port, supply)?;
+    ensure_bare_after(alloc, form, port)?;
+    ensure_subnets_seen(alloc, rows, caller, items_of(form))?;
+    ensure_groups_owned(alloc, rows, caller, &port.project, &form.security_groups)
 }
 
 // A service's port is changed in name and description alone.
 fn changes_service(form: &PortForm) -> bool
-    ensures { result ≡ changes_service_of form.now }
+    ensures { result ≡ port_calls.changes_service form.now }
 {
     is_given(&form.admin_state_up)
         || is_given(&form.mac_address)
@@ -294,7 +296,7 @@ fn changes_service(form: &PortForm) -> bool
 }
 
 // Refuses what the rules of policy forbid, and a service's port.
-fn check_holder(
+fn ensure_change_permitted(
     rows: &Rows,
     caller: &Caller,
     form: &PortForm,
@@ -309,7 +311,7 @@ fn check_holder(
 }
 
 // Refuses an address that is known of the port and that another holds, and then its MAC address.
-fn check_next_values(
+fn ensure_next_values_free(
     alloc: Global,
     rows: &Rows,
     form: &PortForm,
@@ -321,14 +323,14 @@ fn check_next_values(
 {
     let subnets = supply.subnets.as_slice();
     let known = next_known(alloc, subnets, port, supply.mac, &form.fixed_ips)?;
-    unless_held(&supply.held, port.network, known.as_slice())?;
-    unless_mac_of_other(rows.ports().rows(), port, &form.mac_address)
+    ensure_addresses_free(&supply.held, port.network, known.as_slice())?;
+    ensure_mac_free_for(rows.ports().rows(), port, &form.mac_address)
 }
 
 /// Refuses a change of the port that breaks a rule, that is another's to make, or whose addresses
 /// others hold. Its cost grows with the ports, the policies, the routers and the floating
 /// addresses.
-pub(crate) fn check_update(
+pub(crate) fn ensure_changeable(
     alloc: Global,
     rows: &Rows,
     caller: &Caller,
@@ -339,7 +341,7 @@ pub(crate) fn check_update(
     requires { Pass fits_eui supply.now.subnets }
     ensures { Passes (next_refused rows.now caller.now form.now port.now supply.now) result }
 {
-    check_change(alloc, rows, caller, form, port, supply)?;
-    check_holder(rows, caller, form, port)?;
-    check_next_values(alloc, rows, form, port, supply)
+    ensure_change_valid(alloc, rows, caller, form, port, supply)?;
+    ensure_change_permitted(rows, caller, form, port)?;
+    ensure_next_values_free(alloc, rows, form, port, supply)
 }

@@ -1,47 +1,30 @@
 //! Making a port.
 
-ghost use Rattle.std.specs.Prelude.{◌≡◌, ◌⊎◌, ◌<◌, ◌^◌, [], ℕ, IfErr, IfOk, None, Some, not, true};
+ghost use Rattle.std.specs.Prelude.{◌≡◌, ◌⊎◌, ◌<◌, ◌^◌, [], IfErr, IfOk, None, Some, not, true};
 ghost use Rattle.api_ipam.specs.Euis.{fits_eui};
-ghost use Rattle.api_types.specs.Consistent.{IsConsistent};
 ghost use Rattle.api_types.specs.Lists.{Pass, is_empty};
-ghost use Rattle.api_types.specs.Outcome.{Moved};
 ghost use Rattle.api_types.specs.Printed.{NewRow};
 ghost use Rattle.api_types.specs.Registration.{drawn_id};
 ghost use Rattle.api_types.specs.Table.{row_of};
 ghost use Rattle.api_types.specs.declared.kind.Row.TheVariants.{Port as PortOf};
 ghost use Rattle.api_types.specs.declared.port.PortRow.{PortRow as ThePort};
 ghost use Rattle.api_types.specs.declared.refusal.Refusal.TheVariants.{OutOfMemory as MemoryRefusal, PoolsSpent as SpentPools};
-ghost use Rattle.call_parts.specs.Answers.{IsRefusalOf, drawing_of};
+ghost use Rattle.call_parts.specs.Answers.{IsRefusalOf, Leads, drawing_of};
 ghost use Rattle.api_types.specs.WithRows.{with_added};
 ghost use Rattle.call_parts.specs.InForm.{is_port_body};
-ghost use Rattle.call_parts.specs.State.{State};
 ghost use Rattle.plan_ports.specs.Plans.{first_fixed, ids_drawn};
-ghost use Rattle.plan_ports.specs.PortCalls.{new_port as new_port_of, port_created, port_made, port_shown};
+ghost use Rattle.plan_ports.specs.PortCalls as calls;
+ghost use Rattle.plan_ports.specs.PortCalls.{port_created, port_made, port_shown};
 
-use crate::checks::{check_body, check_creation};
-use crate::row::new_port;
+use crate::checks::{ensure_body_valid, ensure_creatable};
+use crate::row::{Chosen, new_port};
 use crate::supply::{Supply, expected_mac, first_supply, mac_for};
 use api_ipam::first_addresses;
 use api_policy::network_seen;
-use api_types::{Caller, FixedList, Kind, NetworkRow, PortForm, PortRow, Refusal, Rows};
-use call_parts::{Draft, Drawn, draw, none_with_id, owner, value_of};
-use net_addr::{Copies, Mac, OutOfMemory, Text};
-use net_settings::Settings;
+use api_types::{FixedList, Kind, NetworkRow, PortForm, PortRow, Refusal};
+use call_parts::{Asking, Drawn, PlannedRow, none_with_id, owner, value_of};
+use net_addr::{Copies, OutOfMemory, Text};
 use std::alloc::Global;
-
-/// A port as a call leaves it, with the rows and the change that lead there.
-#[derive(Drop)]
-pub struct PlannedPort {
-    pub draft: Draft,
-    pub port: PortRow,
-}
-
-// What is chosen for a new port.
-#[derive(Drop)]
-struct Chosen {
-    mac: Mac,
-    fixed: FixedList,
-}
 
 // The addresses of a new port, by what they are chosen.
 fn addresses_at_first(
@@ -68,29 +51,25 @@ fn addresses_at_first(
 // The MAC address and the addresses of a new port on the network, where nothing forbids it.
 fn choose(
     alloc: Global,
-    settings: &Settings,
-    rows: &Rows,
-    caller: &Caller,
+    asking: &Asking<'_>,
     form: &PortForm,
     network: &NetworkRow,
     owner: &Text,
 ) -> Result<Chosen, Refusal>
-    requires { IsConsistent rows.now }
-    ensures ok { (version : ℕ)
-        → let state : State = record { rows = rows.now; version = version } in
-        IfOk result
-        (λ t. port_made settings.now state caller.now form.now network.now owner.now
-        ≡ ids_drawn settings.now state caller.now form.now network.now owner.now t.mac
-        t.fixed) }
-    ensures err { (version : ℕ)
-        → IfErr result
+    ensures ok { IfOk result
+        (λ t. port_made asking.now.settings asking.now.state asking.now.caller form.now
+        network.now owner.now
+        ≡ ids_drawn asking.now.settings asking.now.state asking.now.caller form.now
+        network.now owner.now t.mac t.fixed) }
+    ensures err { IfErr result
         (IsRefusalOf
-        (port_made settings.now (record { rows = rows.now; version = version }) caller.now form.now
-        network.now owner.now)) }
+        (port_made asking.now.settings asking.now.state asking.now.caller form.now network.now
+        owner.now)) }
 {
+    let rows = asking.rows();
     let mac = mac_for(rows.ports().rows(), network.id, &form.mac_address);
     let supply = first_supply(alloc, rows, network.id, expected_mac(&mac))?;
-    check_creation(alloc, settings, rows, caller, form, network, owner, &supply)?;
+    ensure_creatable(alloc, asking, form, network, owner, &supply)?;
     let fixed = addresses_at_first(alloc, supply, form, network)?;
     match &mac {
         Some(mac) => Ok(Chosen { mac: *mac, fixed }),
@@ -99,64 +78,55 @@ fn choose(
 }
 
 // The draft with the new port, which has the first id that was drawn.
-fn added(
+fn add_port(
     alloc: Global,
-    settings: &Settings,
+    asking: &Asking<'_>,
     drawn: Drawn,
-    caller: &Caller,
     form: &PortForm,
     network: &NetworkRow,
     owner: &Text,
     chosen: Chosen,
-) -> Result<PlannedPort, OutOfMemory>
+) -> Result<PlannedRow<PortRow>, OutOfMemory>
     requires within { drawn.first < 2 ^ 62 }
     requires new { row_of (λ (p : ThePort). p.id) (drawn_id (drawing_of drawn) 0)
         drawn.draft.rows.ports ≡ None }
     ensures start { IfOk result (λ p. p.draft.start ≡ drawn.draft.start) }
-    ensures port { IfOk result
-        (λ p. p.port
-        ≡ new_port_of settings.now drawn.draft.rows caller.now form.now network.now owner.now
-        (drawn_id (drawing_of drawn) 0) chosen.mac chosen.fixed) }
+    ensures row { IfOk result
+        (λ p. p.row
+        ≡ calls.new_port asking.now.settings drawn.draft.rows asking.now.caller form.now
+        network.now owner.now (drawn_id (drawing_of drawn) 0) chosen.mac chosen.fixed) }
     ensures rows { IfOk result
-        (λ p. p.draft.rows ≡ with_added drawn.draft.rows (PortOf p.port)) }
+        (λ p. p.draft.rows ≡ with_added drawn.draft.rows (PortOf p.row)) }
 {
-    let Chosen { mac, fixed } = chosen;
-    let port = new_port(
-        alloc, settings, &drawn, caller, form, network, owner, mac, fixed,
-    )?;
+    let port = new_port(alloc, asking, &drawn, form, network, owner, chosen)?;
     let kept = port.copy(alloc)?;
-    Ok(PlannedPort {
+    Ok(PlannedRow {
         draft: drawn.draft.add(alloc, port)?,
-        port: kept,
+        row: kept,
     })
 }
 
 // Where the creation leads of a port on a network that is found.
 fn make_port(
     alloc: Global,
-    settings: &Settings,
-    rows: &Rows,
-    version: u64,
-    caller: &Caller,
+    asking: &Asking<'_>,
     form: &PortForm,
     network: &NetworkRow,
     owner: &Text,
-) -> Result<PlannedPort, Refusal>
-    requires consistent { IsConsistent rows.now }
-    requires named { not (is_empty owner.now) ≡ true }
-    ensures start { IfOk result (λ p. p.draft.start ≡ rows.now) }
-    ensures ok { let state : State = record { rows = rows.now; version = version } in
-        IfOk result
-        (λ p. port_made settings.now state caller.now form.now network.now owner.now
-        ≡ Moved p.draft.rows (NewRow (port_shown p.draft.rows caller.now p.port []))) }
-    ensures err { let state : State = record { rows = rows.now; version = version } in
-        IfErr result
+) -> Result<PlannedRow<PortRow>, Refusal>
+    requires { not (is_empty owner.now) ≡ true }
+    ensures ok { IfOk result
+        (λ p. Leads asking.now.state.rows
+        (port_made asking.now.settings asking.now.state asking.now.caller form.now network.now
+        owner.now) p.draft (λ after. NewRow (port_shown after asking.now.caller p.row []))) }
+    ensures err { IfErr result
         (IsRefusalOf
-        (port_made settings.now state caller.now form.now network.now owner.now)) }
+        (port_made asking.now.settings asking.now.state asking.now.caller form.now network.now
+        owner.now)) }
 {
-    let chosen = choose(alloc, settings, rows, caller, form, network, owner)?;
-    let drawn = draw(alloc, rows, version, owner, 1)?;
-    Ok(added(alloc, settings, drawn, caller, form, network, owner, chosen)?)
+    let chosen = choose(alloc, asking, form, network, owner)?;
+    let drawn = asking.draw(alloc, owner, 1)?;
+    Ok(add_port(alloc, asking, drawn, form, network, owner, chosen)?)
 }
 
 /// The plan of a port's creation, or why it is refused. Its cost grows with the ports and their
@@ -164,29 +134,27 @@ fn make_port(
 /// pools' size.
 pub fn create_port(
     alloc: Global,
-    settings: &Settings,
-    rows: &Rows,
-    version: u64,
-    caller: &Caller,
+    asking: &Asking<'_>,
     form: &PortForm,
-) -> Result<PlannedPort, Refusal>
-    requires consistent { IsConsistent rows.now }
-    requires named { not (is_empty caller.now.project) ≡ true }
+) -> Result<PlannedRow<PortRow>, Refusal>
+    requires named { not (is_empty asking.now.caller.project) ≡ true }
     requires in_form { is_port_body form.now ≡ true }
-    ensures start { IfOk result (λ p. p.draft.start ≡ rows.now) }
-    ensures ok { let state : State = record { rows = rows.now; version = version } in
-        IfOk result
-        (λ p. port_created settings.now state caller.now form.now
-        ≡ Moved p.draft.rows (NewRow (port_shown p.draft.rows caller.now p.port []))) }
-    ensures err { let state : State = record { rows = rows.now; version = version } in
-        IfErr result (IsRefusalOf (port_created settings.now state caller.now form.now)) }
+    ensures ok { IfOk result
+        (λ p. Leads asking.now.state.rows
+        (port_created asking.now.settings asking.now.state asking.now.caller form.now) p.draft
+        (λ after. NewRow (port_shown after asking.now.caller p.row []))) }
+    ensures err { IfErr result
+        (IsRefusalOf
+        (port_created asking.now.settings asking.now.state asking.now.caller form.now)) }
 {
+    let rows = asking.rows();
+    let caller = asking.caller();
     let network = network_seen(rows, caller, value_of(&form.network_id));
-    check_body(alloc, rows, caller, form, network)?;
+    ensure_body_valid(alloc, rows, caller, form, network)?;
     let Some(network) = network else {
         let id = value_of(&form.network_id);
         return Err(none_with_id(alloc, Kind::Network, id));
     };
     let owner = owner(caller, &form.project_id, &form.tenant_id);
-    make_port(alloc, settings, rows, version, caller, form, network, owner)
+    make_port(alloc, asking, form, network, owner)
 }

@@ -1,26 +1,25 @@
 //! Taking a port out.
 
 ghost use Rattle.std.specs.Prelude.{◌≡◌, IfErr, IfOk};
-ghost use Rattle.api_types.specs.Outcome.{Moved};
 ghost use Rattle.api_types.specs.Printed.{NoRow};
-ghost use Rattle.call_parts.specs.Answers.{IsRefusalOf, Passes};
+ghost use Rattle.api_policy.specs.Checks.{IsAnswerOf};
+ghost use Rattle.call_parts.specs.Answers.{IsRefusalOf, Leads};
 ghost use Rattle.call_parts.specs.Edits.{made};
-ghost use Rattle.call_parts.specs.State.{State};
 ghost use Rattle.plan_ports.specs.PortCalls.{deletion_refusal, port_deleted, port_gone};
 
-use api_policy::{port_delete, port_seen, service_in_use, unless_last};
-use api_types::{Caller, Id, IdText, Kind, PortRow, Refusal, Rows};
-use call_parts::{Draft, disassociate, not_found};
+use crate::finding::find_port;
+use api_policy::{ensure_version_left, port_delete, service_in_use};
+use api_types::{Id, IdText, PortRow, Refusal, Rows};
+use call_parts::{Asking, Draft, disassociate};
 use net_addr::OutOfMemory;
 use std::alloc::Global;
 
-fn check_deletion(rows: &Rows, version: u64, caller: &Caller, port: &PortRow) -> Result<(), Refusal>
-    ensures { let state : State = record { rows = rows.now; version = version } in
-        Passes (deletion_refusal state caller.now port.now) result }
+fn ensure_deletable(asking: &Asking<'_>, port: &PortRow) -> Result<(), Refusal>
+    ensures { IsAnswerOf (deletion_refusal asking.now.state asking.now.caller port.now) result }
 {
-    port_delete(rows, caller, port)?;
-    service_in_use(rows, caller, true, port)?;
-    unless_last(version)
+    port_delete(asking.rows(), asking.caller(), port)?;
+    service_in_use(asking.rows(), asking.caller(), true, port)?;
+    ensure_version_left(asking.version())
 }
 
 // The rows without the port, where its floating addresses lose their target.
@@ -36,22 +35,14 @@ fn without_port(alloc: Global, rows: &Rows, port: Id) -> Result<Draft, OutOfMemo
 
 /// The plan of a port's deletion, or why it is refused. Its cost grows with the ports, the routers
 /// and the floating addresses.
-pub fn delete_port(
-    alloc: Global,
-    rows: &Rows,
-    version: u64,
-    caller: &Caller,
-    name: &IdText,
-) -> Result<Draft, Refusal>
-    ensures start { IfOk result (λ d. d.start ≡ rows.now) }
-    ensures ok { let state : State = record { rows = rows.now; version = version } in
-        IfOk result (λ d. port_deleted state caller.now name.now ≡ Moved d.rows NoRow) }
-    ensures err { let state : State = record { rows = rows.now; version = version } in
-        IfErr result (IsRefusalOf (port_deleted state caller.now name.now)) }
+pub fn delete_port(alloc: Global, asking: &Asking<'_>, name: &IdText) -> Result<Draft, Refusal>
+    ensures ok { IfOk result
+        (λ d. Leads asking.now.state.rows
+        (port_deleted asking.now.state asking.now.caller name.now) d (λ after. NoRow)) }
+    ensures err { IfErr result
+        (IsRefusalOf (port_deleted asking.now.state asking.now.caller name.now)) }
 {
-    let Some(port) = port_seen(rows, caller, name.id) else {
-        return Err(not_found(alloc, Kind::Port, &name.text));
-    };
-    check_deletion(rows, version, caller, port)?;
-    Ok(without_port(alloc, rows, port.id)?)
+    let port = find_port(alloc, asking, name)?;
+    ensure_deletable(asking, port)?;
+    Ok(without_port(alloc, asking.rows(), port.id)?)
 }

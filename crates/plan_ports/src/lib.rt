@@ -11,11 +11,14 @@
 mod checks;
 mod creation;
 mod deletion;
+mod finding;
+mod laws;
 mod row;
 mod rules;
 mod supply;
 mod update;
 
-pub use creation::{PlannedPort, create_port};
+pub use creation::create_port;
 pub use deletion::delete_port;
+pub use laws::{port_calls_keep, port_calls_spare_others, port_calls_stay_apart};
 pub use update::update_port;

@@ -2,25 +2,32 @@
 
 ghost use Rattle.std.specs.Prelude.{◌≡◌, ◌<◌, ◌^◌, [], IfOk, find, map, option_copied};
 ghost use Rattle.api_types.specs.Consistent.Groups.{is_default_of};
-ghost use Rattle.api_types.specs.Given.{value_or as value_or_of};
+ghost use Rattle.api_types.specs.Given as given;
 ghost use Rattle.api_types.specs.Registration.{drawn_id};
 ghost use Rattle.call_parts.specs.Answers.{drawing_of};
-ghost use Rattle.plan_ports.specs.PortCalls.{changed_port as changed_port_of, groups_at_first as groups_at_first_of, ids_of, new_port as new_port_of, pair_of as pair_at, pairs_after as pairs_after_of, vif_after as vif_after_of};
+ghost use Rattle.plan_ports.specs.PortCalls as calls;
+ghost use Rattle.plan_ports.specs.PortCalls.{ids_of};
 
 use api_ml2::bind;
 use api_policy::is_marked;
 use api_types::{
-    Caller, FixedList, Given, GroupRow, Id, NetworkRow, Pair, PairAsked, PortForm, PortRow, Shared,
-    Vif,
+    FixedList, Given, GroupRow, Id, NetworkRow, Pair, PairAsked, PortForm, PortRow, Shared, Vif,
 };
-use call_parts::{Drawn, text_or, value_or};
+use call_parts::{Asking, Drawn, text_or, value_or};
 use net_addr::{Copies, Mac, OutOfMemory, Seq, Text};
 use net_settings::Settings;
 use std::alloc::Global;
 
+/// What is chosen for a new port: its MAC address and its addresses.
+#[derive(Drop)]
+pub(crate) struct Chosen {
+    pub mac: Mac,
+    pub fixed: FixedList,
+}
+
 // A pair without a MAC address has the port's.
 fn pair_of(mac: Mac, asked: &PairAsked) -> Pair
-    ensures { result ≡ pair_at mac asked.now }
+    ensures { result ≡ calls.pair_of mac asked.now }
 {
     Pair {
         mac: asked.mac.unwrap_or(mac),
@@ -29,7 +36,7 @@ fn pair_of(mac: Mac, asked: &PairAsked) -> Pair
 }
 
 fn all_pairs(alloc: Global, mac: Mac, asked: &[PairAsked]) -> Result<Seq<Pair>, OutOfMemory>
-    ensures { IfOk result (λ pairs. pairs ≡ map (pair_at mac) asked.now) }
+    ensures { IfOk result (λ pairs. pairs ≡ map (calls.pair_of mac) asked.now) }
 {
     let mut pairs = Seq::new(alloc);
     for one in asked {
@@ -43,7 +50,7 @@ fn pairs_of(
     mac: Mac,
     asked: &Given<Seq<PairAsked>>,
 ) -> Result<Seq<Pair>, OutOfMemory>
-    ensures { IfOk result (λ pairs. pairs ≡ map (pair_at mac) (value_or_of [] asked.now)) }
+    ensures { IfOk result (λ pairs. pairs ≡ map (calls.pair_of mac) (given.value_or [] asked.now)) }
 {
     match asked {
         Given::Is(asked) => all_pairs(alloc, mac, asked.as_slice()),
@@ -85,7 +92,7 @@ fn groups_at_first(
     named: &Given<Seq<Id>>,
 ) -> Result<Seq<Id>, OutOfMemory>
     ensures { IfOk result
-        (λ ids. ids ≡ groups_at_first_of groups.now owner.now secured named.now) }
+        (λ ids. ids ≡ calls.groups_at_first groups.now owner.now secured named.now) }
 {
     match named {
         Given::Is(ids) => ids.copy(alloc),
@@ -103,21 +110,20 @@ fn groups_at_first(
 /// the hosts.
 pub(crate) fn new_port(
     alloc: Global,
-    settings: &Settings,
+    asking: &Asking<'_>,
     drawn: &Drawn,
-    caller: &Caller,
     form: &PortForm,
     network: &NetworkRow,
     owner: &Text,
-    mac: Mac,
-    fixed: FixedList,
+    chosen: Chosen,
 ) -> Result<PortRow, OutOfMemory>
     requires { drawn.now.first < 2 ^ 62 }
     ensures { IfOk result
         (λ p. p
-        ≡ new_port_of settings.now drawn.now.draft.rows caller.now form.now network.now owner.now
-        (drawn_id (drawing_of drawn.now) 0) mac fixed) }
+        ≡ calls.new_port asking.now.settings drawn.now.draft.rows asking.now.caller form.now
+        network.now owner.now (drawn_id (drawing_of drawn.now) 0) chosen.mac chosen.fixed) }
 {
+    let Chosen { mac, fixed } = chosen;
     let rows = drawn.draft.rows();
     let empty = Text::new(alloc);
     let host = text_or(alloc, &empty, &form.binding_host_id)?;
@@ -137,15 +143,15 @@ pub(crate) fn new_port(
         groups: groups_at_first(alloc, groups, owner, secured, &form.security_groups)?,
         device: text_or(alloc, &empty, &form.device_id)?,
         owner: text_or(alloc, &empty, &form.device_owner)?,
-        vif: bind(settings, &network.segment, &host),
+        vif: bind(asking.settings(), &network.segment, &host),
         host,
-        by_admin: is_marked(rows, caller, owner, network),
+        by_admin: is_marked(rows, asking.caller(), owner, network),
     })
 }
 
 // The binding to the host that the body names, or the old one.
 fn vif_after(settings: &Settings, network: &NetworkRow, host: &Given<Text>, old: Vif) -> Vif
-    ensures { result ≡ vif_after_of settings.now network.now host.now old }
+    ensures { result ≡ calls.vif_after settings.now network.now host.now old }
 {
     match host {
         Given::Is(host) => bind(settings, &network.segment, host),
@@ -160,7 +166,7 @@ fn pairs_after(
     asked: &Given<Seq<PairAsked>>,
     old: &Seq<Pair>,
 ) -> Result<Seq<Pair>, OutOfMemory>
-    ensures { IfOk result (λ pairs. pairs ≡ pairs_after_of mac asked.now old.now) }
+    ensures { IfOk result (λ pairs. pairs ≡ calls.pairs_after mac asked.now old.now) }
 {
     match asked {
         Given::Is(asked) => all_pairs(alloc, mac, asked.as_slice()),
@@ -173,7 +179,7 @@ fn groups_after(
     named: &Given<Seq<Id>>,
     old: &Seq<Id>,
 ) -> Result<Seq<Id>, OutOfMemory>
-    ensures { IfOk result (λ ids. ids ≡ value_or_of old.now named.now) }
+    ensures { IfOk result (λ ids. ids ≡ given.value_or old.now named.now) }
 {
     match named {
         Given::Is(ids) => ids.copy(alloc),
@@ -191,7 +197,7 @@ pub(crate) fn changed_port(
     fixed: FixedList,
 ) -> Result<PortRow, OutOfMemory>
     ensures { IfOk result
-        (λ p. p ≡ changed_port_of settings.now form.now network.now port.now fixed) }
+        (λ p. p ≡ calls.changed_port settings.now form.now network.now port.now fixed) }
 {
     let mac = value_or(port.mac, &form.mac_address);
     Ok(PortRow {

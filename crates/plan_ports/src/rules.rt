@@ -3,15 +3,17 @@
 ghost use Rattle.std.specs.Prelude.{◌≡◌, [], ℕ, IfOk, find, not, option_copied};
 ghost use Rattle.std.specs.List.{list_all};
 ghost use Rattle.api_ipam.specs.Euis.{fits_eui};
-ghost use Rattle.api_ipam.specs.FixedChoice.{named_subnets as named_subnets_of};
-ghost use Rattle.api_types.specs.Given.{value_or as value_or_of};
+ghost use Rattle.api_ipam.specs.FixedChoice as fixed_choice;
+ghost use Rattle.api_types.specs.Given as given_specs;
 ghost use Rattle.api_types.specs.Lists.{Pass, is_empty};
 ghost use Rattle.api_types.specs.declared.kind.Kind.TheVariants.{Group as GroupKind, Subnet as SubnetKind};
 ghost use Rattle.call_parts.specs.Answers.{Passes};
 ghost use Rattle.call_parts.specs.BodyNames.{unless_all};
 ghost use Rattle.plan_ports.specs.Plans.{bare_refusal};
-ghost use Rattle.plan_ports.specs.PortCalls.{is_group_for as is_group_for_of, items_of as items_of_of, pairs_after};
-ghost use Rattle.plan_ports.specs.PortRules.{bad_fixed, is_subnet_seen as is_subnet_seen_of};
+ghost use Rattle.plan_ports.specs.PortCalls.{pairs_after};
+ghost use Rattle.plan_ports.specs.PortCalls as port_calls;
+ghost use Rattle.plan_ports.specs.PortRules.{bad_fixed};
+ghost use Rattle.plan_ports.specs.PortRules as port_rules;
 
 use api_ipam::are_placed;
 use api_policy::{group_seen, subnet_seen};
@@ -25,7 +27,7 @@ use std::alloc::Global;
 
 /// The addresses that the body asks for.
 pub(crate) fn items_of(form: &PortForm) -> &[FixedAsked]
-    ensures { result.now ≡ items_of_of form.now }
+    ensures { result.now ≡ port_calls.items_of form.now }
 {
     match &form.fixed_ips {
         Given::Is(items) => items.as_slice(),
@@ -35,7 +37,7 @@ pub(crate) fn items_of(form: &PortForm) -> &[FixedAsked]
 
 // The ids of subnets that the items name.
 fn named_subnets(alloc: Global, items: &[FixedAsked]) -> Result<Seq<Id>, OutOfMemory>
-    ensures { IfOk result (λ ids. ids ≡ named_subnets_of items.now) }
+    ensures { IfOk result (λ ids. ids ≡ fixed_choice.named_subnets items.now) }
 {
     let mut named = Seq::new(alloc);
     for item in items {
@@ -47,27 +49,27 @@ fn named_subnets(alloc: Global, items: &[FixedAsked]) -> Result<Seq<Id>, OutOfMe
 }
 
 fn is_subnet_seen(rows: &Rows, caller: &Caller, id: Id) -> bool
-    ensures { result ≡ is_subnet_seen_of rows.now caller.now id }
+    ensures { result ≡ port_rules.is_subnet_seen rows.now caller.now id }
 {
     subnet_seen(rows, caller, Some(id)).is_some()
 }
 
 fn unseen_subnet<'i>(rows: &Rows, caller: &Caller, named: &'i [Id]) -> Option<&'i Id>
     ensures { option_copied result
-        ≡ find (λ i. not (is_subnet_seen_of rows.now caller.now i)) named.now }
+        ≡ find (λ i. not (port_rules.is_subnet_seen rows.now caller.now i)) named.now }
 {
     named.iter().find(|id| !is_subnet_seen(rows, caller, **id))
 }
 
 fn are_subnets_seen(rows: &Rows, caller: &Caller, named: &[Id]) -> bool
-    ensures { result ≡ list_all (is_subnet_seen_of rows.now caller.now) named.now }
+    ensures { result ≡ list_all (port_rules.is_subnet_seen rows.now caller.now) named.now }
 {
     named.iter().all(|id| is_subnet_seen(rows, caller, *id))
 }
 
 /// Refuses a list of addresses that breaks the rule of `fixed_ips`, where the subnets that it names
 /// are seen. Its cost grows with the items, times the subnets and the policies.
-pub(crate) fn check_fixed(
+pub(crate) fn ensure_placed(
     alloc: Global,
     rows: &Rows,
     caller: &Caller,
@@ -91,15 +93,15 @@ pub(crate) fn check_fixed(
 
 /// Refuses the first named subnet that isn't seen. Its cost grows with the names, times the
 /// policies.
-pub(crate) fn check_subnets(
+pub(crate) fn ensure_subnets_seen(
     alloc: Global,
     rows: &Rows,
     caller: &Caller,
     items: &[FixedAsked],
 ) -> Result<(), Refusal>
     ensures { Passes
-        (unless_all SubnetKind (is_subnet_seen_of rows.now caller.now)
-        (named_subnets_of items.now)) result }
+        (unless_all SubnetKind (port_rules.is_subnet_seen rows.now caller.now)
+        (fixed_choice.named_subnets items.now)) result }
 {
     let named = named_subnets(alloc, items)?;
     match unseen_subnet(rows, caller, named.as_slice()) {
@@ -110,7 +112,7 @@ pub(crate) fn check_subnets(
 
 // The security groups that the body names.
 fn group_names(named: &Given<Seq<Id>>) -> &[Id]
-    ensures { result.now ≡ value_or_of [] named.now }
+    ensures { result.now ≡ given_specs.value_or [] named.now }
 {
     match named {
         Given::Is(ids) => ids.as_slice(),
@@ -120,7 +122,7 @@ fn group_names(named: &Given<Seq<Id>>) -> &[Id]
 
 // Whether the group is there, is seen, and is of the project.
 fn is_group_for(rows: &Rows, caller: &Caller, project: &Text, id: Id) -> bool
-    ensures { result ≡ is_group_for_of rows.now caller.now project.now id }
+    ensures { result ≡ port_calls.is_group_for rows.now caller.now project.now id }
 {
     match group_seen(rows, caller, Some(id)) {
         Some(group) => group.project == *project,
@@ -130,7 +132,7 @@ fn is_group_for(rows: &Rows, caller: &Caller, project: &Text, id: Id) -> bool
 
 fn other_group<'i>(rows: &Rows, caller: &Caller, project: &Text, named: &'i [Id]) -> Option<&'i Id>
     ensures { option_copied result
-        ≡ find (λ i. not (is_group_for_of rows.now caller.now project.now i)) named.now }
+        ≡ find (λ i. not (port_calls.is_group_for rows.now caller.now project.now i)) named.now }
 {
     named
         .iter()
@@ -138,7 +140,7 @@ fn other_group<'i>(rows: &Rows, caller: &Caller, project: &Text, named: &'i [Id]
 }
 
 /// Refuses the first named group that isn't seen, or that is of another project than this one.
-pub(crate) fn check_groups(
+pub(crate) fn ensure_groups_owned(
     alloc: Global,
     rows: &Rows,
     caller: &Caller,
@@ -146,8 +148,8 @@ pub(crate) fn check_groups(
     named: &Given<Seq<Id>>,
 ) -> Result<(), Refusal>
     ensures { Passes
-        (unless_all GroupKind (is_group_for_of rows.now caller.now project.now)
-        (value_or_of [] named.now)) result }
+        (unless_all GroupKind (port_calls.is_group_for rows.now caller.now project.now)
+        (given_specs.value_or [] named.now)) result }
 {
     match other_group(rows, caller, project, group_names(named)) {
         Some(id) => Err(none_with_id(alloc, Kind::Group, Some(*id))),
@@ -157,7 +159,7 @@ pub(crate) fn check_groups(
 
 /// Whether the list that is given is empty, or none is given.
 pub(crate) fn is_bare<T>(given: &Given<Seq<T>>) -> bool
-    ensures { result ≡ is_empty (value_or_of [] given.now) }
+    ensures { result ≡ is_empty (given_specs.value_or [] given.now) }
 {
     match given {
         Given::Is(items) => items.len() == 0,
@@ -167,7 +169,7 @@ pub(crate) fn is_bare<T>(given: &Given<Seq<T>>) -> bool
 
 /// Whether the port will have no groups.
 pub(crate) fn is_groupless(named: &Given<Seq<Id>>, old: &Seq<Id>) -> bool
-    ensures { result ≡ is_empty (value_or_of old.now named.now) }
+    ensures { result ≡ is_empty (given_specs.value_or old.now named.now) }
 {
     match named {
         Given::Is(ids) => ids.len() == 0,
@@ -186,7 +188,7 @@ pub(crate) fn is_pairless(asked: &Given<Seq<PairAsked>>, old: &Seq<Pair>) -> boo
 }
 
 /// Refuses groups and pairs of a port without port security.
-pub(crate) fn check_bare(
+pub(crate) fn ensure_bare(
     alloc: Global,
     secured: bool,
     no_groups: bool,

@@ -2,12 +2,12 @@
 
 ghost use Rattle.std.specs.Prelude.{◌≡◌, IfOk};
 ghost use Rattle.api_ipam.specs.FixedChoice.{is_in};
-ghost use Rattle.api_ipam.specs.MacChoice.{expected_mac as expected_mac_of, mac_for as mac_for_of};
+ghost use Rattle.api_ipam.specs.MacChoice as mac_choice;
 ghost use Rattle.api_policy.specs.Checks.{IsAnswerOf};
 ghost use Rattle.api_types.specs.Consistent.{IsConsistent};
 ghost use Rattle.api_types.specs.HeldAddresses.{address_taken};
 ghost use Rattle.plan_ports.specs.Plans.{IsFirstSupply, IsNextSupply};
-ghost use Rattle.plan_ports.specs.PortCalls.{mac_at_first as mac_at_first_of};
+ghost use Rattle.plan_ports.specs.PortCalls as port_calls;
 
 use api_ipam::{HeldAddresses, choose_mac, first_held, subnets_on};
 use api_types::{Given, Id, PortForm, PortRow, Refusal, Rows, Shared, SubnetRow, Value};
@@ -27,7 +27,7 @@ pub(crate) struct Supply {
 /// The MAC address that is given, or else the least generated one that is free on the network. Its
 /// cost is that of `choose_mac`.
 pub(crate) fn mac_for(ports: &[Shared<PortRow>], network: Id, given: &Given<Mac>) -> Option<Mac>
-    ensures { result ≡ mac_for_of ports.now network given.now }
+    ensures { result ≡ mac_choice.mac_for ports.now network given.now }
 {
     match given {
         Given::Is(mac) => Some(*mac),
@@ -37,7 +37,7 @@ pub(crate) fn mac_for(ports: &[Shared<PortRow>], network: Id, given: &Given<Mac>
 
 /// The MAC address by which addresses are chosen, before a missing one is refused.
 pub(crate) fn expected_mac(mac: &Option<Mac>) -> Mac
-    ensures { result ≡ expected_mac_of mac.now }
+    ensures { result ≡ mac_choice.expected_mac mac.now }
 {
     match mac {
         Some(mac) => *mac,
@@ -47,7 +47,7 @@ pub(crate) fn expected_mac(mac: &Option<Mac>) -> Mac
 
 /// The MAC address that a new port will have, where one is left.
 pub(crate) fn mac_at_first(ports: &[Shared<PortRow>], network: Id, form: &PortForm) -> Mac
-    ensures { result ≡ mac_at_first_of ports.now form.now network }
+    ensures { result ≡ port_calls.mac_at_first ports.now form.now network }
 {
     expected_mac(&mac_for(ports, network, &form.mac_address))
 }
@@ -89,7 +89,7 @@ pub(crate) fn next_supply(
 }
 
 /// Refuses the first of these addresses that is held on the network.
-pub(crate) fn unless_held(
+pub(crate) fn ensure_addresses_free(
     held: &HeldAddresses,
     network: Id,
     addresses: &[Addr],

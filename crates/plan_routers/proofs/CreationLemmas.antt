@@ -6,7 +6,6 @@ use Rattle.api_types.specs.Outcome.{Moved, Outcome, Refused}
 use Rattle.api_types.specs.Printed.{NewRow}
 use Rattle.api_types.specs.Refusing.{needing, unless}
 use Rattle.api_types.specs.Registration.{Drawing, drawn_id}
-use Rattle.api_types.specs.RowLists.{RowLists}
 use Rattle.api_types.specs.declared.call.Caller.{Caller}
 use Rattle.api_types.specs.declared.form.RouterForm.{RouterForm}
 use Rattle.api_types.specs.declared.kind.Row.TheVariants.{Router}
@@ -16,7 +15,8 @@ use Rattle.api_types.specs.declared.port.PortRow.{PortRow}
 use Rattle.api_types.specs.declared.refusal.Refusal.TheVariants.{CountersSpent, OutOfMemory}
 use Rattle.api_types.specs.declared.refusal.Refusal.{Refusal}
 use Rattle.api_types.specs.declared.router.RouterRow.{RouterRow}
-use Rattle.call_parts.specs.Answers.{IsRefusalIn, IsRefusalOf}
+use Rattle.call_parts.specs.Answers.{IsRefusalIn, IsRefusalOf, Leads}
+use Rattle.call_parts.specs.Drafts.{DraftParts}
 use Rattle.call_parts.specs.Edits.{Add, made}
 use Rattle.api_types.specs.WithRows.{with_added}
 use Rattle.call_parts.specs.State.{State, drawing_at}
@@ -35,10 +35,12 @@ module _ (settings : SettingsParts) (state : State) (caller : Caller) (form : Ro
   bare_spent e (inl memory) = inl memory
   bare_spent e (inr spent) = inr (ap bare_by spent.1 ∙ ap Refused (sym spent.0))
 
-  pub bare_moved : (d : Drawing) (r : RouterRow) (rows : RowLists) → drawing_at state owner 1 ≡ Some d → r ≡ new_router settings form owner (drawn_id d 0) → rows ≡ with_added d.rows (Router r)
-      → router_with settings state caller form owner None ≡ Moved rows (NewRow (router_shown rows caller r []))
-  bare_moved d r rows drew is leads =
-      ap bare_by drew ∙ (ap (λ q. router_added caller d.rows q q []) (sym is) ∙ ap (λ x. Moved x (NewRow (router_shown x caller r []))) (sym leads))
+  pub bare_moved : (d : Drawing) (draft : DraftParts) (r : RouterRow) → drawing_at state owner 1 ≡ Some d → draft.start ≡ state.rows → r ≡ new_router settings form owner (drawn_id d 0)
+      → draft.rows ≡ with_added d.rows (Router r) → Leads state.rows (router_with settings state caller form owner None) draft (λ after. NewRow (router_shown after caller r []))
+  bare_moved d draft r drew start is leads = record {
+    start = start;
+    moved = ap bare_by drew ∙ (ap (λ q. router_added caller d.rows q q []) (sym is) ∙ ap (λ x. Moved x (NewRow (router_shown x caller r []))) (sym leads));
+  }
 
   -- with one
   module _ (n : NetworkRow) where
@@ -64,12 +66,14 @@ module _ (settings : SettingsParts) (state : State) (caller : Caller) (form : Ro
       with_spent e (inr spent) =
           inr (undrawn n.id (outer_addresses state.rows n) (free_mac state.rows.ports n.id) (drawing_at state owner 2) rest f m is_f is_m spent.1 ∙ ap Refused (sym spent.0))
 
-      pub with_moved : (d : Drawing) (r : RouterRow) (rows : RowLists) → drawing_at state owner 2 ≡ Some d → r ≡ with_gateway (first d) n.id (drawn_id d 1) snat
-          → rows ≡ made d.rows (Add (Router (first d)) ∷ gateway_edits (first d) (port d m f) snat)
-          → router_with settings state caller form owner (Some n) ≡ Moved rows (NewRow (router_shown rows caller r []))
-      with_moved d r rows drew is leads =
-          all_there n.id (outer_addresses state.rows n) (free_mac state.rows.ports n.id) (drawing_at state owner 2) rest f m is_f is_m d drew
-          ∙ (λ j. Moved (sym leads j) (NewRow (router_shown (sym leads j) caller (sym is j) [])))
+      pub with_moved : (d : Drawing) (draft : DraftParts) (r : RouterRow) → drawing_at state owner 2 ≡ Some d → draft.start ≡ state.rows → r ≡ with_gateway (first d) n.id (drawn_id d 1) snat
+          → draft.rows ≡ made d.rows (Add (Router (first d)) ∷ gateway_edits (first d) (port d m f) snat)
+          → Leads state.rows (router_with settings state caller form owner (Some n)) draft (λ after. NewRow (router_shown after caller r []))
+      with_moved d draft r drew start is leads = record {
+        start = start;
+        moved = all_there n.id (outer_addresses state.rows n) (free_mac state.rows.ports n.id) (drawing_at state owner 2) rest f m is_f is_m d drew
+            ∙ (λ j. Moved (sym leads j) (NewRow (router_shown (sym leads j) caller (sym is j) [])));
+      }
 
   -- once nothing forbids it
   abbrev made_by : Option Refusal → Option NetworkRow → Outcome

@@ -7,7 +7,6 @@ use Rattle.api_types.specs.Outcome.{Moved, Outcome, Refused}
 use Rattle.api_types.specs.Printed.{InterfaceRow, ShownRow}
 use Rattle.api_types.specs.Refusing.{needing, unless}
 use Rattle.api_types.specs.Registration.{Drawing, drawn_id}
-use Rattle.api_types.specs.RowLists.{RowLists}
 use Rattle.api_types.specs.declared.call.Caller.{Caller}
 use Rattle.api_types.specs.declared.kind.Row.TheVariants.{Port}
 use Rattle.api_types.specs.declared.network.NetworkRow.{NetworkRow}
@@ -16,7 +15,8 @@ use Rattle.api_types.specs.declared.refusal.Refusal.TheVariants.{CountersSpent, 
 use Rattle.api_types.specs.declared.refusal.Refusal.{Refusal}
 use Rattle.api_types.specs.declared.router.RouterRow.{RouterRow}
 use Rattle.api_types.specs.declared.subnet.SubnetRow.{SubnetRow}
-use Rattle.call_parts.specs.Answers.{IsRefusalIn, IsRefusalOf}
+use Rattle.call_parts.specs.Answers.{IsRefusalIn, IsRefusalOf, Leads}
+use Rattle.call_parts.specs.Drafts.{DraftParts}
 use Rattle.api_types.specs.WithRows.{with_added}
 use Rattle.call_parts.specs.State.{State, drawing_at}
 use Rattle.net_addr.specs.declared.address.Addr.{Addr}
@@ -43,6 +43,9 @@ module _ (settings : SettingsParts) (state : State) (caller : Caller) (r : Route
       subnet_spent e (inl memory) = inl memory
       subnet_spent e (inr spent) = inr ((λ j. added_by (passed j) (is_m j) (spent.1 j)) ∙ ap Refused (sym spent.0))
 
-      pub subnet_moved : (d : Drawing) (shown : ShownRow) (rows : RowLists) → drawing_at state r.project 1 ≡ Some d → rows ≡ with_added d.rows (Port (port d m)) → shown ≡ interface_shown r (port d m) s.id
-          → added_by_subnet settings state caller r s n x ≡ Moved rows (InterfaceRow shown)
-      subnet_moved d shown rows drew leads is = (λ j. added_by (passed j) (is_m j) (drew j)) ∙ (λ j. Moved (sym leads j) (InterfaceRow (sym is j)))
+      pub subnet_moved : (d : Drawing) (draft : DraftParts) (shown : ShownRow) → drawing_at state r.project 1 ≡ Some d → draft.start ≡ state.rows → draft.rows ≡ with_added d.rows (Port (port d m))
+          → shown ≡ interface_shown r (port d m) s.id → Leads state.rows (added_by_subnet settings state caller r s n x) draft (λ after. InterfaceRow shown)
+      subnet_moved d draft shown drew start leads is = record {
+        start = start;
+        moved = (λ j. added_by (passed j) (is_m j) (drew j)) ∙ (λ j. Moved (sym leads j) (InterfaceRow (sym is j)));
+      }

@@ -5,4 +5,17 @@ pub mod InterfaceLemmas
 pub mod RefusalLemmas
 pub mod SupplyLemmas
 pub mod UpdateLemmas
-pub mod WayLemmas
+mod GatewaysSpare
+pub mod InterfacesApart
+pub mod InterfacesKept
+pub mod InterfacesSpare
+mod LeavingLemmas
+pub mod OwnInterfaces
+pub mod OwnRouters
+pub mod RoomOfRouters
+mod RouteLemmas
+pub mod RouterCallsApart
+mod RouterChanges
+pub mod RouterLeaves
+pub mod RoutersKept
+pub mod RoutersSpare

@@ -6,7 +6,6 @@ use Rattle.api_types.specs.Outcome.{Moved, Outcome, Refused}
 use Rattle.api_types.specs.Printed.{OneRow}
 use Rattle.api_types.specs.Refusing.{unless, when}
 use Rattle.api_types.specs.Registration.{Drawing, drawn_id}
-use Rattle.api_types.specs.RowLists.{RowLists}
 use Rattle.api_types.specs.declared.call.Caller.{Caller}
 use Rattle.api_types.specs.declared.form.RouterForm.{RouterForm}
 use Rattle.api_types.specs.declared.kind.Row.TheVariants.{Router}
@@ -16,7 +15,8 @@ use Rattle.api_types.specs.declared.port.PortRow.{PortRow}
 use Rattle.api_types.specs.declared.refusal.Refusal.TheVariants.{CountersSpent, OutOfMemory}
 use Rattle.api_types.specs.declared.refusal.Refusal.{Refusal}
 use Rattle.api_types.specs.declared.router.RouterRow.{RouterRow}
-use Rattle.call_parts.specs.Answers.{IsRefusalIn, IsRefusalOf}
+use Rattle.call_parts.specs.Answers.{IsRefusalIn, IsRefusalOf, Leads}
+use Rattle.call_parts.specs.Drafts.{DraftParts}
 use Rattle.call_parts.specs.Edits.{Edit, Put, made}
 use Rattle.call_parts.specs.State.{State, drawing_at, is_last}
 use Rattle.net_settings.specs.Settings.{SettingsParts}
@@ -37,11 +37,14 @@ module _ (settings : SettingsParts) (state : State) (caller : Caller) (form : Ro
   pub kept_refused : (e : Refusal) → when (is_last state) CountersSpent ≡ Some e → router_moved settings state caller form old new None ≡ Refused e
   kept_refused e is = ap kept_by is
 
-  pub kept_moved : (r : RouterRow) (rows : RowLists) → when (is_last state) CountersSpent ≡ None → r ≡ new → rows ≡ made state.rows (Put (Router new) ∷ gone)
-      → router_moved settings state caller form old new None ≡ Moved rows (OneRow (router_shown rows caller r []))
-  kept_moved r rows passed is leads =
-      let to : rows ≡ made state.rows (Put (Router new) ∷ gone ++ []) = leads ∙ ap (λ es. made state.rows (Put (Router new) ∷ es)) (sym (append_none (lost_gateway old.gateway new.gateway))) in
-      ap kept_by passed ∙ (λ j. Moved (sym to j) (OneRow (router_shown (sym to j) caller (sym is j) [])))
+  pub kept_moved : (draft : DraftParts) (r : RouterRow) → when (is_last state) CountersSpent ≡ None → draft.start ≡ state.rows → r ≡ new → draft.rows ≡ made state.rows (Put (Router new) ∷ gone)
+      → Leads state.rows (router_moved settings state caller form old new None) draft (λ after. OneRow (router_shown after caller r []))
+  kept_moved draft r passed start is leads =
+      let to : draft.rows ≡ made state.rows (Put (Router new) ∷ gone ++ []) = leads ∙ ap (λ es. made state.rows (Put (Router new) ∷ es)) (sym (append_none (lost_gateway old.gateway new.gateway))) in
+      record {
+        start = start;
+        moved = ap kept_by passed ∙ (λ j. Moved (sym to j) (OneRow (router_shown (sym to j) caller (sym is j) [])));
+      }
 
   -- with one
   module _ (n : NetworkRow) where
@@ -65,14 +68,17 @@ module _ (settings : SettingsParts) (state : State) (caller : Caller) (form : Ro
           inr (undrawn n.id (outer_addresses state.rows n) (free_mac state.rows.ports n.id) (drawing_at state old.project 1) rest f m is_f is_m spent.1 ∙ ap Refused (sym spent.0))
 
       -- the changed router has the id and the host of the old one, and so has the port
-      pub to_moved : (d : Drawing) (r : RouterRow) (rows : RowLists) → new ≡ changed_router form old → drawing_at state old.project 1 ≡ Some d → r ≡ with_gateway new n.id (drawn_id d 0) snat
-          → rows ≡ made d.rows (Put (Router new) ∷ gone ++ gateway_edits new (port new d m f) snat)
-          → router_moved settings state caller form old new (Some n) ≡ Moved rows (OneRow (router_shown rows caller r []))
-      to_moved d r rows changed drew is leads =
+      pub to_moved : (d : Drawing) (draft : DraftParts) (r : RouterRow) → new ≡ changed_router form old → drawing_at state old.project 1 ≡ Some d → draft.start ≡ state.rows
+          → r ≡ with_gateway new n.id (drawn_id d 0) snat → draft.rows ≡ made d.rows (Put (Router new) ∷ gone ++ gateway_edits new (port new d m f) snat)
+          → Leads state.rows (router_moved settings state caller form old new (Some n)) draft (λ after. OneRow (router_shown after caller r []))
+      to_moved d draft r changed drew start is leads =
           let same : port new d m f ≡ port old d m f = ap (λ q. port q d m f) changed in
           let to = leads ∙ ap (λ p. made d.rows (Put (Router new) ∷ gone ++ gateway_edits new p snat)) same in
-          all_there n.id (outer_addresses state.rows n) (free_mac state.rows.ports n.id) (drawing_at state old.project 1) rest f m is_f is_m d drew
-          ∙ (λ j. Moved (sym to j) (OneRow (router_shown (sym to j) caller (sym is j) [])))
+          record {
+            start = start;
+            moved = all_there n.id (outer_addresses state.rows n) (free_mac state.rows.ports n.id) (drawing_at state old.project 1) rest f m is_f is_m d drew
+                ∙ (λ j. Moved (sym to j) (OneRow (router_shown (sym to j) caller (sym is j) [])));
+          }
 
   -- once nothing forbids it
   abbrev changed_by : Option Refusal → Option NetworkRow → Outcome

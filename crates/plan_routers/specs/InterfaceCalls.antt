@@ -9,7 +9,7 @@ use Rattle.api_policy.specs.Permits.{network_owner, owner_only}
 use Rattle.api_ml2.specs.Placement.{host_or_none}
 use Rattle.api_policy.specs.Marked.{is_marked}
 use Rattle.api_types.specs.RouterWays.{interfaces_of}
-use Rattle.plan_routers.specs.RouterRules.{bad_interface_port, bad_interface_subnet}
+use Rattle.api_router.specs.RouterRules.{bad_interface_port, bad_interface_subnet}
 use Rattle.api_policy.specs.Seen.{port_seen, router_seen, subnet_seen}
 use Rattle.api_ml2.specs.ServicePorts.{interface_owner, service_port}
 use Rattle.api_policy.specs.Uses.{floating_in_use, port_in_use, route_in_use}

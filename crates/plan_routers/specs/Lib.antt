@@ -1,6 +1,3 @@
 pub mod InterfaceCalls
 pub mod Plans
 pub mod RouterCalls
-pub mod RouterChecks
-pub mod RouterRules
-pub mod Ways

@@ -19,7 +19,7 @@ use Rattle.call_parts.specs.BodyNames.{unless_found}
 use Rattle.call_parts.specs.State.{State, is_last}
 use Rattle.net_settings.specs.Settings.{SettingsParts}
 use Rattle.plan_routers.specs.RouterCalls.{bad_first_gateway, gateway_name, gateway_network, lost_gateway, new_gateway, outer_addresses, outer_taken}
-use Rattle.plan_routers.specs.RouterRules.{bad_gateway, bad_routes}
+use Rattle.api_router.specs.RouterRules.{bad_gateway, bad_routes}
 use Rattle.std.specs.Prelude.{Option, [], codes, is_none, is_some, option_and_then, ◌∷◌}
 use Rattle.net_addr.specs.Words.{Text}
 use Rattle.api_policy.specs.Reserved.{router_for_admin, snat_asked}

@@ -9,7 +9,7 @@ use Rattle.api_policy.specs.Permits.{admin_only, owner_only}
 use Rattle.api_ml2.specs.Placement.{host_or_none, router_host}
 use Rattle.api_policy.specs.Quotas.{over_quota}
 use Rattle.api_types.specs.RouterWays.{interfaces_of}
-use Rattle.plan_routers.specs.RouterRules.{bad_gateway, bad_routes}
+use Rattle.api_router.specs.RouterRules.{bad_gateway, bad_routes}
 use Rattle.api_policy.specs.Seen.{network_seen, router_seen}
 use Rattle.api_ml2.specs.ServicePorts.{gateway_owner, service_port}
 use Rattle.api_policy.specs.Uses.{gateway_use, router_in_use}

@@ -2,39 +2,35 @@
 
 ghost use Rattle.std.specs.Prelude.{◌≡◌, ◌+◌, ◌≤◌, ◌^◌, IfErr, IfOk, None, not, true};
 ghost use Rattle.api_policy.specs.Checks.{IsAnswerOf};
-ghost use Rattle.api_types.specs.Consistent.{IsConsistent};
 ghost use Rattle.api_types.specs.HeldAddresses.{fixed_at, is_address_held};
 ghost use Rattle.api_types.specs.Lists.{is_empty};
-ghost use Rattle.api_types.specs.Outcome.{Moved};
 ghost use Rattle.api_types.specs.Printed.{InterfaceRow, shown_row};
 ghost use Rattle.api_types.specs.Refusing.{when};
 ghost use Rattle.api_types.specs.Registration.{ident};
 ghost use Rattle.api_types.specs.Table.{row_of};
+ghost use Rattle.api_types.specs.WithRows.{with_added, with_put};
 ghost use Rattle.api_types.specs.declared.call.InterfaceBy.TheVariants.{Port as ByPort, Subnet as BySubnet};
 ghost use Rattle.api_types.specs.declared.kind.Row.TheVariants.{Port as PortOf};
 ghost use Rattle.api_types.specs.declared.port.PortRow.{PortRow as ThePort};
 ghost use Rattle.api_types.specs.declared.refusal.Refusal.TheVariants.{Taken as TakenBy};
 ghost use Rattle.api_types.specs.declared.refusal.Value.TheVariants.{Address as AddressValue};
-ghost use Rattle.call_parts.specs.Answers.{IsRefusalOf, Passes};
-ghost use Rattle.api_types.specs.WithRows.{with_added, with_put};
-ghost use Rattle.call_parts.specs.State.{State};
-ghost use Rattle.plan_routers.specs.InterfaceCalls.{added_by_port, added_by_subnet, first_subnet as first_subnet_of, interface_added, interface_by, interface_port as interface_port_of, interface_shown as interface_shown_of, port_refusal, subnet_refusal, taken_over as taken_over_of};
+ghost use Rattle.call_parts.specs.Answers.{IsRefusalOf, Leads, Passes};
+ghost use Rattle.plan_routers.specs.InterfaceCalls as calls;
+ghost use Rattle.plan_routers.specs.InterfaceCalls.{added_by_port, added_by_subnet, interface_added, interface_by, port_refusal, subnet_refusal};
 
 use crate::drawing::draw_new;
-use crate::rules::{check_interface_port, check_interface_subnet};
-use crate::service::{interface_port, taken_over};
+use crate::finding::{find_port, find_router, find_subnet};
+use crate::rules::{ensure_port_fits, ensure_subnet_fits};
+use crate::service::{Leg, interface_port, taken_port};
 use crate::shown::{PlannedInterface, interface_shown};
 use api_ipam::choose_mac;
-use api_policy::{
-    network_owner, owner_only, port_in_use, port_seen, router_seen, subnet_seen, unless_last,
-};
+use api_policy::{ensure_version_left, network_owner, owner_only, port_in_use};
 use api_types::{
     Caller, Fixed, Id, IdText, InterfaceBy, Kind, NetworkRow, PortRow, Refusal, RouterRow, Rows,
     Shared, Shown, SubnetRow, Value,
 };
-use call_parts::{Draft, Drawn, invalid, none_with_id, not_found};
+use call_parts::{Asking, Draft, Drawn, invalid, none_with_id};
 use net_addr::{Addr, Mac, OutOfMemory};
-use net_settings::Settings;
 use std::alloc::Global;
 
 fn is_held(ports: &[Shared<PortRow>], network: Id, address: &Addr) -> bool
@@ -45,7 +41,7 @@ fn is_held(ports: &[Shared<PortRow>], network: Id, address: &Addr) -> bool
         .any(|port| network == port.network && port.holds(address))
 }
 
-fn unless_held(rows: &Rows, network: Id, address: &Addr) -> Result<(), Refusal>
+fn ensure_address_free(rows: &Rows, network: Id, address: &Addr) -> Result<(), Refusal>
     ensures { IsAnswerOf
         (when (is_address_held rows.now.ports network address.now)
         (TakenBy (AddressValue address.now) network)) result }
@@ -58,7 +54,7 @@ fn unless_held(rows: &Rows, network: Id, address: &Addr) -> Result<(), Refusal>
 }
 
 // Refuses an interface on the subnet, with its gateway's address.
-fn check_subnet(
+fn ensure_addable_by_subnet(
     alloc: Global,
     rows: &Rows,
     caller: &Caller,
@@ -68,18 +64,17 @@ fn check_subnet(
 ) -> Result<(), Refusal>
     ensures { Passes (subnet_refusal rows.now caller.now router.now subnet.now gateway.now) result }
 {
-    check_interface_subnet(alloc, rows, router, subnet)?;
+    ensure_subnet_fits(alloc, rows, router, subnet)?;
     owner_only(caller, &router.project)?;
     network_owner(rows, caller, true, subnet.network)?;
-    unless_held(rows, subnet.network, gateway)
+    ensure_address_free(rows, subnet.network, gateway)
 }
 
 // The draft with the new interface, which has the id that was drawn, and what is shown of it.
 fn add_port(
     alloc: Global,
-    settings: &Settings,
+    asking: &Asking<'_>,
     drawn: Drawn,
-    caller: &Caller,
     router: &RouterRow,
     network: &NetworkRow,
     mac: Mac,
@@ -93,27 +88,18 @@ fn add_port(
         (λ p. p.draft.rows
         ≡ with_added drawn.draft.rows
         (PortOf
-        (interface_port_of settings.now drawn.draft.rows caller.now router.now network.now
-        (ident drawn.ordinal (drawn.first + 0)) mac fixed))) }
+        (calls.interface_port asking.now.settings drawn.draft.rows asking.now.caller router.now
+        network.now (ident drawn.ordinal (drawn.first + 0)) mac fixed))) }
     ensures shown { IfOk result
         (λ p. shown_row p.shown
-        ≡ interface_shown_of router.now
-        (interface_port_of settings.now drawn.draft.rows caller.now router.now network.now
-        (ident drawn.ordinal (drawn.first + 0)) mac fixed) fixed.subnet) }
+        ≡ calls.interface_shown router.now
+        (calls.interface_port asking.now.settings drawn.draft.rows asking.now.caller router.now
+        network.now (ident drawn.ordinal (drawn.first + 0)) mac fixed) fixed.subnet) }
 {
     let subnet = fixed.subnet;
     let id = drawn.id(0);
-    let port = interface_port(
-        alloc,
-        settings,
-        drawn.draft.rows(),
-        caller,
-        router,
-        network,
-        id,
-        mac,
-        fixed,
-    )?;
+    let leg = Leg { id, mac, fixed };
+    let port = interface_port(alloc, asking, drawn.draft.rows(), router, network, &leg)?;
     let shown = interface_shown(alloc, router, &port, subnet)?;
     Ok(PlannedInterface {
         draft: drawn.draft.add(alloc, port)?,
@@ -124,98 +110,83 @@ fn add_port(
 // Where adding an interface leads on a subnet with this gateway.
 fn add_on_network(
     alloc: Global,
-    settings: &Settings,
-    rows: &Rows,
-    version: u64,
-    caller: &Caller,
+    asking: &Asking<'_>,
     router: &RouterRow,
     subnet: &SubnetRow,
     network: &NetworkRow,
     gateway: &Addr,
 ) -> Result<PlannedInterface, Refusal>
-    requires consistent { IsConsistent rows.now }
-    requires named { not (is_empty router.now.project) ≡ true }
-    ensures start { IfOk result (λ p. p.draft.start ≡ rows.now) }
-    ensures ok { let state : State = record { rows = rows.now; version = version } in
-        IfOk result
-        (λ p. added_by_subnet settings.now state caller.now router.now subnet.now network.now
-        gateway.now
-        ≡ Moved p.draft.rows (InterfaceRow (shown_row p.shown))) }
-    ensures err { let state : State = record { rows = rows.now; version = version } in
-        IfErr result
+    requires { not (is_empty router.now.project) ≡ true }
+    ensures ok { IfOk result
+        (λ p. Leads asking.now.state.rows
+        (added_by_subnet asking.now.settings asking.now.state asking.now.caller router.now
+        subnet.now network.now gateway.now) p.draft
+        (λ after. InterfaceRow (shown_row p.shown))) }
+    ensures err { IfErr result
         (IsRefusalOf
-        (added_by_subnet settings.now state caller.now router.now subnet.now network.now
-        gateway.now)) }
+        (added_by_subnet asking.now.settings asking.now.state asking.now.caller router.now
+        subnet.now network.now gateway.now)) }
 {
-    check_subnet(alloc, rows, caller, router, subnet, gateway)?;
+    let rows = asking.rows();
+    ensure_addable_by_subnet(alloc, rows, asking.caller(), router, subnet, gateway)?;
     let Some(mac) = choose_mac(rows.ports().rows(), network.id) else {
         return Err(Refusal::CountersSpent);
     };
-    let drawn = draw_new(alloc, rows, version, &router.project, 1)?;
+    let drawn = draw_new(alloc, asking, &router.project, 1)?;
     let fixed = Fixed {
         subnet: subnet.id,
         address: *gateway,
     };
-    Ok(add_port(alloc, settings, drawn, caller, router, network, mac, fixed)?)
+    Ok(add_port(alloc, asking, drawn, router, network, mac, fixed)?)
 }
 
 // Where adding an interface leads on a subnet that a body names.
 fn add_by_subnet(
     alloc: Global,
-    settings: &Settings,
-    rows: &Rows,
-    version: u64,
-    caller: &Caller,
+    asking: &Asking<'_>,
     router: &RouterRow,
     id: Id,
 ) -> Result<PlannedInterface, Refusal>
-    requires consistent { IsConsistent rows.now }
-    requires named { not (is_empty router.now.project) ≡ true }
-    ensures start { IfOk result (λ p. p.draft.start ≡ rows.now) }
-    ensures ok { let state : State = record { rows = rows.now; version = version } in
-        IfOk result
-        (λ p. interface_by settings.now state caller.now router.now (BySubnet id)
-        ≡ Moved p.draft.rows (InterfaceRow (shown_row p.shown))) }
-    ensures err { let state : State = record { rows = rows.now; version = version } in
-        IfErr result
-        (IsRefusalOf (interface_by settings.now state caller.now router.now (BySubnet id))) }
+    requires { not (is_empty router.now.project) ≡ true }
+    ensures ok { IfOk result
+        (λ p. Leads asking.now.state.rows
+        (interface_by asking.now.settings asking.now.state asking.now.caller router.now
+        (BySubnet id)) p.draft (λ after. InterfaceRow (shown_row p.shown))) }
+    ensures err { IfErr result
+        (IsRefusalOf
+        (interface_by asking.now.settings asking.now.state asking.now.caller router.now
+        (BySubnet id))) }
 {
-    let Some(subnet) = subnet_seen(rows, caller, Some(id)) else {
-        return Err(none_with_id(alloc, Kind::Subnet, Some(id)));
-    };
+    let subnet = find_subnet(alloc, asking, id)?;
     let Some(gateway) = &subnet.gateway else {
         return Err(invalid(alloc, "subnet_id"));
     };
-    let Some(network) = rows.networks().get(subnet.network) else {
+    let Some(network) = asking.rows().networks().get(subnet.network) else {
         return Err(none_with_id(alloc, Kind::Subnet, Some(id)));
     };
-    add_on_network(
-        alloc, settings, rows, version, caller, router, subnet, network, gateway,
-    )
+    add_on_network(alloc, asking, router, subnet, network, gateway)
 }
 
 // Refuses the port as an interface of the router.
-fn check_port(
+fn ensure_addable_by_port(
     alloc: Global,
-    rows: &Rows,
-    version: u64,
-    caller: &Caller,
+    asking: &Asking<'_>,
     router: &RouterRow,
     port: &PortRow,
 ) -> Result<(), Refusal>
-    ensures { let state : State = record { rows = rows.now; version = version } in
-        Passes (port_refusal state caller.now router.now port.now) result }
+    ensures { Passes (port_refusal asking.now.state asking.now.caller router.now port.now) result }
 {
-    check_interface_port(alloc, rows, router, port)?;
+    let (rows, caller) = (asking.rows(), asking.caller());
+    ensure_port_fits(alloc, rows, router, port)?;
     owner_only(caller, &router.project)?;
     owner_only(caller, &port.project)?;
     port_in_use(rows, caller, router, port)?;
-    unless_last(version)
+    ensure_version_left(asking.version())
 }
 
 // The subnet of the first address; an id that no row has, where there is none.
 fn first_subnet(fixed: &[Fixed]) -> Id
-    ensures { result ≡ first_subnet_of fixed.now }
+    ensures { result ≡ calls.first_subnet fixed.now }
 {
     match fixed {
         [first, ..] => first.subnet,
@@ -231,7 +202,7 @@ pub(crate) fn port_shown(
 ) -> Result<Shown, OutOfMemory>
     ensures { IfOk result
         (λ s. shown_row s
-        ≡ interface_shown_of router.now port.now (first_subnet_of port.now.fixed)) }
+        ≡ calls.interface_shown router.now port.now (calls.first_subnet port.now.fixed)) }
 {
     interface_shown(alloc, router, port, first_subnet(port.fixed.as_slice()))
 }
@@ -239,24 +210,23 @@ pub(crate) fn port_shown(
 // The rows in which the port is the router's, and what is shown of it.
 fn take_over(
     alloc: Global,
-    settings: &Settings,
-    rows: &Rows,
+    asking: &Asking<'_>,
     router: &RouterRow,
     network: &NetworkRow,
     port: &PortRow,
 ) -> Result<PlannedInterface, OutOfMemory>
-    ensures start { IfOk result (λ p. p.draft.start ≡ rows.now) }
+    ensures start { IfOk result (λ p. p.draft.start ≡ asking.now.state.rows) }
     ensures rows { IfOk result
         (λ p. p.draft.rows
-        ≡ with_put rows.now
-        (PortOf (taken_over_of settings.now router.now network.now port.now))) }
+        ≡ with_put asking.now.state.rows
+        (PortOf (calls.taken_over asking.now.settings router.now network.now port.now))) }
     ensures shown { IfOk result
         (λ p. shown_row p.shown
-        ≡ interface_shown_of router.now port.now (first_subnet_of port.now.fixed)) }
+        ≡ calls.interface_shown router.now port.now (calls.first_subnet port.now.fixed)) }
 {
-    let taken = taken_over(alloc, settings, router, network, port)?;
+    let taken = taken_port(alloc, asking, router, network, port)?;
     Ok(PlannedInterface {
-        draft: Draft::begin(alloc, rows)?.put(alloc, taken)?,
+        draft: Draft::begin(alloc, asking.rows())?.put(alloc, taken)?,
         shown: port_shown(alloc, router, port)?,
     })
 }
@@ -264,84 +234,66 @@ fn take_over(
 // Where adding an interface leads by a port that is found.
 fn add_port_found(
     alloc: Global,
-    settings: &Settings,
-    rows: &Rows,
-    version: u64,
-    caller: &Caller,
+    asking: &Asking<'_>,
     router: &RouterRow,
     port: &PortRow,
     network: &NetworkRow,
 ) -> Result<PlannedInterface, Refusal>
-    ensures start { IfOk result (λ p. p.draft.start ≡ rows.now) }
-    ensures ok { let state : State = record { rows = rows.now; version = version } in
-        IfOk result
-        (λ p. added_by_port settings.now state caller.now router.now port.now network.now
-        ≡ Moved p.draft.rows (InterfaceRow (shown_row p.shown))) }
-    ensures err { let state : State = record { rows = rows.now; version = version } in
-        IfErr result
+    ensures ok { IfOk result
+        (λ p. Leads asking.now.state.rows
+        (added_by_port asking.now.settings asking.now.state asking.now.caller router.now port.now
+        network.now) p.draft (λ after. InterfaceRow (shown_row p.shown))) }
+    ensures err { IfErr result
         (IsRefusalOf
-        (added_by_port settings.now state caller.now router.now port.now network.now)) }
+        (added_by_port asking.now.settings asking.now.state asking.now.caller router.now port.now
+        network.now)) }
 {
-    check_port(alloc, rows, version, caller, router, port)?;
-    Ok(take_over(alloc, settings, rows, router, network, port)?)
+    ensure_addable_by_port(alloc, asking, router, port)?;
+    Ok(take_over(alloc, asking, router, network, port)?)
 }
 
 // Where adding an interface leads by a port that a body names.
 fn add_by_port(
     alloc: Global,
-    settings: &Settings,
-    rows: &Rows,
-    version: u64,
-    caller: &Caller,
+    asking: &Asking<'_>,
     router: &RouterRow,
     id: Id,
 ) -> Result<PlannedInterface, Refusal>
-    ensures start { IfOk result (λ p. p.draft.start ≡ rows.now) }
-    ensures ok { let state : State = record { rows = rows.now; version = version } in
-        IfOk result
-        (λ p. interface_by settings.now state caller.now router.now (ByPort id)
-        ≡ Moved p.draft.rows (InterfaceRow (shown_row p.shown))) }
-    ensures err { let state : State = record { rows = rows.now; version = version } in
-        IfErr result
-        (IsRefusalOf (interface_by settings.now state caller.now router.now (ByPort id))) }
+    ensures ok { IfOk result
+        (λ p. Leads asking.now.state.rows
+        (interface_by asking.now.settings asking.now.state asking.now.caller router.now (ByPort id))
+        p.draft (λ after. InterfaceRow (shown_row p.shown))) }
+    ensures err { IfErr result
+        (IsRefusalOf
+        (interface_by asking.now.settings asking.now.state asking.now.caller router.now
+        (ByPort id))) }
 {
-    let Some(port) = port_seen(rows, caller, Some(id)) else {
+    let port = find_port(alloc, asking, id)?;
+    let Some(network) = asking.rows().networks().get(port.network) else {
         return Err(none_with_id(alloc, Kind::Port, Some(id)));
     };
-    let Some(network) = rows.networks().get(port.network) else {
-        return Err(none_with_id(alloc, Kind::Port, Some(id)));
-    };
-    add_port_found(
-        alloc, settings, rows, version, caller, router, port, network,
-    )
+    add_port_found(alloc, asking, router, port, network)
 }
 
 // Where adding an interface leads to a router that is found.
 fn add_to_router(
     alloc: Global,
-    settings: &Settings,
-    rows: &Rows,
-    version: u64,
-    caller: &Caller,
+    asking: &Asking<'_>,
     router: &RouterRow,
     by: &InterfaceBy,
 ) -> Result<PlannedInterface, Refusal>
-    requires consistent { IsConsistent rows.now }
-    requires named { not (is_empty router.now.project) ≡ true }
-    ensures start { IfOk result (λ p. p.draft.start ≡ rows.now) }
-    ensures ok { let state : State = record { rows = rows.now; version = version } in
-        IfOk result
-        (λ p. interface_by settings.now state caller.now router.now by.now
-        ≡ Moved p.draft.rows (InterfaceRow (shown_row p.shown))) }
-    ensures err { let state : State = record { rows = rows.now; version = version } in
-        IfErr result
-        (IsRefusalOf (interface_by settings.now state caller.now router.now by.now)) }
+    requires { not (is_empty router.now.project) ≡ true }
+    ensures ok { IfOk result
+        (λ p. Leads asking.now.state.rows
+        (interface_by asking.now.settings asking.now.state asking.now.caller router.now by.now)
+        p.draft (λ after. InterfaceRow (shown_row p.shown))) }
+    ensures err { IfErr result
+        (IsRefusalOf
+        (interface_by asking.now.settings asking.now.state asking.now.caller router.now by.now)) }
 {
     match by {
-        InterfaceBy::Subnet(id) => {
-            add_by_subnet(alloc, settings, rows, version, caller, router, *id)
-        }
-        InterfaceBy::Port(id) => add_by_port(alloc, settings, rows, version, caller, router, *id),
+        InterfaceBy::Subnet(id) => add_by_subnet(alloc, asking, router, *id),
+        InterfaceBy::Port(id) => add_by_port(alloc, asking, router, *id),
     }
 }
 
@@ -351,25 +303,19 @@ fn add_to_router(
 /// subnets for each port of the router.
 pub fn add_interface(
     alloc: Global,
-    settings: &Settings,
-    rows: &Rows,
-    version: u64,
-    caller: &Caller,
+    asking: &Asking<'_>,
     name: &IdText,
     by: &InterfaceBy,
 ) -> Result<PlannedInterface, Refusal>
-    requires consistent { IsConsistent rows.now }
-    ensures start { IfOk result (λ p. p.draft.start ≡ rows.now) }
-    ensures ok { let state : State = record { rows = rows.now; version = version } in
-        IfOk result
-        (λ p. interface_added settings.now state caller.now name.now by.now
-        ≡ Moved p.draft.rows (InterfaceRow (shown_row p.shown))) }
-    ensures err { let state : State = record { rows = rows.now; version = version } in
-        IfErr result
-        (IsRefusalOf (interface_added settings.now state caller.now name.now by.now)) }
+    ensures ok { IfOk result
+        (λ p. Leads asking.now.state.rows
+        (interface_added asking.now.settings asking.now.state asking.now.caller name.now by.now)
+        p.draft (λ after. InterfaceRow (shown_row p.shown))) }
+    ensures err { IfErr result
+        (IsRefusalOf
+        (interface_added asking.now.settings asking.now.state asking.now.caller name.now
+        by.now)) }
 {
-    let Some(router) = router_seen(rows, caller, name.id) else {
-        return Err(not_found(alloc, Kind::Router, &name.text));
-    };
-    add_to_router(alloc, settings, rows, version, caller, router, by)
+    let router = find_router(alloc, asking, name)?;
+    add_to_router(alloc, asking, router, by)
 }

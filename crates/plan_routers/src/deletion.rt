@@ -2,17 +2,16 @@
 
 ghost use Rattle.std.specs.Prelude.{◌≡◌, ◌∷◌, ◌++◌, [], IfErr, IfOk};
 ghost use Rattle.api_policy.specs.Checks.{IsAnswerOf};
-ghost use Rattle.api_types.specs.Outcome.{Moved};
 ghost use Rattle.api_types.specs.Printed.{NoRow};
 ghost use Rattle.api_types.specs.declared.kind.Kind.TheVariants.{Router as RouterKind};
-ghost use Rattle.call_parts.specs.Answers.{IsRefusalOf};
+ghost use Rattle.call_parts.specs.Answers.{IsRefusalOf, Leads};
 ghost use Rattle.call_parts.specs.Edits.{Drop as DropRow, made};
-ghost use Rattle.call_parts.specs.State.{State};
 ghost use Rattle.plan_routers.specs.RouterCalls.{deletion_refusal, gateway_gone, router_deleted};
 
-use api_policy::{owner_only, router_in_use, router_seen, unless_last};
-use api_types::{Caller, Gateway, IdText, Kind, PortRow, Refusal, RouterRow, Rows};
-use call_parts::{Draft, not_found};
+use crate::finding::find_router;
+use api_policy::{ensure_version_left, owner_only, router_in_use};
+use api_types::{Gateway, IdText, PortRow, Refusal, RouterRow, Rows};
+use call_parts::{Asking, Draft};
 use net_addr::OutOfMemory;
 use std::alloc::Global;
 
@@ -43,38 +42,24 @@ fn without_router(alloc: Global, rows: &Rows, router: &RouterRow) -> Result<Draf
     draft.drop_row::<RouterRow>(alloc, router.id)
 }
 
-fn check_deletion(
-    rows: &Rows,
-    version: u64,
-    caller: &Caller,
-    router: &RouterRow,
-) -> Result<(), Refusal>
-    ensures { let state : State = record { rows = rows.now; version = version } in
-        IsAnswerOf (deletion_refusal state caller.now router.now) result }
+fn ensure_deletable(asking: &Asking<'_>, router: &RouterRow) -> Result<(), Refusal>
+    ensures { IsAnswerOf (deletion_refusal asking.now.state asking.now.caller router.now) result }
 {
-    owner_only(caller, &router.project)?;
-    router_in_use(rows, caller, router)?;
-    unless_last(version)
+    owner_only(asking.caller(), &router.project)?;
+    router_in_use(asking.rows(), asking.caller(), router)?;
+    ensure_version_left(asking.version())
 }
 
 /// The plan of a router's deletion, or why it is refused. Its cost grows with the routers and the
 /// ports.
-pub fn delete_router(
-    alloc: Global,
-    rows: &Rows,
-    version: u64,
-    caller: &Caller,
-    name: &IdText,
-) -> Result<Draft, Refusal>
-    ensures start { IfOk result (λ d. d.start ≡ rows.now) }
-    ensures ok { let state : State = record { rows = rows.now; version = version } in
-        IfOk result (λ d. router_deleted state caller.now name.now ≡ Moved d.rows NoRow) }
-    ensures err { let state : State = record { rows = rows.now; version = version } in
-        IfErr result (IsRefusalOf (router_deleted state caller.now name.now)) }
+pub fn delete_router(alloc: Global, asking: &Asking<'_>, name: &IdText) -> Result<Draft, Refusal>
+    ensures ok { IfOk result
+        (λ d. Leads asking.now.state.rows
+        (router_deleted asking.now.state asking.now.caller name.now) d (λ after. NoRow)) }
+    ensures err { IfErr result
+        (IsRefusalOf (router_deleted asking.now.state asking.now.caller name.now)) }
 {
-    let Some(router) = router_seen(rows, caller, name.id) else {
-        return Err(not_found(alloc, Kind::Router, &name.text));
-    };
-    check_deletion(rows, version, caller, router)?;
-    Ok(without_router(alloc, rows, router)?)
+    let router = find_router(alloc, asking, name)?;
+    ensure_deletable(asking, router)?;
+    Ok(without_router(alloc, asking.rows(), router)?)
 }

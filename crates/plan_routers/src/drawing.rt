@@ -1,41 +1,36 @@
 //! Ids for routers and their ports, which no row has.
 
 ghost use Rattle.std.specs.Prelude.{◌≡◌, ◌⊎◌, ◌+◌, ◌^◌, ◌<◌, ◌≤◌, ℕ, None, Some, IfErr, IfOk, not, true};
-ghost use Rattle.api_types.specs.Consistent.{IsConsistent};
 ghost use Rattle.api_types.specs.Lists.{is_empty};
 ghost use Rattle.api_types.specs.Registration.{ident};
-ghost use Rattle.api_types.specs.declared.refusal.Refusal.TheVariants.{CountersSpent as SpentCounters, OutOfMemory as MemoryRefusal};
-ghost use Rattle.call_parts.specs.State.{State, drawing_at};
+ghost use Rattle.call_parts.specs.Answers.{drawing_of};
+ghost use Rattle.call_parts.specs.State.{drawing_at};
 ghost use Rattle.row_laws.specs.Drawn.{IsAbsent};
 
-use api_types::{Refusal, Rows};
-use call_parts::{Drawn, draw};
+use api_types::Refusal;
+use call_parts::{Asking, Drawn};
 use net_addr::Text;
 use std::alloc::Global;
 
 /// Ids for a router and its port, or for a port. No row has them. Its cost grows with the projects.
 pub(crate) fn draw_new(
     alloc: Global,
-    rows: &Rows,
-    version: u64,
+    asking: &Asking<'_>,
     owner: &Text,
     many: u64,
 ) -> Result<Drawn, Refusal>
-    requires consistent { IsConsistent rows.now }
     requires named { not (is_empty owner.now) ≡ true }
     requires few { many ≤ 3 }
-    ensures start { IfOk result (λ d. d.draft.start ≡ rows.now) }
-    ensures drawn { let state : State = record { rows = rows.now; version = version } in
-        IfOk result
-        (λ d. drawing_at state owner.now many
-        ≡ Some (record { rows = d.draft.rows; ordinal = d.ordinal; first = d.first })) }
+    ensures start { IfOk result (λ d. d.draft.start ≡ asking.now.state.rows) }
+    ensures drawn { IfOk result
+        (λ d. drawing_at asking.now.state owner.now many ≡ Some (drawing_of d)) }
     ensures within { IfOk result (λ d. d.first + many ≤ 2 ^ 62) }
     ensures new { IfOk result
         (λ d. (k : ℕ) → k < many → IsAbsent d.draft.rows (ident d.ordinal (d.first + k))) }
-    ensures spent { let state : State = record { rows = rows.now; version = version } in
-        IfErr result
-        (λ e. (e ≡ MemoryRefusal)
-        ⊎ ((e ≡ SpentCounters) × (drawing_at state owner.now many ≡ None))) }
+    ensures spent { IfErr result
+        (λ e. (e ≡ Refusal.OutOfMemory)
+        ⊎ ((e ≡ Refusal.CountersSpent)
+        × (drawing_at asking.now.state owner.now many ≡ None))) }
 {
-    draw(alloc, rows, version, owner, many)
+    asking.draw(alloc, owner, many)
 }

@@ -1,17 +1,17 @@
 //! The gateway that a body asks for, and the one that a router has.
 
 ghost use Rattle.std.specs.Prelude.{◌≡◌, option_copied};
-ghost use Rattle.plan_routers.specs.RouterCalls.{gateway_name as gateway_name_of, gateway_network as gateway_network_of, gateway_on as gateway_on_of, kept_gateway as kept_gateway_of, lost_gateway as lost_gateway_of, new_gateway as new_gateway_of, old_snat as old_snat_of};
+ghost use Rattle.plan_routers.specs.RouterCalls as router_calls;
 ghost use Rattle.std.specs.Prelude.{option_and_then};
 ghost use Rattle.api_types.specs.declared.router.Gateway.{Gateway as TheGateway};
-ghost use Rattle.api_policy.specs.Reserved.{snat_asked as snat_asked_of};
+ghost use Rattle.api_policy.specs.Reserved as reserved;
 
 use api_policy::network_seen;
 use api_types::{Caller, Gateway, GatewayAsked, Given, Id, NetworkRow, RouterForm, Rows};
 
 /// The network of the gateway that is asked for.
 pub(crate) fn gateway_name(form: &RouterForm) -> Option<Id>
-    ensures { result ≡ gateway_name_of form.now }
+    ensures { result ≡ router_calls.gateway_name form.now }
 {
     match &form.external_gateway_info {
         Given::Is(asked) => Some(asked.network),
@@ -25,14 +25,14 @@ pub(crate) fn gateway_network<'r>(
     caller: &Caller,
     form: &RouterForm,
 ) -> Option<&'r NetworkRow>
-    ensures { option_copied result ≡ gateway_network_of rows.now caller.now form.now }
+    ensures { option_copied result ≡ router_calls.gateway_network rows.now caller.now form.now }
 {
     network_seen(rows, caller, gateway_name(form))
 }
 
 /// Whether sources are to be translated, where the body says so.
 pub(crate) fn snat_asked(form: &RouterForm) -> Option<bool>
-    ensures { result ≡ snat_asked_of form.now }
+    ensures { result ≡ reserved.snat_asked form.now }
 {
     match &form.external_gateway_info {
         Given::Is(asked) => asked.snat,
@@ -41,7 +41,7 @@ pub(crate) fn snat_asked(form: &RouterForm) -> Option<bool>
 }
 
 fn gateway_on(gateway: &Gateway, asked: &GatewayAsked) -> Option<Gateway>
-    ensures { result ≡ gateway_on_of gateway.now asked.now }
+    ensures { result ≡ router_calls.gateway_on gateway.now asked.now }
 {
     if gateway.network != asked.network {
         return None;
@@ -55,7 +55,7 @@ fn gateway_on(gateway: &Gateway, asked: &GatewayAsked) -> Option<Gateway>
 
 fn gateway_if_on(old: &Option<Gateway>, asked: &GatewayAsked) -> Option<Gateway>
     ensures { result
-        ≡ option_and_then (λ (g : TheGateway). gateway_on_of g asked.now) old.now }
+        ≡ option_and_then (λ (g : TheGateway). router_calls.gateway_on g asked.now) old.now }
 {
     match old {
         Some(gateway) => gateway_on(gateway, asked),
@@ -65,7 +65,7 @@ fn gateway_if_on(old: &Option<Gateway>, asked: &GatewayAsked) -> Option<Gateway>
 
 /// The gateway that stays: the old one, where none is asked for or one on the same network.
 pub(crate) fn kept_gateway(old: &Option<Gateway>, asked: &Given<GatewayAsked>) -> Option<Gateway>
-    ensures { result ≡ kept_gateway_of old.now asked.now }
+    ensures { result ≡ router_calls.kept_gateway old.now asked.now }
 {
     match asked {
         Given::Absent => *old,
@@ -76,7 +76,7 @@ pub(crate) fn kept_gateway(old: &Option<Gateway>, asked: &Given<GatewayAsked>) -
 
 /// The gateway that goes, where none stays.
 pub(crate) fn lost_gateway(old: &Option<Gateway>, kept: &Option<Gateway>) -> Option<Gateway>
-    ensures { result ≡ lost_gateway_of old.now kept.now }
+    ensures { result ≡ router_calls.lost_gateway old.now kept.now }
 {
     match kept {
         None => *old,
@@ -93,7 +93,8 @@ pub(crate) fn new_gateway<'r>(
     kept: &Option<Gateway>,
 ) -> Option<&'r NetworkRow>
     ensures { option_copied result
-        ≡ new_gateway_of (gateway_network_of rows.now caller.now form.now) kept.now }
+        ≡ router_calls.new_gateway
+        (router_calls.gateway_network rows.now caller.now form.now) kept.now }
 {
     match kept {
         None => gateway_network(rows, caller, form),
@@ -103,7 +104,7 @@ pub(crate) fn new_gateway<'r>(
 
 /// Whether the sources of the old gateway are translated; those of a router without one are to be.
 pub(crate) fn old_snat(old: &Option<Gateway>) -> bool
-    ensures { result ≡ old_snat_of old.now }
+    ensures { result ≡ router_calls.old_snat old.now }
 {
     match old {
         Some(gateway) => gateway.snat,

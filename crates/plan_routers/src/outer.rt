@@ -2,15 +2,18 @@
 
 ghost use Rattle.std.specs.Prelude.{◌≡◌, IfErr, IfOk, Some};
 ghost use Rattle.api_ipam.specs.Euis.{fits_eui};
-ghost use Rattle.api_ipam.specs.FixedChoice.{addresses_of as addresses_of_of, gateway_euis as gateway_euis_of, is_in};
+ghost use Rattle.api_ipam.specs.FixedChoice.{is_in};
+ghost use Rattle.api_ipam.specs.FixedChoice as fixed_choice;
 ghost use Rattle.api_ipam.specs.MacChoice.{free_mac};
 ghost use Rattle.api_policy.specs.Checks.{IsAnswerOf};
 ghost use Rattle.api_types.specs.Consistent.{IsConsistent};
-ghost use Rattle.api_types.specs.HeldAddresses.{address_taken, subnets_on as subnets_on_of};
+ghost use Rattle.api_types.specs.HeldAddresses.{address_taken};
+ghost use Rattle.api_types.specs.HeldAddresses as held_addresses;
 ghost use Rattle.api_types.specs.Lists.{Pass};
 ghost use Rattle.call_parts.specs.Answers.{IsRefusalIn, Passes};
 ghost use Rattle.plan_routers.specs.Plans.{outer_refusal};
-ghost use Rattle.plan_routers.specs.RouterCalls.{outer_addresses as outer_addresses_of, outer_mac as outer_mac_of, outer_taken};
+ghost use Rattle.plan_routers.specs.RouterCalls.{outer_taken};
+ghost use Rattle.plan_routers.specs.RouterCalls as router_calls;
 
 use api_ipam::{
     HeldAddresses, addresses_of, choose_mac, first_held, gateway_addresses, gateway_euis,
@@ -34,7 +37,8 @@ fn outer_subnets(
     network: Id,
 ) -> Result<Seq<Shared<SubnetRow>>, OutOfMemory>
     requires { IsConsistent rows.now }
-    ensures found { IfOk result (λ found. found ≡ subnets_on_of rows.now.subnets network) }
+    ensures found { IfOk result (λ found. found
+        ≡ held_addresses.subnets_on rows.now.subnets network) }
     ensures fit { IfOk result (λ found. Pass fits_eui found) }
 {
     subnets_on(alloc, rows.subnets().rows(), network)
@@ -42,7 +46,7 @@ fn outer_subnets(
 
 // The MAC address that the port is expected to have.
 fn outer_mac(rows: &Rows, network: &NetworkRow) -> Mac
-    ensures { result ≡ outer_mac_of rows.now network.now }
+    ensures { result ≡ router_calls.outer_mac rows.now network.now }
 {
     choose_mac(rows.ports().rows(), network.id).unwrap_or(Mac(0))
 }
@@ -56,16 +60,20 @@ fn known_addresses(
     requires { IsConsistent rows.now }
     ensures { IfOk result
         (λ xs. xs
-        ≡ addresses_of_of
-        (gateway_euis_of (outer_mac_of rows.now network.now)
-        (subnets_on_of rows.now.subnets network.now.id))) }
+        ≡ fixed_choice.addresses_of
+        (fixed_choice.gateway_euis (router_calls.outer_mac rows.now network.now)
+        (held_addresses.subnets_on rows.now.subnets network.now.id))) }
 {
     let subnets = outer_subnets(alloc, rows, network.id)?;
     let euis = gateway_euis(alloc, subnets.as_slice(), outer_mac(rows, network))?;
     addresses_of(alloc, euis.as_slice())
 }
 
-fn unless_taken(held: &HeldAddresses, network: Id, addresses: &[Addr]) -> Result<(), Refusal>
+fn ensure_addresses_free(
+    held: &HeldAddresses,
+    network: Id,
+    addresses: &[Addr],
+) -> Result<(), Refusal>
     ensures { IsAnswerOf (address_taken (is_in held.now) network addresses.now) result }
 {
     match first_held(held, addresses) {
@@ -80,13 +88,17 @@ fn unless_taken(held: &HeldAddresses, network: Id, addresses: &[Addr]) -> Result
 /// Refuses a gateway on the network, where another port holds the address that the MAC address of
 /// its port gives. Its cost and memory grow with the subnets, and with the ports and their
 /// addresses.
-pub(crate) fn check_outer(alloc: Global, rows: &Rows, network: &NetworkRow) -> Result<(), Refusal>
+pub(crate) fn ensure_outer_free(
+    alloc: Global,
+    rows: &Rows,
+    network: &NetworkRow,
+) -> Result<(), Refusal>
     requires { IsConsistent rows.now }
     ensures { Passes (outer_taken rows.now network.now) result }
 {
     let known = known_addresses(alloc, rows, network)?;
     let held = HeldAddresses::on(alloc, rows.ports().rows(), network.id)?;
-    unless_taken(&held, network.id, known.as_slice())
+    ensure_addresses_free(&held, network.id, known.as_slice())
 }
 
 fn outer_addresses(
@@ -95,7 +107,7 @@ fn outer_addresses(
     network: &NetworkRow,
 ) -> Result<Option<FixedList>, OutOfMemory>
     requires { IsConsistent rows.now }
-    ensures { IfOk result (λ fixed. fixed ≡ outer_addresses_of rows.now network.now) }
+    ensures { IfOk result (λ fixed. fixed ≡ router_calls.outer_addresses rows.now network.now) }
 {
     let subnets = outer_subnets(alloc, rows, network.id)?;
     let held = HeldAddresses::on(alloc, rows.ports().rows(), network.id)?;
@@ -112,7 +124,7 @@ pub(crate) fn choose_outer(
 ) -> Result<Outer, Refusal>
     requires { IsConsistent rows.now }
     ensures fixed { IfOk result
-        (λ o. outer_addresses_of rows.now network.now ≡ Some o.fixed) }
+        (λ o. router_calls.outer_addresses rows.now network.now ≡ Some o.fixed) }
     ensures mac { IfOk result (λ o. free_mac rows.now.ports network.now.id ≡ Some o.mac) }
     ensures refused { IfErr result (IsRefusalIn (outer_refusal rows.now network.now)) }
 {

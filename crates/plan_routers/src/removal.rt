@@ -2,30 +2,27 @@
 
 ghost use Rattle.std.specs.Prelude.{◌≡◌, IfErr, IfOk, Option, true};
 ghost use Rattle.api_policy.specs.Checks.{IsAnswerOf};
-ghost use Rattle.api_policy.specs.Permits.{network_owner as network_owner_of, owner_only as owner_only_of};
-ghost use Rattle.api_types.specs.Outcome.{Moved};
+ghost use Rattle.api_policy.specs.Permits as permits;
 ghost use Rattle.api_types.specs.Printed.{InterfaceRow, shown_row};
 ghost use Rattle.api_types.specs.declared.call.InterfaceBy.TheVariants.{Port as ByPort, Subnet as BySubnet};
-ghost use Rattle.call_parts.specs.Answers.{IsOrMemory, IsRefusalOf};
+ghost use Rattle.call_parts.specs.Answers.{IsOrMemory, IsRefusalOf, Leads};
 ghost use Rattle.call_parts.specs.Edits.{made};
-ghost use Rattle.call_parts.specs.State.{State};
-ghost use Rattle.plan_routers.specs.InterfaceCalls.{first_subnet as first_subnet_of, interface_gone, interface_removed, interface_shown as interface_shown_of, no_interface as no_interface_of, port_removed, removal_refusal, removed_by};
+ghost use Rattle.plan_routers.specs.InterfaceCalls.{interface_gone, interface_removed, port_removed, removal_refusal, removed_by};
+ghost use Rattle.plan_routers.specs.InterfaceCalls as interface_calls;
 ghost use Rattle.plan_routers.specs.Plans.{use_refusal};
 
 use crate::adding::port_shown;
+use crate::finding::{find_port, find_router, find_subnet};
 use crate::shown::PlannedInterface;
-use crate::ways::{interface_in, interface_with};
-use api_policy::{
-    floating_in_use, network_owner, owner_only, port_seen, route_in_use, router_seen, subnet_seen,
-    unless_last,
-};
-use api_types::{Caller, Id, IdText, InterfaceBy, Kind, PortRow, Refusal, RouterRow, Rows};
-use call_parts::{Draft, disassociate, none_with_id, not_found};
+use api_policy::{ensure_version_left, floating_in_use, network_owner, owner_only, route_in_use};
+use api_router::{interface_in, interface_with};
+use api_types::{Id, IdText, InterfaceBy, PortRow, Refusal, RouterRow, Rows};
+use call_parts::{Asking, Draft, disassociate};
 use net_addr::{OutOfMemory, Text};
 use std::alloc::Global;
 
 fn no_such(alloc: Global, id: Id) -> Result<Refusal, OutOfMemory>
-    ensures { IfOk result (λ r. r ≡ no_interface_of id) }
+    ensures { IfOk result (λ r. r ≡ interface_calls.no_interface id) }
 {
     Ok(Refusal::NotFound {
         kind: Text::of(alloc, "RouterInterface")?,
@@ -35,7 +32,7 @@ fn no_such(alloc: Global, id: Id) -> Result<Refusal, OutOfMemory>
 
 // The refusal for want of the router's interface by this subnet or port.
 fn no_interface(alloc: Global, id: Id) -> Refusal
-    ensures { IsOrMemory (no_interface_of id) result }
+    ensures { IsOrMemory (interface_calls.no_interface id) result }
 {
     match no_such(alloc, id) {
         Ok(refusal) => refusal,
@@ -44,57 +41,46 @@ fn no_interface(alloc: Global, id: Id) -> Refusal
 }
 
 // Refuses that the interface goes, where a route or a floating address needs it.
-fn check_uses(
-    rows: &Rows,
-    version: u64,
-    caller: &Caller,
-    router: &RouterRow,
-    port: &PortRow,
-) -> Result<(), Refusal>
-    ensures { let state : State = record { rows = rows.now; version = version } in
-        IsAnswerOf (use_refusal state caller.now router.now port.now) result }
+fn ensure_unneeded(asking: &Asking<'_>, router: &RouterRow, port: &PortRow) -> Result<(), Refusal>
+    ensures { IsAnswerOf (use_refusal asking.now.state asking.now.caller router.now port.now)
+        result }
 {
+    let (rows, caller) = (asking.rows(), asking.caller());
     route_in_use(rows, caller, router, router.routes.as_slice(), port)?;
     floating_in_use(rows, caller, router, port)?;
-    unless_last(version)
+    ensure_version_left(asking.version())
 }
 
 // Refuses that the interface goes, which is named by a subnet of this network.
-fn check_by_subnet(
-    rows: &Rows,
-    version: u64,
-    caller: &Caller,
+fn ensure_removable_by_subnet(
+    asking: &Asking<'_>,
     router: &RouterRow,
     port: &PortRow,
     network: Id,
 ) -> Result<(), Refusal>
-    ensures { let state : State = record { rows = rows.now; version = version } in
-        IsAnswerOf
-        (removal_refusal state caller.now router.now port.now
-        (network_owner_of rows.now caller.now true network)) result }
+    ensures { IsAnswerOf
+        (removal_refusal asking.now.state asking.now.caller router.now port.now
+        (permits.network_owner asking.now.state.rows asking.now.caller true network)) result }
 {
-    owner_only(caller, &router.project)?;
-    network_owner(rows, caller, true, network)?;
-    check_uses(rows, version, caller, router, port)
+    owner_only(asking.caller(), &router.project)?;
+    network_owner(asking.rows(), asking.caller(), true, network)?;
+    ensure_unneeded(asking, router, port)
 }
 
 // Refuses that the interface goes, which is named by a port of this project.
-fn check_by_port(
-    rows: &Rows,
-    version: u64,
-    caller: &Caller,
+fn ensure_removable_by_port(
+    asking: &Asking<'_>,
     router: &RouterRow,
     port: &PortRow,
     project: &Text,
 ) -> Result<(), Refusal>
-    ensures { let state : State = record { rows = rows.now; version = version } in
-        IsAnswerOf
-        (removal_refusal state caller.now router.now port.now
-        (owner_only_of caller.now project.now)) result }
+    ensures { IsAnswerOf
+        (removal_refusal asking.now.state asking.now.caller router.now port.now
+        (permits.owner_only asking.now.caller project.now)) result }
 {
-    owner_only(caller, &router.project)?;
-    owner_only(caller, project)?;
-    check_uses(rows, version, caller, router, port)
+    owner_only(asking.caller(), &router.project)?;
+    owner_only(asking.caller(), project)?;
+    ensure_unneeded(asking, router, port)
 }
 
 // The rows without the port, of which floating addresses lose their target.
@@ -120,7 +106,8 @@ fn take_off(
         (λ p. p.draft.rows ≡ made rows.now (interface_gone rows.now.floatings port.now)) }
     ensures shown { IfOk result
         (λ p. shown_row p.shown
-        ≡ interface_shown_of router.now port.now (first_subnet_of port.now.fixed)) }
+        ≡ interface_calls.interface_shown router.now port.now
+        (interface_calls.first_subnet port.now.fixed)) }
 {
     Ok(PlannedInterface {
         draft: without_port(alloc, rows, port)?,
@@ -131,126 +118,106 @@ fn take_off(
 // Where removing the interface leads, by a subnet of this network.
 fn remove_on_network(
     alloc: Global,
-    rows: &Rows,
-    version: u64,
-    caller: &Caller,
+    asking: &Asking<'_>,
     router: &RouterRow,
     port: &PortRow,
     network: Id,
 ) -> Result<PlannedInterface, Refusal>
-    ensures start { IfOk result (λ p. p.draft.start ≡ rows.now) }
-    ensures ok { let state : State = record { rows = rows.now; version = version } in
-        IfOk result
-        (λ p. port_removed state caller.now router.now
-        (network_owner_of rows.now caller.now true network) port.now
-        ≡ Moved p.draft.rows (InterfaceRow (shown_row p.shown))) }
-    ensures err { let state : State = record { rows = rows.now; version = version } in
-        IfErr result
+    ensures ok { IfOk result
+        (λ p. Leads asking.now.state.rows
+        (port_removed asking.now.state asking.now.caller router.now
+        (permits.network_owner asking.now.state.rows asking.now.caller true network) port.now)
+        p.draft (λ after. InterfaceRow (shown_row p.shown))) }
+    ensures err { IfErr result
         (IsRefusalOf
-        (port_removed state caller.now router.now
-        (network_owner_of rows.now caller.now true network) port.now)) }
+        (port_removed asking.now.state asking.now.caller router.now
+        (permits.network_owner asking.now.state.rows asking.now.caller true network) port.now)) }
 {
-    check_by_subnet(rows, version, caller, router, port, network)?;
-    Ok(take_off(alloc, rows, router, port)?)
+    ensure_removable_by_subnet(asking, router, port, network)?;
+    Ok(take_off(alloc, asking.rows(), router, port)?)
 }
 
 // Where removing the interface leads, by a port of this project.
 fn remove_of_project(
     alloc: Global,
-    rows: &Rows,
-    version: u64,
-    caller: &Caller,
+    asking: &Asking<'_>,
     router: &RouterRow,
     port: &PortRow,
     project: &Text,
 ) -> Result<PlannedInterface, Refusal>
-    ensures start { IfOk result (λ p. p.draft.start ≡ rows.now) }
-    ensures ok { let state : State = record { rows = rows.now; version = version } in
-        IfOk result
-        (λ p. port_removed state caller.now router.now
-        (owner_only_of caller.now project.now) port.now
-        ≡ Moved p.draft.rows (InterfaceRow (shown_row p.shown))) }
-    ensures err { let state : State = record { rows = rows.now; version = version } in
-        IfErr result
+    ensures ok { IfOk result
+        (λ p. Leads asking.now.state.rows
+        (port_removed asking.now.state asking.now.caller router.now
+        (permits.owner_only asking.now.caller project.now) port.now) p.draft
+        (λ after. InterfaceRow (shown_row p.shown))) }
+    ensures err { IfErr result
         (IsRefusalOf
-        (port_removed state caller.now router.now
-        (owner_only_of caller.now project.now) port.now)) }
+        (port_removed asking.now.state asking.now.caller router.now
+        (permits.owner_only asking.now.caller project.now) port.now)) }
 {
-    check_by_port(rows, version, caller, router, port, project)?;
-    Ok(take_off(alloc, rows, router, port)?)
+    ensure_removable_by_port(asking, router, port, project)?;
+    Ok(take_off(alloc, asking.rows(), router, port)?)
 }
 
 // Where removing an interface leads by a subnet that a body names.
 fn remove_by_subnet(
     alloc: Global,
-    rows: &Rows,
-    version: u64,
-    caller: &Caller,
+    asking: &Asking<'_>,
     router: &RouterRow,
     id: Id,
 ) -> Result<PlannedInterface, Refusal>
-    ensures start { IfOk result (λ p. p.draft.start ≡ rows.now) }
-    ensures ok { let state : State = record { rows = rows.now; version = version } in
-        IfOk result
-        (λ p. removed_by state caller.now router.now (BySubnet id)
-        ≡ Moved p.draft.rows (InterfaceRow (shown_row p.shown))) }
-    ensures err { let state : State = record { rows = rows.now; version = version } in
-        IfErr result (IsRefusalOf (removed_by state caller.now router.now (BySubnet id))) }
+    ensures ok { IfOk result
+        (λ p. Leads asking.now.state.rows
+        (removed_by asking.now.state asking.now.caller router.now (BySubnet id)) p.draft
+        (λ after. InterfaceRow (shown_row p.shown))) }
+    ensures err { IfErr result
+        (IsRefusalOf
+        (removed_by asking.now.state asking.now.caller router.now (BySubnet id))) }
 {
-    let Some(subnet) = subnet_seen(rows, caller, Some(id)) else {
-        return Err(none_with_id(alloc, Kind::Subnet, Some(id)));
-    };
-    let Some(port) = interface_in(rows.ports().rows(), router, id) else {
+    let subnet = find_subnet(alloc, asking, id)?;
+    let Some(port) = interface_in(asking.rows().ports().rows(), router, id) else {
         return Err(no_interface(alloc, id));
     };
-    remove_on_network(alloc, rows, version, caller, router, port, subnet.network)
+    remove_on_network(alloc, asking, router, port, subnet.network)
 }
 
 // Where removing an interface leads by a port that a body names.
 fn remove_by_port(
     alloc: Global,
-    rows: &Rows,
-    version: u64,
-    caller: &Caller,
+    asking: &Asking<'_>,
     router: &RouterRow,
     id: Id,
 ) -> Result<PlannedInterface, Refusal>
-    ensures start { IfOk result (λ p. p.draft.start ≡ rows.now) }
-    ensures ok { let state : State = record { rows = rows.now; version = version } in
-        IfOk result
-        (λ p. removed_by state caller.now router.now (ByPort id)
-        ≡ Moved p.draft.rows (InterfaceRow (shown_row p.shown))) }
-    ensures err { let state : State = record { rows = rows.now; version = version } in
-        IfErr result (IsRefusalOf (removed_by state caller.now router.now (ByPort id))) }
+    ensures ok { IfOk result
+        (λ p. Leads asking.now.state.rows
+        (removed_by asking.now.state asking.now.caller router.now (ByPort id)) p.draft
+        (λ after. InterfaceRow (shown_row p.shown))) }
+    ensures err { IfErr result
+        (IsRefusalOf (removed_by asking.now.state asking.now.caller router.now (ByPort id))) }
 {
-    let Some(named) = port_seen(rows, caller, Some(id)) else {
-        return Err(none_with_id(alloc, Kind::Port, Some(id)));
-    };
-    let Some(port) = interface_with(rows.ports().rows(), router, id) else {
+    let named = find_port(alloc, asking, id)?;
+    let Some(port) = interface_with(asking.rows().ports().rows(), router, id) else {
         return Err(no_interface(alloc, id));
     };
-    remove_of_project(alloc, rows, version, caller, router, port, &named.project)
+    remove_of_project(alloc, asking, router, port, &named.project)
 }
 
 fn remove_from_router(
     alloc: Global,
-    rows: &Rows,
-    version: u64,
-    caller: &Caller,
+    asking: &Asking<'_>,
     router: &RouterRow,
     by: &InterfaceBy,
 ) -> Result<PlannedInterface, Refusal>
-    ensures start { IfOk result (λ p. p.draft.start ≡ rows.now) }
-    ensures ok { let state : State = record { rows = rows.now; version = version } in
-        IfOk result
-        (λ p. removed_by state caller.now router.now by.now
-        ≡ Moved p.draft.rows (InterfaceRow (shown_row p.shown))) }
-    ensures err { let state : State = record { rows = rows.now; version = version } in
-        IfErr result (IsRefusalOf (removed_by state caller.now router.now by.now)) }
+    ensures ok { IfOk result
+        (λ p. Leads asking.now.state.rows
+        (removed_by asking.now.state asking.now.caller router.now by.now) p.draft
+        (λ after. InterfaceRow (shown_row p.shown))) }
+    ensures err { IfErr result
+        (IsRefusalOf (removed_by asking.now.state asking.now.caller router.now by.now)) }
 {
     match by {
-        InterfaceBy::Subnet(id) => remove_by_subnet(alloc, rows, version, caller, router, *id),
-        InterfaceBy::Port(id) => remove_by_port(alloc, rows, version, caller, router, *id),
+        InterfaceBy::Subnet(id) => remove_by_subnet(alloc, asking, router, *id),
+        InterfaceBy::Port(id) => remove_by_port(alloc, asking, router, *id),
     }
 }
 
@@ -259,22 +226,18 @@ fn remove_from_router(
 /// addresses.
 pub fn remove_interface(
     alloc: Global,
-    rows: &Rows,
-    version: u64,
-    caller: &Caller,
+    asking: &Asking<'_>,
     name: &IdText,
     by: &InterfaceBy,
 ) -> Result<PlannedInterface, Refusal>
-    ensures start { IfOk result (λ p. p.draft.start ≡ rows.now) }
-    ensures ok { let state : State = record { rows = rows.now; version = version } in
-        IfOk result
-        (λ p. interface_removed state caller.now name.now by.now
-        ≡ Moved p.draft.rows (InterfaceRow (shown_row p.shown))) }
-    ensures err { let state : State = record { rows = rows.now; version = version } in
-        IfErr result (IsRefusalOf (interface_removed state caller.now name.now by.now)) }
+    ensures ok { IfOk result
+        (λ p. Leads asking.now.state.rows
+        (interface_removed asking.now.state asking.now.caller name.now by.now) p.draft
+        (λ after. InterfaceRow (shown_row p.shown))) }
+    ensures err { IfErr result
+        (IsRefusalOf
+        (interface_removed asking.now.state asking.now.caller name.now by.now)) }
 {
-    let Some(router) = router_seen(rows, caller, name.id) else {
-        return Err(not_found(alloc, Kind::Router, &name.text));
-    };
-    remove_from_router(alloc, rows, version, caller, router, by)
+    let router = find_router(alloc, asking, name)?;
+    remove_from_router(alloc, asking, router, by)
 }

@@ -1,9 +1,9 @@
 //! The row of a router, as a body asks for it.
 
 ghost use Rattle.std.specs.Prelude.{◌≡◌, IfOk};
-ghost use Rattle.api_ml2.specs.Placement.{router_host as router_host_of};
-ghost use Rattle.api_types.specs.Given.{value_or as value_or_of};
-ghost use Rattle.plan_routers.specs.RouterCalls.{changed_router as changed_router_of, new_router as new_router_of};
+ghost use Rattle.api_ml2.specs.Placement as placement;
+ghost use Rattle.api_types.specs.Given as given_specs;
+ghost use Rattle.plan_routers.specs.RouterCalls as router_calls;
 
 use crate::gateways::kept_gateway;
 use api_ml2::place_router;
@@ -14,7 +14,7 @@ use net_settings::Settings;
 use std::alloc::Global;
 
 fn router_host(alloc: Global, settings: &Settings) -> Result<Option<Text>, OutOfMemory>
-    ensures { IfOk result (λ host. host ≡ router_host_of settings.now) }
+    ensures { IfOk result (λ host. host ≡ placement.router_host settings.now) }
 {
     match place_router(settings) {
         Some(host) => Ok(Some(host.copy(alloc)?)),
@@ -31,7 +31,7 @@ pub(crate) fn new_router(
     owner: &Text,
     id: Id,
 ) -> Result<RouterRow, OutOfMemory>
-    ensures { IfOk result (λ r. r ≡ new_router_of settings.now form.now owner.now id) }
+    ensures { IfOk result (λ r. r ≡ router_calls.new_router settings.now form.now owner.now id) }
 {
     let empty = Text::new(alloc);
     Ok(RouterRow {
@@ -48,7 +48,7 @@ pub(crate) fn new_router(
 
 // The routes that are given, or a copy of these.
 fn routes_or(alloc: Global, routes: &Routes, given: &Given<Routes>) -> Result<Routes, OutOfMemory>
-    ensures { IfOk result (λ r. r ≡ value_or_of routes.now given.now) }
+    ensures { IfOk result (λ r. r ≡ given_specs.value_or routes.now given.now) }
 {
     match given {
         Given::Is(given) => given.copy(alloc),
@@ -62,7 +62,7 @@ pub(crate) fn changed_router(
     form: &RouterForm,
     router: &RouterRow,
 ) -> Result<RouterRow, OutOfMemory>
-    ensures { IfOk result (λ r. r ≡ changed_router_of form.now router.now) }
+    ensures { IfOk result (λ r. r ≡ router_calls.changed_router form.now router.now) }
 {
     Ok(RouterRow {
         id: router.id,

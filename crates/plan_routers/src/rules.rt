@@ -2,18 +2,19 @@
 
 ghost use Rattle.std.specs.Prelude.{◌≡◌, [], Some, option_and_then};
 ghost use Rattle.std.specs.List.{list_any};
-ghost use Rattle.api_policy.specs.Seen.{network_seen as network_seen_of};
+ghost use Rattle.api_policy.specs.Seen as seen;
 ghost use Rattle.api_types.specs.Given.{value_or};
 ghost use Rattle.api_types.specs.RouterWays.{interfaces_of, is_bad_hop, router_ports};
 ghost use Rattle.api_types.specs.declared.kind.Kind.TheVariants.{Network as NetworkKind};
 ghost use Rattle.call_parts.specs.Answers.{Passes};
 ghost use Rattle.call_parts.specs.BodyNames.{unless_found};
-ghost use Rattle.plan_routers.specs.RouterCalls.{bad_first_gateway, gateway_name as gateway_name_of, gateway_network as gateway_network_of};
-ghost use Rattle.plan_routers.specs.RouterRules.{bad_gateway, bad_interface_port, bad_interface_subnet, bad_routes};
+ghost use Rattle.plan_routers.specs.RouterCalls.{bad_first_gateway};
+ghost use Rattle.plan_routers.specs.RouterCalls as router_calls;
+ghost use Rattle.api_router.specs.RouterRules.{bad_gateway, bad_interface_port, bad_interface_subnet, bad_routes};
 
 use crate::gateways::{gateway_name, gateway_network};
-use crate::ways::{has_bad_hop, is_bad_leg, overlaps_interface, overlaps_leg};
 use api_policy::network_seen;
+use api_router::{has_bad_hop, is_bad_leg, overlaps_interface, overlaps_leg};
 use api_types::{
     Caller, Given, Id, Kind, NetworkRow, PortRow, Refusal, RouterForm, RouterRow, Routes, Rows,
     SubnetRow,
@@ -24,7 +25,7 @@ use std::alloc::Global;
 
 // Refuses a network that isn't external to the project, as the gateway's of a router without
 // interfaces.
-fn check_external(
+fn ensure_external(
     alloc: Global,
     rows: &Rows,
     project: &Text,
@@ -39,7 +40,7 @@ fn check_external(
 }
 
 // The same of the network that the body names, where the caller sees it.
-fn check_external_named(
+fn ensure_named_external(
     alloc: Global,
     rows: &Rows,
     caller: &Caller,
@@ -48,17 +49,17 @@ fn check_external_named(
 ) -> Result<(), Refusal>
     ensures { Passes
         (option_and_then (bad_gateway rows.now owner.now [])
-        (gateway_network_of rows.now caller.now form.now)) result }
+        (router_calls.gateway_network rows.now caller.now form.now)) result }
 {
     match gateway_network(rows, caller, form) {
-        Some(network) => check_external(alloc, rows, owner, network),
+        Some(network) => ensure_external(alloc, rows, owner, network),
         None => Ok(()),
     }
 }
 
 /// Refuses the gateway of a new router on a network that isn't external to its project; a caller
 /// who may not name the project isn't told. Its cost grows with the policies.
-pub(crate) fn check_first_gateway(
+pub(crate) fn ensure_first_gateway_external(
     alloc: Global,
     rows: &Rows,
     caller: &Caller,
@@ -70,11 +71,11 @@ pub(crate) fn check_first_gateway(
     if !caller.admin && is_for_other(caller, &form.project_id, &form.tenant_id) {
         return Ok(());
     }
-    check_external_named(alloc, rows, caller, form, owner)
+    ensure_named_external(alloc, rows, caller, form, owner)
 }
 
 // Refuses a gateway of the router on the network.
-fn check_next_gateway(
+fn ensure_gateway_fits(
     alloc: Global,
     rows: &Rows,
     router: &RouterRow,
@@ -94,7 +95,7 @@ fn check_next_gateway(
 /// Refuses the gateway that a body asks for, on a network that isn't external to the router's
 /// project or has a subnet that overlaps one of its interfaces. Its cost grows with the policies
 /// and the ports, and for each interface with the subnets, times those of the network.
-pub(crate) fn check_named_gateway(
+pub(crate) fn ensure_named_gateway_fits(
     alloc: Global,
     rows: &Rows,
     caller: &Caller,
@@ -104,10 +105,10 @@ pub(crate) fn check_named_gateway(
     ensures { Passes
         (option_and_then
         (bad_gateway rows.now router.now.project (interfaces_of rows.now.ports router.now))
-        (gateway_network_of rows.now caller.now form.now)) result }
+        (router_calls.gateway_network rows.now caller.now form.now)) result }
 {
     match gateway_network(rows, caller, form) {
-        Some(network) => check_next_gateway(alloc, rows, router, network),
+        Some(network) => ensure_gateway_fits(alloc, rows, router, network),
         None => Ok(()),
     }
 }
@@ -125,7 +126,7 @@ fn given_bad_hop(rows: &Rows, router: &RouterRow, given: &Given<Routes>) -> bool
 
 /// Refuses routes of which a next hop lies in no subnet of the router's ports, or is one of their
 /// addresses. Its cost grows with the routes, times the ports.
-pub(crate) fn check_given_routes(
+pub(crate) fn ensure_routes_reachable(
     alloc: Global,
     rows: &Rows,
     router: &RouterRow,
@@ -139,9 +140,9 @@ pub(crate) fn check_given_routes(
     Ok(())
 }
 
-fn check_seen(alloc: Global, rows: &Rows, caller: &Caller, id: Id) -> Result<(), Refusal>
+fn ensure_seen(alloc: Global, rows: &Rows, caller: &Caller, id: Id) -> Result<(), Refusal>
     ensures { Passes
-        (unless_found NetworkKind (Some id) (network_seen_of rows.now caller.now (Some id)))
+        (unless_found NetworkKind (Some id) (seen.network_seen rows.now caller.now (Some id)))
         result }
 {
     match network_seen(rows, caller, Some(id)) {
@@ -151,25 +152,25 @@ fn check_seen(alloc: Global, rows: &Rows, caller: &Caller, id: Id) -> Result<(),
 }
 
 /// Refuses a gateway's network that isn't there or isn't seen. Its cost grows with the policies.
-pub(crate) fn check_found(
+pub(crate) fn ensure_network_found(
     alloc: Global,
     rows: &Rows,
     caller: &Caller,
     form: &RouterForm,
 ) -> Result<(), Refusal>
     ensures { Passes
-        (unless_found NetworkKind (gateway_name_of form.now)
-        (gateway_network_of rows.now caller.now form.now)) result }
+        (unless_found NetworkKind (router_calls.gateway_name form.now)
+        (router_calls.gateway_network rows.now caller.now form.now)) result }
 {
     match gateway_name(form) {
-        Some(id) => check_seen(alloc, rows, caller, id),
+        Some(id) => ensure_seen(alloc, rows, caller, id),
         None => Ok(()),
     }
 }
 
 /// Refuses an interface on a subnet that overlaps one of the router's ports. Its cost grows with
 /// the ports, and for each port of the router with the subnets.
-pub(crate) fn check_interface_subnet(
+pub(crate) fn ensure_subnet_fits(
     alloc: Global,
     rows: &Rows,
     router: &RouterRow,
@@ -185,7 +186,7 @@ pub(crate) fn check_interface_subnet(
 
 /// Refuses a port as an interface that hasn't exactly one address, or whose subnet overlaps one of
 /// the router's ports. Its cost grows with the subnets and the ports.
-pub(crate) fn check_interface_port(
+pub(crate) fn ensure_port_fits(
     alloc: Global,
     rows: &Rows,
     router: &RouterRow,

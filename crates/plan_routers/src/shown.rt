@@ -3,7 +3,8 @@
 ghost use Rattle.std.specs.Prelude.{◌≡◌, ◌∷◌, ◌++◌, [], IfOk, OnOk, map};
 ghost use Rattle.api_policy.specs.Trees.{id_word, list_of};
 ghost use Rattle.api_types.specs.Printed.{member_of, shown_row, tree_of, word};
-ghost use Rattle.plan_routers.specs.InterfaceCalls.{interface_members, interface_shown as interface_shown_of};
+ghost use Rattle.plan_routers.specs.InterfaceCalls.{interface_members};
+ghost use Rattle.plan_routers.specs.InterfaceCalls as interface_calls;
 
 use api_types::{Id, Kind, Members, PortRow, Printed, RouterRow, Shown};
 use call_parts::Draft;
@@ -80,7 +81,8 @@ pub(crate) fn interface_shown(
     port: &PortRow,
     subnet: Id,
 ) -> Result<Shown, OutOfMemory>
-    ensures { IfOk result (λ s. shown_row s ≡ interface_shown_of router.now port.now subnet) }
+    ensures { IfOk result (λ s. shown_row s
+        ≡ interface_calls.interface_shown router.now port.now subnet) }
 {
     Ok(Shown {
         kind: Kind::Router,

@@ -1,32 +1,26 @@
 //! Taking a subnet out.
 
 ghost use Rattle.std.specs.Prelude.{◌≡◌, IfErr, IfOk};
-ghost use Rattle.api_types.specs.Outcome.{Moved};
 ghost use Rattle.api_types.specs.Printed.{NoRow};
-ghost use Rattle.call_parts.specs.Answers.{IsRefusalOf, Passes};
+ghost use Rattle.call_parts.specs.Answers.{IsRefusalOf, Leads, Passes};
 ghost use Rattle.call_parts.specs.Edits.{made};
-ghost use Rattle.call_parts.specs.State.{State};
 ghost use Rattle.plan_subnets.specs.SubnetCalls.{deletion_refusal, subnet_deleted, subnet_gone};
 
+use crate::finding::find_subnet;
 use crate::serving::end_serving;
-use api_policy::{network_owner, subnet_in_use, subnet_seen, unless_last};
-use api_types::{Caller, IdText, Kind, Refusal, Rows, SubnetRow};
-use call_parts::{Draft, not_found};
+use api_policy::{ensure_version_left, network_owner, subnet_in_use};
+use api_types::{IdText, Refusal, Rows, SubnetRow};
+use call_parts::{Asking, Draft};
 use net_addr::OutOfMemory;
 use std::alloc::Global;
 
-fn check_deletion(
-    rows: &Rows,
-    version: u64,
-    caller: &Caller,
-    subnet: &SubnetRow,
-) -> Result<(), Refusal>
-    ensures { let state : State = record { rows = rows.now; version = version } in
-        Passes (deletion_refusal state caller.now subnet.now) result }
+fn ensure_deletable(asking: &Asking<'_>, subnet: &SubnetRow) -> Result<(), Refusal>
+    ensures { Passes (deletion_refusal asking.now.state asking.now.caller subnet.now) result }
 {
+    let (rows, caller) = (asking.rows(), asking.caller());
     network_owner(rows, caller, true, subnet.network)?;
     subnet_in_use(rows, caller, subnet.id)?;
-    unless_last(version)
+    ensure_version_left(asking.version())
 }
 
 // The rows without the subnet, and the DHCP port without its address.
@@ -41,22 +35,14 @@ fn without_subnet(alloc: Global, rows: &Rows, subnet: &SubnetRow) -> Result<Draf
 
 /// The plan of a subnet's deletion, or why it is refused. Its cost grows with the subnets, the
 /// ports and their addresses, and the floating addresses.
-pub fn delete_subnet(
-    alloc: Global,
-    rows: &Rows,
-    version: u64,
-    caller: &Caller,
-    name: &IdText,
-) -> Result<Draft, Refusal>
-    ensures start { IfOk result (λ d. d.start ≡ rows.now) }
-    ensures ok { let state : State = record { rows = rows.now; version = version } in
-        IfOk result (λ d. subnet_deleted state caller.now name.now ≡ Moved d.rows NoRow) }
-    ensures err { let state : State = record { rows = rows.now; version = version } in
-        IfErr result (IsRefusalOf (subnet_deleted state caller.now name.now)) }
+pub fn delete_subnet(alloc: Global, asking: &Asking<'_>, name: &IdText) -> Result<Draft, Refusal>
+    ensures ok { IfOk result
+        (λ d. Leads asking.now.state.rows
+        (subnet_deleted asking.now.state asking.now.caller name.now) d (λ after. NoRow)) }
+    ensures err { IfErr result
+        (IsRefusalOf (subnet_deleted asking.now.state asking.now.caller name.now)) }
 {
-    let Some(subnet) = subnet_seen(rows, caller, name.id) else {
-        return Err(not_found(alloc, Kind::Subnet, &name.text));
-    };
-    check_deletion(rows, version, caller, subnet)?;
-    Ok(without_subnet(alloc, rows, subnet)?)
+    let subnet = find_subnet(alloc, asking, name)?;
+    ensure_deletable(asking, subnet)?;
+    Ok(without_subnet(alloc, asking.rows(), subnet)?)
 }

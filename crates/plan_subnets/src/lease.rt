@@ -2,11 +2,11 @@
 
 ghost use Rattle.std.specs.Prelude.{◌≡◌, IfErr, IfOk, Some, false, option_copied, true};
 ghost use Rattle.api_ipam.specs.Euis.{fits_eui};
-ghost use Rattle.api_ipam.specs.MacChoice.{expected_mac as expected_mac_of, mac_if as mac_if_of};
+ghost use Rattle.api_ipam.specs.MacChoice as mac_choice;
 ghost use Rattle.call_parts.specs.Answers.{IsRefusalIn};
-ghost use Rattle.plan_subnets.specs.DhcpUpkeep.{dhcp_address as dhcp_address_of, dhcp_mac as dhcp_mac_of, dhcp_port_on as dhcp_port_of, makes_dhcp_port as makes_dhcp_port_of, served_address as served_address_of};
+ghost use Rattle.plan_subnets.specs.DhcpUpkeep as dhcp_upkeep;
 ghost use Rattle.plan_subnets.specs.Plans.{lease_refusal};
-ghost use Rattle.api_types.specs.Consistent.InForm.{is_eui as is_eui_of};
+ghost use Rattle.api_types.specs.Consistent.InForm as in_form;
 
 use api_ipam::{HeldAddresses, choose_mac, eui_of, is_eui, least_free_address};
 use api_types::{Id, PortRow, Refusal, Rows, Shared, SubnetRow};
@@ -24,7 +24,7 @@ pub(crate) struct Lease {
 
 /// The network's DHCP port. Its cost grows with the ports.
 pub(crate) fn dhcp_port_on(ports: &[Shared<PortRow>], network: Id) -> Option<&Shared<PortRow>>
-    ensures { option_copied result ≡ dhcp_port_of ports.now network }
+    ensures { option_copied result ≡ dhcp_upkeep.dhcp_port_on ports.now network }
 {
     ports
         .iter()
@@ -32,14 +32,15 @@ pub(crate) fn dhcp_port_on(ports: &[Shared<PortRow>], network: Id) -> Option<&Sh
 }
 
 fn makes_dhcp_port(ports: &[Shared<PortRow>], network: Id, begins: bool) -> bool
-    ensures { result ≡ makes_dhcp_port_of ports.now network begins }
+    ensures { result ≡ dhcp_upkeep.makes_dhcp_port ports.now network begins }
 {
     begins && dhcp_port_on(ports, network).is_none()
 }
 
 // The MAC address that the DHCP port has or will have.
 fn dhcp_mac(ports: &[Shared<PortRow>], network: Id) -> Mac
-    ensures { result ≡ dhcp_mac_of ports.now network (dhcp_port_of ports.now network) }
+    ensures { result ≡ dhcp_upkeep.dhcp_mac ports.now network
+        (dhcp_upkeep.dhcp_port_on ports.now network) }
 {
     match dhcp_port_on(ports, network) {
         Some(port) => port.mac,
@@ -55,7 +56,7 @@ fn pool_address(
     subnet: &SubnetRow,
 ) -> Result<Option<Addr>, OutOfMemory>
     ensures { IfOk result
-        (λ x. x ≡ served_address_of ports.now network subnet.now false) }
+        (λ x. x ≡ dhcp_upkeep.served_address ports.now network subnet.now false) }
 {
     let held = HeldAddresses::on(alloc, ports, network)?;
     Ok(least_free_address(&held, subnet.pools.as_slice()))
@@ -70,7 +71,8 @@ fn served_address(
 ) -> Result<Option<Addr>, OutOfMemory>
     requires { fits_eui subnet.now ≡ true }
     ensures { IfOk result
-        (λ x. x ≡ served_address_of ports.now network subnet.now (is_eui_of subnet.now)) }
+        (λ x. x ≡ dhcp_upkeep.served_address ports.now network subnet.now
+        (in_form.is_eui subnet.now)) }
 {
     if is_eui(subnet) {
         return Ok(Some(eui_of(subnet, dhcp_mac(ports, network))));
@@ -87,7 +89,7 @@ fn dhcp_address(
 ) -> Result<Option<Addr>, OutOfMemory>
     requires { fits_eui subnet.now ≡ true }
     ensures { IfOk result
-        (λ x. x ≡ dhcp_address_of ports.now network begins subnet.now) }
+        (λ x. x ≡ dhcp_upkeep.dhcp_address ports.now network begins subnet.now) }
 {
     if begins {
         served_address(alloc, ports, network, subnet)
@@ -98,7 +100,7 @@ fn dhcp_address(
 
 // The MAC address of a port that is made, where one is.
 fn mac_if(makes: bool, ports: &[Shared<PortRow>], network: Id) -> Option<Mac>
-    ensures { result ≡ mac_if_of makes ports.now network }
+    ensures { result ≡ mac_choice.mac_if makes ports.now network }
 {
     if makes {
         choose_mac(ports, network)
@@ -119,11 +121,12 @@ pub(crate) fn lease_for(
 ) -> Result<Lease, Refusal>
     requires { fits_eui subnet.now ≡ true }
     ensures address { IfOk result
-        (λ l. dhcp_address_of rows.now.ports network begins subnet.now ≡ Some l.address) }
+        (λ l. dhcp_upkeep.dhcp_address rows.now.ports network begins subnet.now ≡ Some l.address) }
     ensures makes { IfOk result
-        (λ l. l.makes ≡ makes_dhcp_port_of rows.now.ports network begins) }
+        (λ l. l.makes ≡ dhcp_upkeep.makes_dhcp_port rows.now.ports network begins) }
     ensures mac { IfOk result
-        (λ l. mac_if_of (makes_dhcp_port_of rows.now.ports network begins) rows.now.ports network
+        (λ l. mac_choice.mac_if
+        (dhcp_upkeep.makes_dhcp_port rows.now.ports network begins) rows.now.ports network
         ≡ Some l.mac) }
     ensures refused { IfErr result
         (IsRefusalIn (lease_refusal rows.now.ports network begins subnet.now)) }

@@ -10,12 +10,15 @@
 
 mod creation;
 mod deletion;
+mod finding;
+mod laws;
 mod lease;
 mod row;
 mod rules;
 mod serving;
 mod update;
 
-pub use creation::{PlannedSubnet, create_subnet};
+pub use creation::create_subnet;
 pub use deletion::delete_subnet;
+pub use laws::{subnet_calls_keep, subnet_calls_spare_others, subnet_calls_stay_apart};
 pub use update::update_subnet;

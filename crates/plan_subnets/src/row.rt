@@ -1,9 +1,9 @@
 //! The row of a subnet, as a body asks for it.
 
 ghost use Rattle.std.specs.Prelude.{◌≡◌, IfOk, Some, true};
-ghost use Rattle.api_types.specs.Given.{value_of as value_of_of, value_or as value_or_of};
+ghost use Rattle.api_types.specs.Given as given_specs;
 ghost use Rattle.call_parts.specs.InForm.{is_subnet_body};
-ghost use Rattle.plan_subnets.specs.SubnetCalls.{changed_subnet as changed_subnet_of, gateway_asked as gateway_asked_of, gateway_or as gateway_or_of, new_subnet as new_subnet_of, pools_asked as pools_asked_of, prefix_asked as prefix_asked_of};
+ghost use Rattle.plan_subnets.specs.SubnetCalls as subnet_calls;
 
 use api_ipam::{default_gateway, default_pools};
 use api_types::{Given, Id, NetworkRow, SubnetForm, SubnetRow};
@@ -21,7 +21,7 @@ pub(crate) struct Ranges {
 
 // The prefix that the body names.
 fn prefix_asked(form: &SubnetForm) -> Prefix
-    ensures { result ≡ prefix_asked_of form.now }
+    ensures { result ≡ subnet_calls.prefix_asked form.now }
 {
     let half = Prefix {
         base: Addr::V4(Addr4(0)),
@@ -31,7 +31,7 @@ fn prefix_asked(form: &SubnetForm) -> Prefix
 }
 
 fn gateway_or(old: Option<Addr>, given: &Given<Addr>) -> Option<Addr>
-    ensures { result ≡ gateway_or_of old given.now }
+    ensures { result ≡ subnet_calls.gateway_or old given.now }
 {
     match given {
         Given::Absent => old,
@@ -42,7 +42,7 @@ fn gateway_or(old: Option<Addr>, given: &Given<Addr>) -> Option<Addr>
 
 fn gateway_asked(form: &SubnetForm) -> Option<Addr>
     requires { is_subnet_body form.now ≡ true }
-    ensures { result ≡ gateway_asked_of form.now }
+    ensures { result ≡ subnet_calls.gateway_asked form.now }
 {
     let first = default_gateway(prefix_asked(form));
     gateway_or(Some(first), &form.gateway_ip)
@@ -53,8 +53,8 @@ fn pools_asked(
     form: &SubnetForm,
     gateway: &Option<Addr>,
 ) -> Result<Spans, OutOfMemory>
-    requires { gateway.now ≡ gateway_asked_of form.now }
-    ensures { IfOk result (λ pools. pools ≡ pools_asked_of form.now) }
+    requires { gateway.now ≡ subnet_calls.gateway_asked form.now }
+    ensures { IfOk result (λ pools. pools ≡ subnet_calls.pools_asked form.now) }
 {
     match &form.allocation_pools {
         Given::Is(pools) => pools.copy(alloc),
@@ -65,9 +65,9 @@ fn pools_asked(
 /// The addresses that a body asks for, or those of a subnet for which none are named.
 pub(crate) fn ranges_asked(alloc: Global, form: &SubnetForm) -> Result<Ranges, OutOfMemory>
     requires { is_subnet_body form.now ≡ true }
-    ensures prefix { IfOk result (λ r. r.prefix ≡ prefix_asked_of form.now) }
-    ensures gateway { IfOk result (λ r. r.gateway ≡ gateway_asked_of form.now) }
-    ensures pools { IfOk result (λ r. r.pools ≡ pools_asked_of form.now) }
+    ensures prefix { IfOk result (λ r. r.prefix ≡ subnet_calls.prefix_asked form.now) }
+    ensures gateway { IfOk result (λ r. r.gateway ≡ subnet_calls.gateway_asked form.now) }
+    ensures pools { IfOk result (λ r. r.pools ≡ subnet_calls.pools_asked form.now) }
 {
     let gateway = gateway_asked(form);
     let pools = pools_asked(alloc, form, &gateway)?;
@@ -86,10 +86,10 @@ pub(crate) fn new_subnet(
     ranges: Ranges,
     id: Id,
 ) -> Result<SubnetRow, OutOfMemory>
-    requires prefix { ranges.prefix ≡ prefix_asked_of form.now }
-    requires gateway { ranges.gateway ≡ gateway_asked_of form.now }
-    requires pools { ranges.pools ≡ pools_asked_of form.now }
-    ensures { IfOk result (λ s. s ≡ new_subnet_of form.now network.now id) }
+    requires prefix { ranges.prefix ≡ subnet_calls.prefix_asked form.now }
+    requires gateway { ranges.gateway ≡ subnet_calls.gateway_asked form.now }
+    requires pools { ranges.pools ≡ subnet_calls.pools_asked form.now }
+    ensures { IfOk result (λ s. s ≡ subnet_calls.new_subnet form.now network.now id) }
 {
     let empty = Text::new(alloc);
     Ok(SubnetRow {
@@ -115,7 +115,7 @@ fn list_or<T: Copies>(
     list: &Seq<T>,
     given: &Given<Seq<T>>,
 ) -> Result<Seq<T>, OutOfMemory>
-    ensures { IfOk result (λ xs. xs ≡ value_or_of list.now given.now) }
+    ensures { IfOk result (λ xs. xs ≡ given_specs.value_or list.now given.now) }
 {
     match given {
         Given::Is(given) => given.copy(alloc),
@@ -129,7 +129,7 @@ pub(crate) fn changed_subnet(
     form: &SubnetForm,
     subnet: &SubnetRow,
 ) -> Result<SubnetRow, OutOfMemory>
-    ensures { IfOk result (λ s. s ≡ changed_subnet_of form.now subnet.now) }
+    ensures { IfOk result (λ s. s ≡ subnet_calls.changed_subnet form.now subnet.now) }
 {
     Ok(SubnetRow {
         id: subnet.id,

@@ -4,12 +4,14 @@ ghost use Rattle.std.specs.Prelude.{◌≡◌, ◌&&◌, ◌==◌, [], is_some, 
 ghost use Rattle.std.specs.List.{list_all};
 ghost use Rattle.net_addr.specs.Addresses.{same_version};
 ghost use Rattle.net_addr.specs.Prefixes.{Prefix as ThePrefix, is_host_of};
-ghost use Rattle.api_types.specs.Consistent.InForm.{is_hop_like as hop_like, mode_eq};
-ghost use Rattle.api_types.specs.Given.{value_of as value_of_of, value_or as value_or_of};
+ghost use Rattle.api_types.specs.Consistent.InForm.{mode_eq};
+ghost use Rattle.api_types.specs.Consistent.InForm as in_form;
+ghost use Rattle.api_types.specs.Given as given;
 ghost use Rattle.api_types.specs.Lists.{if_some, is_some_so};
 ghost use Rattle.api_types.specs.declared.form.IpVersion.TheVariants.{V6 as SixOf};
 ghost use Rattle.call_parts.specs.Answers.{Passes};
-ghost use Rattle.plan_subnets.specs.SubnetRules.{bad_cidr, bad_dhcp, bad_modes, bad_parts, bad_subnet, bad_versions, is_bad_mode as bad_mode, is_version, may_have_mode as mode_allowed, of_version as version_like, overlaps_subnet as overlaps_of};
+ghost use Rattle.plan_subnets.specs.SubnetRules.{bad_cidr, bad_dhcp, bad_modes, bad_parts, bad_subnet, bad_versions, is_version};
+ghost use Rattle.plan_subnets.specs.SubnetRules as subnet_rules;
 
 use api_ipam::{are_pools, makes_eui};
 use api_types::{
@@ -21,7 +23,7 @@ use std::alloc::Global;
 
 // An address of the version.
 fn of_version(version: IpVersion) -> Addr
-    ensures { result ≡ version_like version }
+    ensures { result ≡ subnet_rules.of_version version }
 {
     match version {
         IpVersion::V4 => Addr::V4(Addr4(0)),
@@ -32,7 +34,7 @@ fn of_version(version: IpVersion) -> Addr
 fn is_other_prefix(like: &Addr, cidr: &Given<Prefix>) -> bool
     ensures { result
         ≡ is_some_so (λ (p : ThePrefix). not (same_version like.now p.base))
-        (value_of_of cidr.now) }
+        (given.value_of cidr.now) }
 {
     match cidr {
         Given::Is(prefix) => !like.is_same_version(&prefix.base),
@@ -47,7 +49,7 @@ fn all_servers_like(like: &Addr, servers: &[Addr]) -> bool
 }
 
 fn are_servers_like(like: &Addr, servers: &Given<Seq<Addr>>) -> bool
-    ensures { result ≡ list_all (same_version like.now) (value_or_of [] servers.now) }
+    ensures { result ≡ list_all (same_version like.now) (given.value_or [] servers.now) }
 {
     match servers {
         Given::Is(servers) => all_servers_like(like, servers.as_slice()),
@@ -56,19 +58,19 @@ fn are_servers_like(like: &Addr, servers: &Given<Seq<Addr>>) -> bool
 }
 
 fn is_hop_like(like: &Addr, hop: &Hop) -> bool
-    ensures { result ≡ hop_like like.now hop.now }
+    ensures { result ≡ in_form.is_hop_like like.now hop.now }
 {
     like.is_same_version(&hop.destination.base) && like.is_same_version(&hop.next)
 }
 
 fn all_hops_like(like: &Addr, hops: &[Hop]) -> bool
-    ensures { result ≡ list_all (hop_like like.now) hops.now }
+    ensures { result ≡ list_all (in_form.is_hop_like like.now) hops.now }
 {
     hops.iter().all(|hop| is_hop_like(like, hop))
 }
 
 fn are_hops_like(like: &Addr, hops: &Given<Seq<Hop>>) -> bool
-    ensures { result ≡ list_all (hop_like like.now) (value_or_of [] hops.now) }
+    ensures { result ≡ list_all (in_form.is_hop_like like.now) (given.value_or [] hops.now) }
 {
     match hops {
         Given::Is(hops) => all_hops_like(like, hops.as_slice()),
@@ -77,7 +79,11 @@ fn are_hops_like(like: &Addr, hops: &Given<Seq<Hop>>) -> bool
 }
 
 /// Refuses name servers and host routes of another version than this address's.
-pub(crate) fn check_versions(alloc: Global, like: &Addr, form: &SubnetForm) -> Result<(), Refusal>
+pub(crate) fn ensure_same_version(
+    alloc: Global,
+    like: &Addr,
+    form: &SubnetForm,
+) -> Result<(), Refusal>
     ensures { Passes (bad_versions like.now form.now) result }
 {
     if !are_servers_like(like, &form.dns_nameservers) {
@@ -99,7 +105,7 @@ fn is_six(version: IpVersion) -> bool
 }
 
 fn may_have_mode(form: &SubnetForm) -> bool
-    ensures { result ≡ mode_allowed form.now }
+    ensures { result ≡ subnet_rules.may_have_mode form.now }
 {
     is_six(value_or(IpVersion::V4, &form.ip_version)) && value_or(true, &form.enable_dhcp)
 }
@@ -115,7 +121,7 @@ fn is_mode_or_none(mode: Ipv6Mode, other: Option<Ipv6Mode>) -> bool
 
 fn has_other_length(cidr: &Given<Prefix>) -> bool
     ensures { result
-        ≡ is_some_so (λ (p : ThePrefix). not (p.len == 64)) (value_of_of cidr.now) }
+        ≡ is_some_so (λ (p : ThePrefix). not (p.len == 64)) (given.value_of cidr.now) }
 {
     match cidr {
         Given::Is(prefix) => prefix.len != 64,
@@ -124,7 +130,7 @@ fn has_other_length(cidr: &Given<Prefix>) -> bool
 }
 
 fn is_bad_mode(form: &SubnetForm, mode: Ipv6Mode) -> bool
-    ensures { result ≡ bad_mode form.now mode }
+    ensures { result ≡ subnet_rules.is_bad_mode form.now mode }
 {
     !may_have_mode(form)
         || !is_mode_or_none(mode, value_of(&form.ipv6_ra_mode))
@@ -132,7 +138,8 @@ fn is_bad_mode(form: &SubnetForm, mode: Ipv6Mode) -> bool
 }
 
 fn has_bad_mode(form: &SubnetForm) -> bool
-    ensures { result ≡ is_some_so (bad_mode form.now) (value_of_of form.now.ipv6_address_mode) }
+    ensures { result ≡ is_some_so
+        (subnet_rules.is_bad_mode form.now) (given.value_of form.now.ipv6_address_mode) }
 {
     match form.ipv6_address_mode {
         Given::Is(mode) => is_bad_mode(form, mode),
@@ -140,7 +147,7 @@ fn has_bad_mode(form: &SubnetForm) -> bool
     }
 }
 
-fn check_modes(alloc: Global, form: &SubnetForm) -> Result<(), Refusal>
+fn ensure_modes_fit(alloc: Global, form: &SubnetForm) -> Result<(), Refusal>
     ensures { Passes (bad_modes form.now) result }
 {
     if has_bad_mode(form) {
@@ -153,19 +160,19 @@ fn check_modes(alloc: Global, form: &SubnetForm) -> Result<(), Refusal>
 }
 
 /// Refuses a body of which a part breaks the rules on bodies alone.
-pub(crate) fn check_parts(alloc: Global, form: &SubnetForm) -> Result<(), Refusal>
+pub(crate) fn ensure_parts_agree(alloc: Global, form: &SubnetForm) -> Result<(), Refusal>
     ensures { Passes (bad_parts form.now) result }
 {
     let like = of_version(value_or(IpVersion::V4, &form.ip_version));
     if is_other_prefix(&like, &form.cidr) {
         return Err(invalid(alloc, "cidr"));
     }
-    check_versions(alloc, &like, form)?;
-    check_modes(alloc, form)
+    ensure_same_version(alloc, &like, form)?;
+    ensure_modes_fit(alloc, form)
 }
 
 fn overlaps_subnet(subnets: &[Shared<SubnetRow>], prefix: Prefix, network: &NetworkRow) -> bool
-    ensures { result ≡ overlaps_of subnets.now prefix network.now }
+    ensures { result ≡ subnet_rules.overlaps_subnet subnets.now prefix network.now }
 {
     let network = network.id;
     for subnet in subnets {
@@ -177,7 +184,7 @@ fn overlaps_subnet(subnets: &[Shared<SubnetRow>], prefix: Prefix, network: &Netw
 }
 
 /// Refuses a prefix that overlaps one of the network's subnets. Its cost grows with the subnets.
-pub(crate) fn check_cidr(
+pub(crate) fn ensure_cidr_free(
     alloc: Global,
     rows: &Rows,
     prefix: Prefix,
@@ -202,7 +209,7 @@ fn is_gateway_host(prefix: &Prefix, gateway: &Option<Addr>) -> bool
 
 /// Refuses a gateway that is no host address, and pools that are no spans of such addresses without
 /// the gateway, or that share one. Its cost grows with the pools' number, times itself.
-pub(crate) fn check_ranges(
+pub(crate) fn ensure_ranges_fit(
     alloc: Global,
     prefix: &Prefix,
     gateway: &Option<Addr>,
@@ -220,7 +227,7 @@ pub(crate) fn check_ranges(
 }
 
 /// Refuses a subnet with a mode that is to be leased no more.
-pub(crate) fn check_dhcp(
+pub(crate) fn ensure_dhcp_kept(
     alloc: Global,
     form: &SubnetForm,
     subnet: &SubnetRow,

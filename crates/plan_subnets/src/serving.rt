@@ -1,12 +1,14 @@
 //! The upkeep of a network's DHCP port, which holds an address of each subnet that is leased.
 
 ghost use Rattle.std.specs.Prelude.{◌≡◌, ◌∷◌, ◌++◌, ◌<◌, ◌^◌, [], IfOk, None, option_map, true};
-ghost use Rattle.api_ml2.specs.Placement.{dhcp_host as dhcp_host_of, host_or_none};
+ghost use Rattle.api_ml2.specs.Placement.{host_or_none};
+ghost use Rattle.api_ml2.specs.Placement as placement;
 ghost use Rattle.api_types.specs.Registration.{ident};
 ghost use Rattle.api_types.specs.Table.{row_of};
 ghost use Rattle.api_types.specs.declared.port.PortRow.{PortRow as ThePort};
 ghost use Rattle.call_parts.specs.Edits.{edited, made};
-ghost use Rattle.plan_subnets.specs.DhcpUpkeep.{begin_serving as begin_serving_of, dhcp_port_on as dhcp_port_of, end_serving as end_serving_of, giving_back, makes_dhcp_port, new_dhcp_port as new_dhcp_port_of, port_left};
+ghost use Rattle.plan_subnets.specs.DhcpUpkeep as upkeep;
+ghost use Rattle.plan_subnets.specs.DhcpUpkeep.{giving_back, makes_dhcp_port, port_left};
 ghost use Rattle.row_laws.specs.Leased.{outside};
 
 use crate::lease::dhcp_port_on;
@@ -17,11 +19,19 @@ use net_addr::{Copies, Mac, OutOfMemory, Seq, Text};
 use net_settings::Settings;
 use std::alloc::Global;
 
+/// The id and the MAC address that the DHCP port gets if it is made.
+#[derive(Clone, Copy)]
+pub(crate) struct NextPort {
+    pub ordinal: u32,
+    pub count: u64,
+    pub mac: Mac,
+}
+
 // The name of the host on which the network's DHCP port stands, or the empty text.
 fn dhcp_host(alloc: Global, settings: &Settings, network: &NetworkRow) -> Result<Text, OutOfMemory>
     ensures { IfOk result
         (λ host. host
-        ≡ host_or_none (dhcp_host_of settings.now network.now.segment)) }
+        ≡ host_or_none (placement.dhcp_host settings.now network.now.segment)) }
 {
     match place_dhcp(settings, &network.segment) {
         Some(host) => host.copy(alloc),
@@ -38,7 +48,7 @@ fn new_dhcp_port(
     fixed: Fixed,
 ) -> Result<PortRow, OutOfMemory>
     ensures { IfOk result
-        (λ p. p ≡ new_dhcp_port_of settings.now network.now id mac fixed) }
+        (λ p. p ≡ upkeep.new_dhcp_port settings.now network.now id mac fixed) }
 {
     let host = dhcp_host(alloc, settings, network)?;
     Ok(PortRow {
@@ -80,7 +90,7 @@ fn dhcp_port_with(
     ensures { IfOk result
         (λ o. o
         ≡ option_map (λ (p : ThePort). record p { fixed = p.fixed ++ fixed ∷ [] })
-        (dhcp_port_of rows.now.ports network)) }
+        (upkeep.dhcp_port_on rows.now.ports network)) }
 {
     match dhcp_port_on(rows.ports().rows(), network) {
         Some(port) => Ok(Some(with_one_more(alloc, port, fixed)?)),
@@ -89,28 +99,27 @@ fn dhcp_port_with(
 }
 
 /// The draft in which the DHCP port holds one address more, where a subnet begins to be leased. The
-/// port is made where there is none, with the id of this count. Its cost grows with the ports.
+/// port is made where there is none. Its cost grows with the ports.
 pub(crate) fn begin_serving(
     alloc: Global,
     draft: Draft,
     settings: &Settings,
     network: &NetworkRow,
     begins: bool,
-    ordinal: u32,
-    count: u64,
-    mac: Mac,
+    next: NextPort,
     fixed: Fixed,
 ) -> Result<Draft, OutOfMemory>
     requires small { makes_dhcp_port draft.rows.ports network.now.id begins ≡ true
-        → count < 2 ^ 62 }
+        → next.count < 2 ^ 62 }
     requires new { makes_dhcp_port draft.rows.ports network.now.id begins ≡ true
-        → row_of (λ (p : ThePort). p.id) (ident ordinal count) draft.rows.ports ≡ None }
+        → row_of (λ (p : ThePort). p.id) (ident next.ordinal next.count) draft.rows.ports
+        ≡ None }
     ensures start { IfOk result (λ d. d.start ≡ draft.start) }
     ensures rows { IfOk result
         (λ d. d.rows
         ≡ made draft.rows
-        (begin_serving_of settings.now draft.rows network.now begins (ident ordinal count) mac
-        fixed)) }
+        (upkeep.begin_serving settings.now draft.rows network.now begins
+        (ident next.ordinal next.count) next.mac fixed)) }
 {
     if !begins {
         return Ok(draft);
@@ -118,10 +127,10 @@ pub(crate) fn begin_serving(
     match dhcp_port_with(alloc, draft.rows(), network.id, fixed)? {
         Some(port) => draft.put(alloc, port),
         None => {
-            let id = Id::make(ordinal, count);
+            let id = Id::make(next.ordinal, next.count);
             draft.add(
                 alloc,
-                new_dhcp_port(alloc, settings, network, id, mac, fixed)?,
+                new_dhcp_port(alloc, settings, network, id, next.mac, fixed)?,
             )
         }
     }
@@ -174,7 +183,7 @@ fn keep_only(
 
 // A copy of the network's DHCP port.
 fn dhcp_port_copied(alloc: Global, rows: &Rows, network: Id) -> Result<Option<PortRow>, OutOfMemory>
-    ensures { IfOk result (λ o. o ≡ dhcp_port_of rows.now.ports network) }
+    ensures { IfOk result (λ o. o ≡ upkeep.dhcp_port_on rows.now.ports network) }
 {
     match dhcp_port_on(rows.ports().rows(), network) {
         Some(port) => Ok(Some(port.get().copy(alloc)?)),
@@ -193,7 +202,7 @@ pub(crate) fn end_serving(
 ) -> Result<Draft, OutOfMemory>
     ensures start { IfOk result (λ d. d.start ≡ draft.start) }
     ensures rows { IfOk result
-        (λ d. d.rows ≡ made draft.rows (end_serving_of draft.rows network ends subnet)) }
+        (λ d. d.rows ≡ made draft.rows (upkeep.end_serving draft.rows network ends subnet)) }
 {
     if !ends {
         return Ok(draft);

@@ -1,5 +1,5 @@
-use Rattle.row_laws.proofs.SubnetLeased.{subnet_leased, subnet_leased_by_new}
-use Rattle.row_laws.proofs.SubnetUnleased.{subnet_unleased}
+use Rattle.row_laws.proofs.Service.SubnetLeased.{subnet_leased, subnet_leased_by_new}
+use Rattle.row_laws.proofs.Service.SubnetUnleased.{subnet_unleased}
 use Rattle.row_laws.proofs.dhcp_edits_keep.Goals as goal
 
 pub returns : goal.returns

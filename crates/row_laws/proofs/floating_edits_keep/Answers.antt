@@ -1,7 +1,7 @@
-use Rattle.row_laws.proofs.FloatingOn.{floating_on}
-use Rattle.row_laws.proofs.FloatingOff.{floating_off}
+use Rattle.row_laws.proofs.Service.FloatingOn.{floating_on}
+use Rattle.row_laws.proofs.Service.FloatingOff.{floating_off}
 use Rattle.row_laws.proofs.FloatingReplaced.{floating_replaced}
-use Rattle.row_laws.proofs.FloatingsFreed.{floatings_freed}
+use Rattle.row_laws.proofs.Service.FloatingsFreed.{floatings_freed}
 use Rattle.row_laws.proofs.floating_edits_keep.Goals as goal
 
 pub returns : goal.returns

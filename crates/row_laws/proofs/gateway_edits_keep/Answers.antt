@@ -1,6 +1,6 @@
-use Rattle.row_laws.proofs.GatewayOn.{gateway_on}
-use Rattle.row_laws.proofs.GatewayOff.{gateway_off}
-use Rattle.row_laws.proofs.RouterOff.{router_off}
+use Rattle.row_laws.proofs.Service.GatewayOn.{gateway_on}
+use Rattle.row_laws.proofs.Service.GatewayOff.{gateway_off}
+use Rattle.row_laws.proofs.Service.RouterOff.{router_off}
 use Rattle.row_laws.proofs.gateway_edits_keep.Goals as goal
 
 pub returns : goal.returns

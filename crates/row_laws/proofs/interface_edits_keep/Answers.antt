@@ -1,6 +1,6 @@
-use Rattle.row_laws.proofs.InterfaceOn.{interface_on}
-use Rattle.row_laws.proofs.InterfaceTaken.{taken_over}
-use Rattle.row_laws.proofs.InterfaceOff.{interface_off}
+use Rattle.row_laws.proofs.Service.InterfaceOn.{interface_on}
+use Rattle.row_laws.proofs.Service.InterfaceTaken.{taken_over}
+use Rattle.row_laws.proofs.Service.InterfaceOff.{interface_off}
 use Rattle.row_laws.proofs.interface_edits_keep.Goals as goal
 
 pub returns : goal.returns

@@ -1,5 +1,5 @@
 use Rattle.std.proofs.Common.{arith, sym, ap, ◌∙◌}
-use Rattle.api_check_rows.specs.RowTests.{project_numbered}
+use Rattle.api_clauses.specs.Numbers.{project_numbered}
 use Rattle.api_check.proofs.Places.{place_here}
 use Rattle.api_check.proofs.numbered.first_misnumbered.Goals as goal
 

@@ -1,6 +1,6 @@
 use Rattle.std.proofs.Common.{◌≡◌, drop}
 use Rattle.api_check.specs.Broken.{first_place}
-use Rattle.api_check_rows.specs.RowTests.{project_numbered}
+use Rattle.api_clauses.specs.Numbers.{project_numbered}
 use Rattle.api_check.proofs.numbered.first_misnumbered.Given as goal
 
 -- the search goes on as it began

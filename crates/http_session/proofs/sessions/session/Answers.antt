@@ -1,7 +1,7 @@
-use Rattle.std.proofs.Common.{◌∙◌, ℕ, List, [], arith, refl, subst, sym}
+use Rattle.std.proofs.Common.{◌∙◌, ◌≤◌, ℕ, List, [], arith, refl, subst, sym}
 use Rattle.http_session.specs.Serves.{Goes, Moment, scene}
 use Rattle.http_session.proofs.Going.{goes_nowhere, goes_on}
-use Rattle.http_session.proofs.Turning.{last_turn, no_turn}
+use Rattle.http_session.proofs.Turning.{last_turn_within, no_turn}
 use Rattle.http_session.proofs.sessions.session.Goals as goal
 
 pub returns-in_default-clause-serves : goal.returns-in_default-clause-serves
@@ -18,6 +18,7 @@ turns-init g c =
     record {
       goes = subst (λ b. Goes g.H.Handler.steps g.H.Handler.fixed (before []) (before b)) (sym c.in-Ok.ensures) (goes_nowhere g.H.Handler.steps g.H.Handler.fixed (before []));
       kept = record { tells = c.requires; as_before = refl };
+      limit = refl;
       within = omega arith;
       read_later = omega arith;
       write_later = omega arith;
@@ -30,7 +31,8 @@ turns-preserved g c =
     let turn = c.in-Again.ensures in record {
       goes = goes_on g.H.Handler.steps g.H.Handler.fixed _ _ _ so.goes turn.is.0;
       kept = record { tells = turn.kept.tells; as_before = turn.kept.as_before ∙ so.kept.as_before };
-      within = turn.within;
+      limit = turn.limit ∙ so.limit;
+      within = subst (λ n. c.take_turn.new.taking.taken ≤ n) so.limit turn.within;
       read_later = omega (arith, so.read_later, turn.read_later);
       write_later = omega (arith, so.write_later, turn.write_later);
       unfailed = λ h. turn.last_read (so.unfailed h);
@@ -40,9 +42,9 @@ pub returns-in-Ends-clause-serves : goal.returns-in-Ends-clause-serves
 returns-in-Ends-clause-serves g c =
     let so = c.turns.invariant in
     let turn = c.in-Ends.ensures in record {
-      buffer = c.take_turn.new.buffer;
-      taken = c.take_turn.new.taken;
-      within = turn.within;
-      serves = last_turn g.H.Handler.steps g.H.Handler.fixed c.args.limit _ _ _ c.in-Ends.end so.goes turn.is;
+      buffer = c.take_turn.new.taking.buffer;
+      taken = c.take_turn.new.taking.taken;
+      within = subst (λ n. c.take_turn.new.taking.taken ≤ n) so.limit turn.within;
+      serves = last_turn_within g.H.Handler.steps g.H.Handler.fixed c.args.limit _ _ _ _ c.in-Ends.end so.limit so.goes turn.is;
       last_read = λ h. turn.last_read (so.unfailed h);
     }

@@ -8,13 +8,14 @@ abbrev pub invariant-turns : goal.invariant-turns
 invariant-turns g l = record {
   goes : Goes g.H.Handler.steps g.H.Handler.fixed
       (record { scene = scene l.fn.world (g.K.Keeper.told l.fn.keeper) (g.I.Source.told l.fn.input) (g.O.Sink.told l.fn.output); buffer = []; taken = 0 })
-      (record { scene = scene l.world (g.K.Keeper.told l.keeper) (g.I.Source.told l.input) (g.O.Sink.told l.output); buffer = l.buffer; taken = l.taken });
+      (record { scene = scene l.world (g.K.Keeper.told l.keeper) (g.I.Source.told l.input) (g.O.Sink.told l.output); buffer = l.taking.buffer; taken = l.taking.taken });
   kept : IsStored (g.H.Handler.rows l.world) (g.K.Keeper.told l.fn.keeper) (g.K.Keeper.told l.keeper);
-  within : l.taken ≤ l.limit;
+  limit : l.taking.limit ≡ l.limit;
+  within : l.taking.taken ≤ l.limit;
   read_later : (g.I.Source.told l.fn.input).faults ≤ (g.I.Source.told l.input).faults;
   write_later : (g.O.Sink.told l.fn.output).faults ≤ (g.O.Sink.told l.output).faults;
   unfailed : has_failed (g.I.Source.told l.fn.input) ≡ false → has_failed (g.I.Source.told l.input) ≡ false;
 }
 
 abbrev pub decreases-turns : goal.decreases-turns
-decreases-turns g l = (l.limit - l.taken) + length l.buffer
+decreases-turns g l = (l.limit - l.taking.taken) + length l.taking.buffer

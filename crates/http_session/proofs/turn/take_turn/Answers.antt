@@ -18,44 +18,44 @@ drop_front-requires g c = c.in-Found.ensures.is.0
 pub returns-in-Found-clause-is : goal.returns-in-Found-clause-is
 returns-in-Found-clause-is g c =
     let turn = c.answer_request-turn in
-    subst (λ b. IsTurn g.H.Handler.steps g.H.Handler.fixed c.args.limit
-    (record { scene = scene c.args.world.now (g.K.Keeper.told c.args.keeper.now) (g.I.Source.told c.args.input.now) (g.O.Sink.told c.args.output.now); buffer = c.args.buffer.now; taken = c.args.taken.now })
+    subst (λ b. IsTurn g.H.Handler.steps g.H.Handler.fixed c.args.taking.now.limit
+    (record { scene = scene c.args.world.now (g.K.Keeper.told c.args.keeper.now) (g.I.Source.told c.args.input.now) (g.O.Sink.told c.args.output.now); buffer = c.args.taking.now.buffer; taken = c.args.taking.now.taken })
     (record { scene = scene turn.new.world (g.K.Keeper.told turn.new.keeper) (g.I.Source.told c.await_request.new.input) (g.O.Sink.told turn.new.output); buffer = b; taken = c.await_request.new.taken })
     turn.result)
     (sym c.drop_front.ensures)
-    (found_turn g.H.Handler.steps g.H.Handler.fixed c.args.limit c.args.world.now turn.new.world (g.K.Keeper.told c.args.keeper.now) (g.K.Keeper.told turn.new.keeper)
+    (found_turn g.H.Handler.steps g.H.Handler.fixed c.args.taking.now.limit c.args.world.now turn.new.world (g.K.Keeper.told c.args.keeper.now) (g.K.Keeper.told turn.new.keeper)
     (g.I.Source.told c.args.input.now) (g.I.Source.told c.await_request.new.input) (g.O.Sink.told c.args.output.now) (g.O.Sink.told turn.new.output)
-    c.args.buffer.now c.await_request.new.buffer c.args.taken.now c.await_request.new.taken
+    c.args.taking.now.buffer c.await_request.new.buffer c.args.taking.now.taken c.await_request.new.taken
     c.in-Found.ensures.reads turn.result c.in-Found.request c.in-Found.ensures.within c.in-Found.ensures.is
     (λ asked rest takes is. turn.ensures.is asked rest (subst (λ l. Takes l asked rest) (sym c.as_slice.ensures.value) takes) (subst (λ l. IsRequest l c.in-Found.request asked) (sym c.as_slice.ensures.value) is)))
 
 pub returns-in-Stopped-Bad-clause-is : goal.returns-in-Stopped-Bad-clause-is
 returns-in-Stopped-Bad-clause-is g c =
-    bad_turn g.H.Handler.steps g.H.Handler.fixed c.args.limit c.args.world.now c.args.world.now (g.K.Keeper.told c.args.keeper.now) (g.K.Keeper.told c.args.keeper.now)
+    bad_turn g.H.Handler.steps g.H.Handler.fixed c.args.taking.now.limit c.args.world.now c.args.world.now (g.K.Keeper.told c.args.keeper.now) (g.K.Keeper.told c.args.keeper.now)
     (g.I.Source.told c.args.input.now) (g.I.Source.told c.await_request.new.input) (g.O.Sink.told c.args.output.now) (g.O.Sink.told c.send_refusal.new.output)
-    c.args.buffer.now c.await_request.new.buffer c.args.taken.now c.await_request.new.taken c.in-Stopped-Bad.ensures.reads c.send_refusal.result c.in-Stopped-Bad.bad
-    (subst (λ s. IsStop c.args.limit c.await_request.new.buffer (g.I.Source.told c.await_request.new.input) c.await_request.new.taken s) c.in-Stopped-Bad.field-0-is c.in-Stopped-Bad.ensures.is) c.send_refusal.ensures.is
+    c.args.taking.now.buffer c.await_request.new.buffer c.args.taking.now.taken c.await_request.new.taken c.in-Stopped-Bad.ensures.reads c.send_refusal.result c.in-Stopped-Bad.bad
+    (subst (λ s. IsStop c.args.taking.now.limit c.await_request.new.buffer (g.I.Source.told c.await_request.new.input) c.await_request.new.taken s) c.in-Stopped-Bad.field-0-is c.in-Stopped-Bad.ensures.is) c.send_refusal.ensures.is
 
 pub returns-in-Stopped-AtEnd-clause-is : goal.returns-in-Stopped-AtEnd-clause-is
 returns-in-Stopped-AtEnd-clause-is g c =
-    quiet_turn g.H.Handler.steps g.H.Handler.fixed c.args.limit c.args.world.now c.args.world.now (g.K.Keeper.told c.args.keeper.now) (g.K.Keeper.told c.args.keeper.now)
+    quiet_turn g.H.Handler.steps g.H.Handler.fixed c.args.taking.now.limit c.args.world.now c.args.world.now (g.K.Keeper.told c.args.keeper.now) (g.K.Keeper.told c.args.keeper.now)
     (g.I.Source.told c.args.input.now) (g.I.Source.told c.await_request.new.input) (g.O.Sink.told c.args.output.now) (g.O.Sink.told c.args.output.now)
-    c.args.buffer.now c.await_request.new.buffer c.args.taken.now c.await_request.new.taken c.in-Stopped-AtEnd.ensures.reads
-    (subst (λ s. IsStop c.args.limit c.await_request.new.buffer (g.I.Source.told c.await_request.new.input) c.await_request.new.taken s) c.in-Stopped-AtEnd.field-0-is c.in-Stopped-AtEnd.ensures.is)
+    c.args.taking.now.buffer c.await_request.new.buffer c.args.taking.now.taken c.await_request.new.taken c.in-Stopped-AtEnd.ensures.reads
+    (subst (λ s. IsStop c.args.taking.now.limit c.await_request.new.buffer (g.I.Source.told c.await_request.new.input) c.await_request.new.taken s) c.in-Stopped-AtEnd.field-0-is c.in-Stopped-AtEnd.ensures.is)
 
 pub returns-in-Stopped-NoRead-clause-is : goal.returns-in-Stopped-NoRead-clause-is
 returns-in-Stopped-NoRead-clause-is g c =
-    fault_turn g.H.Handler.steps g.H.Handler.fixed c.args.limit c.args.world.now c.args.world.now (g.K.Keeper.told c.args.keeper.now) (g.K.Keeper.told c.args.keeper.now)
+    fault_turn g.H.Handler.steps g.H.Handler.fixed c.args.taking.now.limit c.args.world.now c.args.world.now (g.K.Keeper.told c.args.keeper.now) (g.K.Keeper.told c.args.keeper.now)
     (g.I.Source.told c.args.input.now) (g.I.Source.told c.await_request.new.input) (g.O.Sink.told c.args.output.now) (g.O.Sink.told c.args.output.now)
-    c.args.buffer.now c.await_request.new.buffer c.args.taken.now c.await_request.new.taken c.in-Stopped-NoRead.ensures.reads
-    (subst (λ s. IsStop c.args.limit c.await_request.new.buffer (g.I.Source.told c.await_request.new.input) c.await_request.new.taken s) c.in-Stopped-NoRead.field-0-is c.in-Stopped-NoRead.ensures.is)
+    c.args.taking.now.buffer c.await_request.new.buffer c.args.taking.now.taken c.await_request.new.taken c.in-Stopped-NoRead.ensures.reads
+    (subst (λ s. IsStop c.args.taking.now.limit c.await_request.new.buffer (g.I.Source.told c.await_request.new.input) c.await_request.new.taken s) c.in-Stopped-NoRead.field-0-is c.in-Stopped-NoRead.ensures.is)
 
 pub returns-in-Stopped-Spent-clause-is : goal.returns-in-Stopped-Spent-clause-is
 returns-in-Stopped-Spent-clause-is g c =
-    spent_turn g.H.Handler.steps g.H.Handler.fixed c.args.limit c.args.world.now c.args.world.now (g.K.Keeper.told c.args.keeper.now) (g.K.Keeper.told c.args.keeper.now)
+    spent_turn g.H.Handler.steps g.H.Handler.fixed c.args.taking.now.limit c.args.world.now c.args.world.now (g.K.Keeper.told c.args.keeper.now) (g.K.Keeper.told c.args.keeper.now)
     (g.I.Source.told c.args.input.now) (g.I.Source.told c.await_request.new.input) (g.O.Sink.told c.args.output.now) (g.O.Sink.told c.args.output.now)
-    c.args.buffer.now c.await_request.new.buffer c.args.taken.now c.await_request.new.taken c.in-Stopped-Spent.ensures.reads
-    (subst (λ s. IsStop c.args.limit c.await_request.new.buffer (g.I.Source.told c.await_request.new.input) c.await_request.new.taken s) c.in-Stopped-Spent.field-0-is c.in-Stopped-Spent.ensures.is)
+    c.args.taking.now.buffer c.await_request.new.buffer c.args.taking.now.taken c.await_request.new.taken c.in-Stopped-Spent.ensures.reads
+    (subst (λ s. IsStop c.args.taking.now.limit c.await_request.new.buffer (g.I.Source.told c.await_request.new.input) c.await_request.new.taken s) c.in-Stopped-Spent.field-0-is c.in-Stopped-Spent.ensures.is)
 
 pub returns-in-Found-clause-last_read : goal.returns-in-Found-clause-last_read
 returns-in-Found-clause-last_read g c = λ h. c.in-Found.ensures.last h ∙ sym c.answer_request-turn.ensures.no_read

@@ -1,5 +1,5 @@
 use Rattle.std.proofs.Common.{sym}
-use Rattle.plan_floatings.proofs.AimLemmas.{fixed_four}
+use Rattle.api_floating.proofs.AimLemmas.{fixed_four}
 use Rattle.plan_floatings.proofs.asked.target_at.Goals as goal
 
 pub target_by-requires : goal.target_by-requires

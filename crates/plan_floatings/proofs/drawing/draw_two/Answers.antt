@@ -1,5 +1,4 @@
 use Rattle.std.proofs.Common.{ℕ, List, arith}
-use Rattle.call_parts.specs.State.{State}
 use Rattle.call_parts.proofs.DrawnLemmas.{if_drawn}
 use Rattle.row_laws.specs.Drawn.{AreNew}
 use Rattle.row_laws.proofs.DrawnKept.{drawn_new, draws}
@@ -7,8 +6,8 @@ use Rattle.plan_floatings.proofs.drawing.draw_two.Goals as goal
 
 pub returns-clause-new : goal.returns-clause-new
 returns-clause-new c =
-    let state : State = record { rows = c.args.rows.now; version = c.args.version } in
+    let state = c.args.asking.now.state in
     let owner : List ℕ = c.args.owner.now in
     if_drawn state owner 2 (AreNew 2)
-    (λ d drew. drawn_new state.rows owner 2 d (draws state.rows owner 2 d c.requires.consistent c.requires.named (omega arith) drew))
+    (λ d drew. drawn_new state.rows owner 2 d (draws state.rows owner 2 d c.draw.ensures.consistent c.requires (omega arith) drew))
     c.draw.result c.draw.ensures.drawn

@@ -1,17 +1,17 @@
-use Rattle.std.proofs.Common.{sym}
+use Rattle.std.proofs.Common.{◌∙◌}
 use Rattle.std.proofs.lemmas.Result.{err_from_is_err_and}
-use Rattle.call_parts.specs.State.{State}
 use Rattle.plan_groups.proofs.RuleLemmas.{deletion_leads, deletion_refused}
 use Rattle.plan_groups.proofs.rule_deletion.delete_rule.Goals as goal
 
-pub returns-in_err-check_deletion-clause-err : goal.returns-in_err-check_deletion-clause-err
-returns-in_err-check_deletion-clause-err c =
-    let state : State = record { rows = c.args.rows.now; version = c.args.version } in
-    let p = err_from_is_err_and c.from_residual.result c.from_residual.ensures.1 in
-    rw (p.1, p.2) (deletion_refused state c.args.caller.now c.args.name.now c.in-Some.rule.now (sym c.in-Some.ensures) c.in_err-check_deletion.field-0.0 (c.in_err-check_deletion.ensures c.args.rows.now))
+pub returns-in_err-ensure_deletable-clause-err : goal.returns-in_err-ensure_deletable-clause-err
+returns-in_err-ensure_deletable-clause-err c =
+    let p = err_from_is_err_and c.from_residual-in_err-ensure_deletable.result c.from_residual-in_err-ensure_deletable.ensures.1 in
+    rw (p.1, p.2)
+    (deletion_refused c.args.asking.now.state c.args.asking.now.caller c.args.name.now c.in_ok-rule.rule.now c.in_ok-rule.ensures.found c.in_err-ensure_deletable.field-0.0 c.in_err-ensure_deletable.ensures)
 
 pub returns-clause-ok : goal.returns-clause-ok
-returns-clause-ok c =
-    let state : State = record { rows = c.args.rows.now; version = c.args.version } in
-    deletion_leads state c.args.caller.now c.args.name.now c.in-Some.rule.now (sym c.in-Some.ensures) (c.in_ok-check_deletion.ensures c.args.rows.now) c.in_ok-draft.draft.rows c.in_ok-drop_row.field-0.rows
-    c.in_ok-draft.ensures.rows c.in_ok-drop_row.ensures.rows
+returns-clause-ok c = record {
+  start = c.in_ok-drop_row.ensures.start ∙ (c.in_ok-draft.ensures.start ∙ c.rows.ensures.rows);
+  moved = deletion_leads c.args.asking.now.state c.args.asking.now.caller c.args.name.now c.in_ok-rule.rule.now c.in_ok-rule.ensures.found c.in_ok-ensure_deletable.ensures
+      c.in_ok-draft.draft.rows c.in_ok-drop_row.field-0.rows (c.in_ok-draft.ensures.rows ∙ c.rows.ensures.rows) c.in_ok-drop_row.ensures.rows;
+}

@@ -29,5 +29,5 @@ returns-clause-rows c =
     let drawing = drawing_of c.args.drawn in
     let n = c.in_ok-network.network in
     ok_by_both _ _ _ c.add_with_policies.result
-    (λ p is leads. leads ∙ added_with_policies drawing.rows p.network n drawing (value_or false c.args.form.now.shared) (value_or false c.args.form.now.router_external) is)
-    c.add_with_policies.ensures.network c.add_with_policies.ensures.rows
+    (λ p is leads. leads ∙ added_with_policies drawing.rows p.row n drawing (value_or false c.args.form.now.shared) (value_or false c.args.form.now.router_external) is)
+    c.add_with_policies.ensures.row c.add_with_policies.ensures.rows

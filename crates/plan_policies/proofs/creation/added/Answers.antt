@@ -10,6 +10,6 @@ add-requires c =
     let id_is = ap (λ (l : PolicyRow). l.id) c.in_ok-policy.ensures ∙ c.id-id.ensures c.args.drawn.draft.rows in
     record { new = subst (λ (i : Ident). row_of (λ (l : PolicyRow). l.id) i c.args.drawn.draft.rows.policies ≡ None) (sym id_is) c.requires.new }
 
-pub returns-clause-policy : goal.returns-clause-policy
-returns-clause-policy c =
+pub returns-clause-row : goal.returns-clause-row
+returns-clause-row c =
     c.in_ok-kept.ensures ∙ (c.in_ok-policy.ensures ∙ ap (new_policy c.args.form.now c.args.owner.now c.args.network) (c.id-id.ensures c.args.drawn.draft.rows))

@@ -1,54 +1,61 @@
-use Rattle.std.proofs.Common.{◌≡◌, ◌∙◌, List, ap, inr, subst, sym}
+use Rattle.std.proofs.Common.{◌≡◌, ◌∙◌, List, ap, inr, sym}
 use Rattle.std.proofs.lemmas.Result.{err_from_is_err_and}
 use Rattle.api_ipam.specs.MacChoice.{expected_mac, mac_for}
+use Rattle.api_types.specs.RowLists.{RowLists}
 use Rattle.api_types.specs.declared.port.PortRow.{PortRow}
-use Rattle.call_parts.specs.State.{State}
-use Rattle.plan_ports.specs.Plans.{IsFirstSupply}
-use Rattle.plan_ports.proofs.CallLemmas.{made_chosen, made_refused, made_unfixed, made_unnamed}
+use Rattle.plan_ports.proofs.CallLemmas.{made_chosen, made_refused, made_unfixed, made_unnamed, supply_at}
 use Rattle.plan_ports.proofs.creation.choose.Goals as goal
 
-pub returns-in_err-check_creation-clause-err : goal.returns-in_err-check_creation-clause-err
-returns-in_err-check_creation-clause-err c = λ version.
-    let rows = c.args.rows.now in
+pub returns-in_err-ensure_creatable-clause-err : goal.returns-in_err-ensure_creatable-clause-err
+returns-in_err-ensure_creatable-clause-err c =
+    let settings = c.args.asking.now.settings in
+    let state = c.args.asking.now.state in
+    let caller = c.args.asking.now.caller in
     let form = c.args.form.now in
     let n = c.args.network.now in
-    let state : State = record { rows = rows; version = version } in
-    let named : c.mac_for-mac.result ≡ mac_for rows.ports n.id form.mac_address = c.mac_for-mac.ensures ∙ ap (λ (ports : List PortRow). mac_for ports n.id form.mac_address) (c.rows.ensures.rows ∙ c.ports.ensures) in
-    let is = subst (λ m. IsFirstSupply rows n.id m c.in_ok-supply.supply) (c.expected_mac.ensures ∙ ap expected_mac named) c.in_ok-supply.ensures in
-    let p = err_from_is_err_and c.from_residual-in_err-check_creation.result c.from_residual-in_err-check_creation.ensures.1 in
-    rw (p.1, p.2)
-    (made_refused c.args.settings.now state c.args.caller.now form n c.args.owner.now c.in_ok-supply.supply is c.in_err-check_creation.field-0.0 c.in_err-check_creation.ensures)
+    let s = c.in_ok-supply.supply in
+    let ports = c.rows.ensures.rows ∙ (c.ports.ensures ∙ ap (λ (r : RowLists). r.ports) c.rows-rows.ensures.rows) in
+    let named : c.mac_for-mac.result ≡ mac_for state.rows.ports n.id form.mac_address = c.mac_for-mac.ensures ∙ ap (λ (ps : List PortRow). mac_for ps n.id form.mac_address) ports in
+    let is = supply_at state.rows form n s c.rows-rows.result.now c.expected_mac.result c.rows-rows.ensures.rows (c.expected_mac.ensures ∙ ap expected_mac named) c.in_ok-supply.ensures in
+    let p = err_from_is_err_and c.from_residual-in_err-ensure_creatable.result c.from_residual-in_err-ensure_creatable.ensures.1 in
+    rw (p.1, p.2) (made_refused settings state caller form n c.args.owner.now s is c.in_err-ensure_creatable.field-0.0 c.in_err-ensure_creatable.ensures)
 
 pub returns-in_err-fixed-clause-err : goal.returns-in_err-fixed-clause-err
-returns-in_err-fixed-clause-err c = λ version.
-    let rows = c.args.rows.now in
+returns-in_err-fixed-clause-err c =
+    let settings = c.args.asking.now.settings in
+    let state = c.args.asking.now.state in
+    let caller = c.args.asking.now.caller in
     let form = c.args.form.now in
     let n = c.args.network.now in
-    let state : State = record { rows = rows; version = version } in
-    let named : c.mac_for-mac.result ≡ mac_for rows.ports n.id form.mac_address = c.mac_for-mac.ensures ∙ ap (λ (ports : List PortRow). mac_for ports n.id form.mac_address) (c.rows.ensures.rows ∙ c.ports.ensures) in
-    let is = subst (λ m. IsFirstSupply rows n.id m c.in_ok-supply.supply) (c.expected_mac.ensures ∙ ap expected_mac named) c.in_ok-supply.ensures in
+    let s = c.in_ok-supply.supply in
+    let ports = c.rows.ensures.rows ∙ (c.ports.ensures ∙ ap (λ (r : RowLists). r.ports) c.rows-rows.ensures.rows) in
+    let named : c.mac_for-mac.result ≡ mac_for state.rows.ports n.id form.mac_address = c.mac_for-mac.ensures ∙ ap (λ (ps : List PortRow). mac_for ps n.id form.mac_address) ports in
+    let is = supply_at state.rows form n s c.rows-rows.result.now c.expected_mac.result c.rows-rows.ensures.rows (c.expected_mac.ensures ∙ ap expected_mac named) c.in_ok-supply.ensures in
     let p = err_from_is_err_and c.from_residual-in_err-fixed.result c.from_residual-in_err-fixed.ensures.1 in
-    rw (p.1, p.2)
-    (made_unfixed c.args.settings.now state c.args.caller.now form n c.args.owner.now c.in_ok-supply.supply is c.in_ok-check_creation.ensures c.in_err-fixed.field-0.0 c.in_err-fixed.ensures.spent)
+    rw (p.1, p.2) (made_unfixed settings state caller form n c.args.owner.now s is c.in_ok-ensure_creatable.ensures c.in_err-fixed.field-0.0 c.in_err-fixed.ensures.spent)
 
 pub returns-in-Some-clause-ok : goal.returns-in-Some-clause-ok
-returns-in-Some-clause-ok c = λ version.
-    let rows = c.args.rows.now in
+returns-in-Some-clause-ok c =
+    let settings = c.args.asking.now.settings in
+    let state = c.args.asking.now.state in
+    let caller = c.args.asking.now.caller in
     let form = c.args.form.now in
     let n = c.args.network.now in
-    let state : State = record { rows = rows; version = version } in
-    let named : c.mac_for-mac.result ≡ mac_for rows.ports n.id form.mac_address = c.mac_for-mac.ensures ∙ ap (λ (ports : List PortRow). mac_for ports n.id form.mac_address) (c.rows.ensures.rows ∙ c.ports.ensures) in
-    let is = subst (λ m. IsFirstSupply rows n.id m c.in_ok-supply.supply) (c.expected_mac.ensures ∙ ap expected_mac named) c.in_ok-supply.ensures in
-    made_chosen c.args.settings.now state c.args.caller.now form n c.args.owner.now c.in_ok-supply.supply is c.in_ok-check_creation.ensures c.in_ok-fixed.fixed c.in_ok-fixed.ensures.there
-    c.in-Some.mac (sym named ∙ c.in-Some.is)
+    let s = c.in_ok-supply.supply in
+    let ports = c.rows.ensures.rows ∙ (c.ports.ensures ∙ ap (λ (r : RowLists). r.ports) c.rows-rows.ensures.rows) in
+    let named : c.mac_for-mac.result ≡ mac_for state.rows.ports n.id form.mac_address = c.mac_for-mac.ensures ∙ ap (λ (ps : List PortRow). mac_for ps n.id form.mac_address) ports in
+    let is = supply_at state.rows form n s c.rows-rows.result.now c.expected_mac.result c.rows-rows.ensures.rows (c.expected_mac.ensures ∙ ap expected_mac named) c.in_ok-supply.ensures in
+    made_chosen settings state caller form n c.args.owner.now s is c.in_ok-ensure_creatable.ensures c.in_ok-fixed.fixed c.in_ok-fixed.ensures.there c.in-Some.mac (sym named ∙ c.in-Some.is)
 
 pub returns-in-None-clause-err : goal.returns-in-None-clause-err
-returns-in-None-clause-err c = λ version.
-    let rows = c.args.rows.now in
+returns-in-None-clause-err c =
+    let settings = c.args.asking.now.settings in
+    let state = c.args.asking.now.state in
+    let caller = c.args.asking.now.caller in
     let form = c.args.form.now in
     let n = c.args.network.now in
-    let state : State = record { rows = rows; version = version } in
-    let named : c.mac_for-mac.result ≡ mac_for rows.ports n.id form.mac_address = c.mac_for-mac.ensures ∙ ap (λ (ports : List PortRow). mac_for ports n.id form.mac_address) (c.rows.ensures.rows ∙ c.ports.ensures) in
-    let is = subst (λ m. IsFirstSupply rows n.id m c.in_ok-supply.supply) (c.expected_mac.ensures ∙ ap expected_mac named) c.in_ok-supply.ensures in
-    inr (made_unnamed c.args.settings.now state c.args.caller.now form n c.args.owner.now c.in_ok-supply.supply is c.in_ok-check_creation.ensures c.in_ok-fixed.fixed c.in_ok-fixed.ensures.there
-    (sym named ∙ c.in-None.is))
+    let s = c.in_ok-supply.supply in
+    let ports = c.rows.ensures.rows ∙ (c.ports.ensures ∙ ap (λ (r : RowLists). r.ports) c.rows-rows.ensures.rows) in
+    let named : c.mac_for-mac.result ≡ mac_for state.rows.ports n.id form.mac_address = c.mac_for-mac.ensures ∙ ap (λ (ps : List PortRow). mac_for ps n.id form.mac_address) ports in
+    let is = supply_at state.rows form n s c.rows-rows.result.now c.expected_mac.result c.rows-rows.ensures.rows (c.expected_mac.ensures ∙ ap expected_mac named) c.in_ok-supply.ensures in
+    inr (made_unnamed settings state caller form n c.args.owner.now s is c.in_ok-ensure_creatable.ensures c.in_ok-fixed.fixed c.in_ok-fixed.ensures.there (sym named ∙ c.in-None.is))

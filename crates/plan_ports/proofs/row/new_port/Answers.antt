@@ -8,8 +8,6 @@ use Rattle.plan_ports.proofs.row.new_port.Goals as goal
 -- attribute by attribute
 pub returns : goal.returns
 returns c =
-    let settings = c.args.settings.now in
-    let caller = c.args.caller.now in
     let form = c.args.form.now in
     let n = c.args.network.now in
     let owner = c.args.owner.now in
@@ -24,7 +22,7 @@ returns c =
       name = (c.in_ok-text_or.ensures ∙ ap (λ t. value_or t form.name) c.new-empty.ensures) j;
       description = (c.in_ok-text_or-2.ensures ∙ ap (λ t. value_or t form.description) c.new-empty.ensures) j;
       up = c.value_or.ensures j;
-      mac = c.args.mac;
+      mac = c.args.chosen.mac;
       fixed = c.fixed.view_is j;
       pairs = c.in_ok-pairs_of.ensures j;
       secured = c.value_or-secured.ensures j;
@@ -33,6 +31,6 @@ returns c =
       device = (c.in_ok-text_or-3.ensures ∙ ap (λ t. value_or t form.device_id) c.new-empty.ensures) j;
       owner = (c.in_ok-text_or-4.ensures ∙ ap (λ t. value_or t form.device_owner) c.new-empty.ensures) j;
       host = host_is j;
-      vif = (c.bind.ensures ∙ ap (bound settings n.segment) host_is) j;
-      by_admin = (c.is_marked.ensures ∙ ap (λ r. is_marked r caller owner n) c.rows-rows.ensures) j;
+      vif = (c.bind.ensures ∙ (λ k. bound (c.settings.ensures k) n.segment (host_is k))) j;
+      by_admin = (c.is_marked.ensures ∙ (λ k. is_marked (c.rows-rows.ensures k) (c.caller.ensures k) owner n)) j;
     }

@@ -19,14 +19,14 @@ pub returns-clause-rows : goal.returns-clause-rows
 returns-clause-rows c =
     let rows : RowLists = c.args.drawn.draft.rows in
     let i : Ident = ident c.args.drawn.ordinal (c.args.drawn.first + 0) in
-    let port_is : c.in_ok-port.port ≡ interface_port c.args.settings.now rows c.args.caller.now c.args.router.now c.args.network.now i c.args.mac c.args.fixed =
-    c.in_ok-port.ensures ∙ (λ j. interface_port c.args.settings.now (c.rows.ensures j) c.args.caller.now c.args.router.now c.args.network.now (c.id-id.ensures rows j) c.args.mac c.args.fixed) in
+    let port_is : c.in_ok-port.port ≡ interface_port c.args.asking.now.settings rows c.args.asking.now.caller c.args.router.now c.args.network.now i c.args.mac c.args.fixed =
+    c.in_ok-port.ensures ∙ (λ j. interface_port c.args.asking.now.settings (c.rows.ensures j) c.args.asking.now.caller c.args.router.now c.args.network.now (c.id-id.ensures rows j) c.args.mac c.args.fixed) in
     c.in_ok-add.ensures.rows ∙ ap (λ (p : PortRow). with_added rows (Port p)) port_is
 
 pub returns-clause-shown : goal.returns-clause-shown
 returns-clause-shown c =
     let rows : RowLists = c.args.drawn.draft.rows in
     let i : Ident = ident c.args.drawn.ordinal (c.args.drawn.first + 0) in
-    let port_is : c.in_ok-port.port ≡ interface_port c.args.settings.now rows c.args.caller.now c.args.router.now c.args.network.now i c.args.mac c.args.fixed =
-    c.in_ok-port.ensures ∙ (λ j. interface_port c.args.settings.now (c.rows.ensures j) c.args.caller.now c.args.router.now c.args.network.now (c.id-id.ensures rows j) c.args.mac c.args.fixed) in
+    let port_is : c.in_ok-port.port ≡ interface_port c.args.asking.now.settings rows c.args.asking.now.caller c.args.router.now c.args.network.now i c.args.mac c.args.fixed =
+    c.in_ok-port.ensures ∙ (λ j. interface_port c.args.asking.now.settings (c.rows.ensures j) c.args.asking.now.caller c.args.router.now c.args.network.now (c.id-id.ensures rows j) c.args.mac c.args.fixed) in
     c.in_ok-shown.ensures ∙ ap (λ (p : PortRow). interface_shown c.args.router.now p c.args.fixed.subnet) port_is

@@ -10,6 +10,6 @@ add-requires c =
     let id_is = ap (λ (r : RouterRow). r.id) c.in_ok-router.ensures ∙ c.id.ensures c.args.drawn.draft.rows in
     record { new = subst (λ (i : Ident). row_of (λ (r : RouterRow). r.id) i c.args.drawn.draft.rows.routers ≡ None) (sym id_is) c.requires.new }
 
-pub returns-clause-router : goal.returns-clause-router
-returns-clause-router c =
-    c.in_ok-kept.ensures ∙ (c.in_ok-router.ensures ∙ ap (new_router c.args.settings.now c.args.form.now c.args.owner.now) (c.id.ensures c.args.drawn.draft.rows))
+pub returns-clause-row : goal.returns-clause-row
+returns-clause-row c =
+    c.in_ok-kept.ensures ∙ (c.in_ok-router.ensures ∙ (λ j. new_router (c.settings.ensures j) c.args.form.now c.args.owner.now (c.id.ensures c.args.drawn.draft.rows j)))

@@ -25,25 +25,30 @@ set_gateway-requires c =
     subst (λ (i : Ident). row_of (λ (p : PortRow). p.id) i c.in_ok-draft.draft.rows.ports ≡ None) (sym c.make-id.ensures)
     (subst (λ (r : RowLists). row_of (λ (p : PortRow). p.id) (ident c.args.drawn.ordinal (c.args.drawn.first + 1)) r.ports ≡ None) (sym c.in_ok-draft.ensures.rows) c.requires.new_port)
 
-pub returns-clause-router : goal.returns-clause-router
-returns-clause-router c =
+pub returns-clause-row : goal.returns-clause-row
+returns-clause-row c =
+    let settings = c.args.asking.now.settings in
     let n = c.args.network.now in
     let form = c.args.form.now in
+    let owner = c.args.owner.now in
     let start : c.args.drawn.first ≡ c.args.drawn.first + 0 = omega arith in
-    let first_is : c.in_ok-router.router ≡ new_router c.args.settings.now form c.args.owner.now (ident c.args.drawn.ordinal (c.args.drawn.first + 0)) =
-    c.in_ok-router.ensures ∙ ap (new_router c.args.settings.now form c.args.owner.now) (c.make.ensures ∙ ap (ident c.args.drawn.ordinal) start) in
+    let id : c.make.result ≡ ident c.args.drawn.ordinal (c.args.drawn.first + 0) = c.make.ensures ∙ ap (ident c.args.drawn.ordinal) start in
+    let first_is : c.in_ok-router.router ≡ new_router settings form owner (ident c.args.drawn.ordinal (c.args.drawn.first + 0)) =
+    c.in_ok-router.ensures ∙ (λ j. new_router (c.settings.ensures j) form owner (id j)) in
     let snat_is : c.unwrap_or-snat.result ≡ unwrap_or (snat_asked form) true = c.unwrap_or-snat.ensures ∙ ap (λ o. unwrap_or o true) c.snat_asked.ensures in
-    subst (λ (r : RouterRow). IfOk c.set_gateway.result (λ p. p.router ≡ r)) (λ j. with_gateway (first_is j) n.id (c.make-id.ensures j) (snat_is j)) c.set_gateway.ensures.router
+    subst (λ (r : RouterRow). IfOk c.set_gateway.result (λ p. p.row ≡ r)) (λ j. with_gateway (first_is j) n.id (c.make-id.ensures j) (snat_is j)) c.set_gateway.ensures.row
 
 pub returns-clause-rows : goal.returns-clause-rows
 returns-clause-rows c =
-    let settings = c.args.settings.now in
+    let settings = c.args.asking.now.settings in
     let n = c.args.network.now in
     let form = c.args.form.now in
+    let owner = c.args.owner.now in
     let rows : RowLists = c.args.drawn.draft.rows in
     let start : c.args.drawn.first ≡ c.args.drawn.first + 0 = omega arith in
-    let first_is : c.in_ok-router.router ≡ new_router settings form c.args.owner.now (ident c.args.drawn.ordinal (c.args.drawn.first + 0)) =
-    c.in_ok-router.ensures ∙ ap (new_router settings form c.args.owner.now) (c.make.ensures ∙ ap (ident c.args.drawn.ordinal) start) in
+    let id : c.make.result ≡ ident c.args.drawn.ordinal (c.args.drawn.first + 0) = c.make.ensures ∙ ap (ident c.args.drawn.ordinal) start in
+    let first_is : c.in_ok-router.router ≡ new_router settings form owner (ident c.args.drawn.ordinal (c.args.drawn.first + 0)) =
+    c.in_ok-router.ensures ∙ (λ j. new_router (c.settings.ensures j) form owner (id j)) in
     let snat_is : c.unwrap_or-snat.result ≡ unwrap_or (snat_asked form) true = c.unwrap_or-snat.ensures ∙ ap (λ o. unwrap_or o true) c.snat_asked.ensures in
     let added : c.in_ok-draft.draft.rows ≡ with_added rows (Router c.in_ok-router.router) = c.in_ok-draft.ensures.rows in
     let added_first = added ∙ ap (λ (r : RouterRow). with_added rows (Router r)) first_is in

@@ -1,5 +1,4 @@
 use Rattle.std.proofs.Common.{ℕ, ◌≤◌, List, arith}
-use Rattle.call_parts.specs.State.{State}
 use Rattle.call_parts.proofs.DrawnLemmas.{if_drawn}
 use Rattle.row_laws.specs.Drawn.{AreNew}
 use Rattle.row_laws.proofs.DrawnKept.{drawn_new, draws}
@@ -7,9 +6,9 @@ use Rattle.plan_routers.proofs.drawing.draw_new.Goals as goal
 
 pub returns-clause-new : goal.returns-clause-new
 returns-clause-new c =
-    let state : State = record { rows = c.args.rows.now; version = c.args.version } in
+    let state = c.args.asking.now.state in
     let owner : List ℕ = c.args.owner.now in
     let few : c.args.many ≤ 3 = c.requires.few in
     if_drawn state owner c.args.many (AreNew c.args.many)
-    (λ d drew. drawn_new state.rows owner c.args.many d (draws state.rows owner c.args.many d c.requires.consistent c.requires.named (omega arith) drew))
+    (λ d drew. drawn_new state.rows owner c.args.many d (draws state.rows owner c.args.many d c.draw.ensures.consistent c.requires.named (omega arith) drew))
     c.draw.result c.draw.ensures.drawn

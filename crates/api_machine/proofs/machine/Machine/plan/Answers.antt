@@ -1,27 +1,30 @@
-use Rattle.std.proofs.Common.{◌≡◌, ◌∙◌, IfErr, IfOk, subst, sym}
+use Rattle.std.proofs.Common.{◌≡◌, ◌∙◌, ◌<◌, ◌^◌, IfErr, IfOk, subst, sym}
 use Rattle.std.specs.Prelude.{not}
 use Rattle.api_types.specs.Lists.{is_empty}
 use Rattle.api_types.specs.Printed.{reply_of}
-use Rattle.call_parts.specs.InForm.{is_call}
-use Rattle.api_machine.specs.WholeStep.{api_step}
-use Rattle.api_machine.specs.Machine.{MachineParts, state_of}
 use Rattle.call_parts.specs.Answers.{IsRefusalOf}
-use Rattle.api_machine.specs.Plan.{Plans}
+use Rattle.call_parts.specs.Asking.{AskingParts}
+use Rattle.call_parts.specs.InForm.{is_call}
+use Rattle.api_machine.specs.Machine.{MachineParts, state_of}
+use Rattle.api_machine.specs.Plan.{Answers}
+use Rattle.api_machine.specs.WholeStep.{api_step}
 use Rattle.api_types.proofs.ListLemmas.{and_both}
-use Rattle.api_machine.proofs.PlanLemmas.{if_err, if_ok, planned_told, refused_alike, told_alike}
+use Rattle.api_machine.proofs.PlanLemmas.{if_err, if_ok, planned_so, planned_told, refused_alike, told_alike}
 use Rattle.api_machine.proofs.machine.Machine.plan.Goals as goal
 
 pub returns-clause-ok : goal.returns-clause-ok
 returns-clause-ok c =
-    let m : MachineParts = record { settings = c.settings.result.now; rows = c.rows-rows.result.now; version = c.version.result } in
-    let same : m ≡ c.args.self.now = (λ j. record { settings = c.settings.ensures.value j; rows = c.rows-rows.ensures.rows j; version = c.version.ensures j }) in
-    subst (λ (n : MachineParts). IfOk c.plan_call.result (Plans n.settings (state_of n) (api_step n.settings (state_of n) c.args.caller.now c.args.call.now))) same c.plan_call.ensures.ok
+    let n : MachineParts = c.args.self.now in
+    let asked = c.make-asking.ensures ∙ (λ j. record { settings = c.settings.ensures.value j; state = state_of (c.self.view_is j); caller = c.args.caller.now }) in
+    let answered = subst (λ (a : AskingParts). IfOk c.plan_call.result (Answers a.state (api_step a.settings a.state a.caller c.args.call.now))) asked c.plan_call.ensures.ok in
+    let within = subst (λ v. v < 2 ^ 64) c.version-version.ensures c.version-version.type_inv in
+    if_ok _ _ c.plan_call.result (λ p answers. planned_so n.settings (state_of n) c.args.caller.now c.args.call.now c.settings.ensures.rules c.rows-rows.ensures.consistent
+    c.rows-rows.ensures.typed c.requires.in_form within p.change (reply_of p.answer) answers) answered
 
 pub returns-clause-err : goal.returns-clause-err
 returns-clause-err c =
-    let m : MachineParts = record { settings = c.settings.result.now; rows = c.rows-rows.result.now; version = c.version.result } in
-    let same : m ≡ c.args.self.now = (λ j. record { settings = c.settings.ensures.value j; rows = c.rows-rows.ensures.rows j; version = c.version.ensures j }) in
-    subst (λ (n : MachineParts). IfErr c.plan_call.result (IsRefusalOf (api_step n.settings (state_of n) c.args.caller.now c.args.call.now))) same c.plan_call.ensures.err
+    let asked = c.make-asking.ensures ∙ (λ j. record { settings = c.settings.ensures.value j; state = state_of (c.self.view_is j); caller = c.args.caller.now }) in
+    subst (λ (a : AskingParts). IfErr c.plan_call.result (IsRefusalOf (api_step a.settings a.state a.caller c.args.call.now))) asked c.plan_call.ensures.err
 
 pub returns-clause-answer_apart : goal.returns-clause-answer_apart
 returns-clause-answer_apart c other alike =

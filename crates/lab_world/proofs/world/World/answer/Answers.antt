@@ -4,7 +4,7 @@ use Rattle.api_types.specs.Printed.{reply_of}
 use Rattle.api_types.specs.Rows.{after}
 use Rattle.api_machine.specs.Plan.{PlansAs}
 use Rattle.api_machine.specs.WholeStep.{api_step}
-use Rattle.api_machine.specs.Kept.{AreKept}
+use Rattle.kept_laws.specs.Kept.{AreKept}
 use Rattle.api_machine.specs.Machine.{state_at}
 use Rattle.world_laws.specs.World.{World}
 use Rattle.api_machine.proofs.OwnRefusals.{no_plan_fault}

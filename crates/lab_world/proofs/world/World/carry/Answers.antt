@@ -62,7 +62,7 @@ invariant_of-self-2 c =
     let parts = same_parts i.machine.settings i.machine.rows i.machine.version i.bus i.hosts i.manual c.self.invariant c.reserve.new.self same in
     (carries_on i.machine.settings i.machine.rows i.machine.version i.bus c.reserve.new.self i.manual parts c.args.caller.now c.args.event.now c.in_ok-verdict.verdict c.as_slice.result.now c.keep.new.self c.args.self.now
     (ap (λ (agents : List Agent). record (world_seen i.machine.settings i.machine.rows i.machine.version i.bus i.hosts i.manual) { agents = agents }) same ∙ c.self.view_is)
-    (ap (λ rows. event_refusal rows c.args.caller.now c.args.event.now) (sym c.rows.ensures.rows) ∙ c.in_ok-bar_event.ensures.ok) c.in_ok-verdict.ensures c.as_slice.ensures c.keep.ensures).0
+    (ap (λ rows. event_refusal rows c.args.caller.now c.args.event.now) (sym c.rows.ensures.rows) ∙ c.in_ok-ensure_event_allowed.ensures.ok) c.in_ok-verdict.ensures c.as_slice.ensures c.keep.ensures).0
 
 pub returns-clause-ok : goal.returns-clause-ok
 returns-clause-ok c =
@@ -71,4 +71,4 @@ returns-clause-ok c =
     let parts = same_parts i.machine.settings i.machine.rows i.machine.version i.bus i.hosts i.manual c.self.invariant c.reserve.new.self same in
     (carries_on i.machine.settings i.machine.rows i.machine.version i.bus c.reserve.new.self i.manual parts c.args.caller.now c.args.event.now c.in_ok-verdict.verdict c.as_slice.result.now c.keep.new.self c.args.self.now
     (ap (λ (agents : List Agent). record (world_seen i.machine.settings i.machine.rows i.machine.version i.bus i.hosts i.manual) { agents = agents }) same ∙ c.self.view_is)
-    (ap (λ rows. event_refusal rows c.args.caller.now c.args.event.now) (sym c.rows.ensures.rows) ∙ c.in_ok-bar_event.ensures.ok) c.in_ok-verdict.ensures c.as_slice.ensures c.keep.ensures).1
+    (ap (λ rows. event_refusal rows c.args.caller.now c.args.event.now) (sym c.rows.ensures.rows) ∙ c.in_ok-ensure_event_allowed.ensures.ok) c.in_ok-verdict.ensures c.as_slice.ensures c.keep.ensures).1

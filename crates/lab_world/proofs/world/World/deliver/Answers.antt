@@ -12,13 +12,13 @@ pub returns-in_err-at-clause-err : goal.returns-in_err-at-clause-err
 returns-in_err-at-clause-err c =
     let i = c.self.inside in
     let p = err_from_is_err_and c.from_residual-in_err-at.result c.from_residual-in_err-at.ensures.1 in
-    rw (p.1, p.2) (refl, barred i.machine.settings i.machine.rows i.machine.version i.bus i.hosts i.manual c.self.invariant c.args.caller.now c.args.name.now (λ w a. delivered w c.args.name.now c.args.number a (change_at w.history c.args.number)) c.args.self.now c.self.view_is c.in_ok-bar_tenant.ensures.ok c.in_err-at.field-0.0 c.in_err-at.ensures.err)
+    rw (p.1, p.2) (refl, barred i.machine.settings i.machine.rows i.machine.version i.bus i.hosts i.manual c.self.invariant c.args.caller.now c.args.name.now (λ w a. delivered w c.args.name.now c.args.number a (change_at w.history c.args.number)) c.args.self.now c.self.view_is c.in_ok-ensure_admin.ensures.ok c.in_err-at.field-0.0 c.in_err-at.ensures.err)
 
 pub returns-in_err-change-clause-err : goal.returns-in_err-change-clause-err
 returns-in_err-change-clause-err c =
     let i = c.self.inside in
     let p = err_from_is_err_and c.from_residual-in_err-change.result c.from_residual-in_err-change.ensures.1 in
-    rw (p.1, p.2) (refl, ungiven i.machine.settings i.machine.rows i.machine.version i.bus i.hosts i.manual c.self.invariant c.args.caller.now c.args.name.now c.in_ok-at.at c.args.number c.args.self.now c.self.view_is c.in_ok-bar_tenant.ensures.ok c.in_ok-at.ensures.ok c.in_err-change.field-0.0 c.in_err-change.ensures.err)
+    rw (p.1, p.2) (refl, ungiven i.machine.settings i.machine.rows i.machine.version i.bus i.hosts i.manual c.self.invariant c.args.caller.now c.args.name.now c.in_ok-at.at c.args.number c.args.self.now c.self.view_is c.in_ok-ensure_admin.ensures.ok c.in_ok-at.ensures.ok c.in_err-change.field-0.0 c.in_err-change.ensures.err)
 
 pub deliver-requires-clause-within : goal.deliver-requires-clause-within
 deliver-requires-clause-within c = let named = c.in_ok-at.ensures.ok in slice_get_within c.self.inside.hosts c.in_ok-at.at named.0 named.1
@@ -35,11 +35,11 @@ invariant_of-self-2 c =
     let i = c.self.inside in
     let kept : change_of i.machine.version i.bus.changes c.args.number ≡ Some c.in_ok-change.change.now =
     subst (λ (n : ℕ). change_of n i.bus.changes c.args.number ≡ Some c.in_ok-change.change.now) c.self.invariant.numbered c.in_ok-change.ensures.ok in
-    (delivers i.machine.settings i.machine.rows i.machine.version i.bus i.hosts i.manual c.self.invariant c.args.caller.now c.args.name.now c.in_ok-at.at c.args.number c.in_ok-change.change.now c.in_ok-heard.heard c.deliver.new.self c.args.self.now c.self.view_is c.in_ok-bar_tenant.ensures.ok c.in_ok-at.ensures.ok kept c.in_ok-heard.ensures.heard c.in_ok-heard.ensures.ok).0
+    (delivers i.machine.settings i.machine.rows i.machine.version i.bus i.hosts i.manual c.self.invariant c.args.caller.now c.args.name.now c.in_ok-at.at c.args.number c.in_ok-change.change.now c.in_ok-heard.heard c.deliver.new.self c.args.self.now c.self.view_is c.in_ok-ensure_admin.ensures.ok c.in_ok-at.ensures.ok kept c.in_ok-heard.ensures.heard c.in_ok-heard.ensures.ok).0
 
 pub returns-clause-ok : goal.returns-clause-ok
 returns-clause-ok c =
     let i = c.self.inside in
     let kept : change_of i.machine.version i.bus.changes c.args.number ≡ Some c.in_ok-change.change.now =
     subst (λ (n : ℕ). change_of n i.bus.changes c.args.number ≡ Some c.in_ok-change.change.now) c.self.invariant.numbered c.in_ok-change.ensures.ok in
-    (delivers i.machine.settings i.machine.rows i.machine.version i.bus i.hosts i.manual c.self.invariant c.args.caller.now c.args.name.now c.in_ok-at.at c.args.number c.in_ok-change.change.now c.in_ok-heard.heard c.deliver.new.self c.args.self.now c.self.view_is c.in_ok-bar_tenant.ensures.ok c.in_ok-at.ensures.ok kept c.in_ok-heard.ensures.heard c.in_ok-heard.ensures.ok).1
+    (delivers i.machine.settings i.machine.rows i.machine.version i.bus i.hosts i.manual c.self.invariant c.args.caller.now c.args.name.now c.in_ok-at.at c.args.number c.in_ok-change.change.now c.in_ok-heard.heard c.deliver.new.self c.args.self.now c.self.view_is c.in_ok-ensure_admin.ensures.ok c.in_ok-at.ensures.ok kept c.in_ok-heard.ensures.heard c.in_ok-heard.ensures.ok).1

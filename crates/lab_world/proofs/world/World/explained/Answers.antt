@@ -16,5 +16,5 @@ returns-clause-ok c =
     let w : World = world_seen m.settings m.rows m.version i.bus i.hosts i.manual in
     subst (λ (v : World). lab_outcome v c.args.caller.now (Explain c.args.event.now) ≡ Answered (Seen c.in_ok-verdict.verdict) v) c.self.view_is
     (explained_told w c.args.caller.now c.args.event.now c.in_ok-verdict.verdict
-    (ap (λ rows. event_refusal rows c.args.caller.now c.args.event.now) (sym c.rows.ensures.rows) ∙ c.in_ok-bar_event.ensures.ok)
+    (ap (λ rows. event_refusal rows c.args.caller.now c.args.event.now) (sym c.rows.ensures.rows) ∙ c.in_ok-ensure_event_allowed.ensures.ok)
     (c.in_ok-verdict.ensures ∙ (λ j. rows_verdict (c.rows-2.ensures.rows j) ((c.in_ok-entries.ensures ∙ entries_joined i.hosts) j) c.args.event.now)))

@@ -3,7 +3,7 @@ use Rattle.std.specs.Prelude.{is_some}
 use Rattle.api_types.specs.Consistent.{IsConsistent}
 use Rattle.api_types.specs.RowLists.{RowLists}
 use Rattle.api_types.specs.Rows.{Fits, after}
-use Rattle.api_machine.specs.Kept.{AreKept}
+use Rattle.kept_laws.specs.Kept.{AreKept}
 use Rattle.api_machine.specs.Machine.{MachineParts}
 use Rattle.plane_types.specs.Node.{Ready, agents_of}
 use Rattle.bus_core.specs.Kept.{Kept}

@@ -1,6 +1,6 @@
 use Rattle.std.proofs.Common.{◌∙◌, ◌≡◌, List, [], map, refl, subst, sym}
 use Rattle.api_types.specs.Consistent.{IsConsistent}
-use Rattle.api_machine.specs.Kept.{HostsCarry}
+use Rattle.kept_laws.specs.Kept.{HostsCarry}
 use Rattle.call_parts.specs.Typed.{AreTyped}
 use Rattle.net_settings.specs.Rules.{MeetsRules}
 use Rattle.plane_types.specs.Node.{Agent, agents_of, first_agent}

@@ -21,7 +21,7 @@ returns-then-version-now-clause-err c =
     let i = c.self.inside in
     let differs = ne_eqb c.args.version c.version-now.result c.if-version-now.true in
     inr (subst (λ (w : World). lab_outcome w c.args.caller.now (call.Page c.args.version c.args.number) ≡ Barred (VersionMoved c.args.version c.version-now.result)) c.self.view_is
-    (page_moved i.machine.settings i.machine.rows i.machine.version i.bus i.hosts i.manual c.self.invariant c.args.caller.now c.args.version c.args.number c.in_ok-bar_tenant.ensures.ok
+    (page_moved i.machine.settings i.machine.rows i.machine.version i.bus i.hosts i.manual c.self.invariant c.args.caller.now c.args.version c.args.number c.in_ok-ensure_admin.ensures.ok
     (subst (λ n. (c.args.version == n) ≡ false) c.version-now.ensures differs)
     ∙ ap (λ n. Barred (VersionMoved c.args.version n)) (sym c.version-now.ensures)))
 
@@ -32,7 +32,7 @@ returns-in-Some-clause-ok c =
     c.rows.ensures.rows (of_some _ _ c.in_ok-found.found c.in-Some.page c.in-Some.is c.in_ok-found.ensures) in
     let same = eq-eqb c.args.version i.machine.version (c.if-version-now.false ∙ c.version-now.ensures) in
     subst (λ (w : World). lab_outcome w c.args.caller.now (call.Page c.args.version c.args.number) ≡ Answered (Page c.args.version c.args.number c.in-Some.page.last c.in-Some.page.rows) w) c.self.view_is
-    (page_seen i.machine.settings i.machine.rows i.machine.version i.bus i.hosts i.manual c.self.invariant c.args.caller.now c.args.version c.args.number c.in-Some.page.last c.in-Some.page.rows c.in_ok-bar_tenant.ensures.ok
+    (page_seen i.machine.settings i.machine.rows i.machine.version i.bus i.hosts i.manual c.self.invariant c.args.caller.now c.args.version c.args.number c.in-Some.page.last c.in-Some.page.rows c.in_ok-ensure_admin.ensures.ok
     same found.0 found.1 found.2)
 
 pub returns-in-None-clause-err : goal.returns-in-None-clause-err
@@ -41,4 +41,4 @@ returns-in-None-clause-err c =
     let missing = subst (λ (r : RowLists). is_page c.args.number (all_rows r) ≡ false) c.rows.ensures.rows (of_none _ _ c.in_ok-found.found c.in-None.is c.in_ok-found.ensures) in
     let same = eq-eqb c.args.version i.machine.version (c.if-version-now.false ∙ c.version-now.ensures) in
     inr (subst (λ (w : World). lab_outcome w c.args.caller.now (call.Page c.args.version c.args.number) ≡ Barred (NoPage c.args.number)) c.self.view_is
-    (page_missing i.machine.settings i.machine.rows i.machine.version i.bus i.hosts i.manual c.self.invariant c.args.caller.now c.args.version c.args.number c.in_ok-bar_tenant.ensures.ok same missing))
+    (page_missing i.machine.settings i.machine.rows i.machine.version i.bus i.hosts i.manual c.self.invariant c.args.caller.now c.args.version c.args.number c.in_ok-ensure_admin.ensures.ok same missing))

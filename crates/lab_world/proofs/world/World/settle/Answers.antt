@@ -24,7 +24,7 @@ invariant_of-self c =
     c.in_ok-ready.ensures ∙ (λ j. map (ready_for (c.version-version.ensures j) (c.rows.ensures.rows j)) (agents_of i.hosts)) in
     let put : agents_of c.settle.new.self ≡ settle_each i.machine.version (map (ready_for i.machine.version i.machine.rows) (agents_of i.hosts)) (agents_of i.hosts) =
     c.settle.ensures ∙ (λ j. settle_each (c.version-version.ensures j) (ready j) (agents_of i.hosts)) in
-    (settles i.machine.settings i.machine.rows i.machine.version i.bus i.hosts i.manual c.self.invariant c.args.caller.now c.in_ok-states.states c.settle.new.self c.args.self.now c.self.view_is c.in_ok-bar_tenant.ensures.ok told put).0
+    (settles i.machine.settings i.machine.rows i.machine.version i.bus i.hosts i.manual c.self.invariant c.args.caller.now c.in_ok-states.states c.settle.new.self c.args.self.now c.self.view_is c.in_ok-ensure_admin.ensures.ok told put).0
 
 pub returns-clause-ok : goal.returns-clause-ok
 returns-clause-ok c =
@@ -35,4 +35,4 @@ returns-clause-ok c =
     c.in_ok-ready.ensures ∙ (λ j. map (ready_for (c.version-version.ensures j) (c.rows.ensures.rows j)) (agents_of i.hosts)) in
     let put : agents_of c.settle.new.self ≡ settle_each i.machine.version (map (ready_for i.machine.version i.machine.rows) (agents_of i.hosts)) (agents_of i.hosts) =
     c.settle.ensures ∙ (λ j. settle_each (c.version-version.ensures j) (ready j) (agents_of i.hosts)) in
-    (settles i.machine.settings i.machine.rows i.machine.version i.bus i.hosts i.manual c.self.invariant c.args.caller.now c.in_ok-states.states c.settle.new.self c.args.self.now c.self.view_is c.in_ok-bar_tenant.ensures.ok told put).1
+    (settles i.machine.settings i.machine.rows i.machine.version i.bus i.hosts i.manual c.self.invariant c.args.caller.now c.in_ok-states.states c.settle.new.self c.args.self.now c.self.view_is c.in_ok-ensure_admin.ensures.ok told put).1

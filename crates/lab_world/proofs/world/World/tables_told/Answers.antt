@@ -21,12 +21,12 @@ pub returns-clause-ok : goal.returns-clause-ok
 returns-clause-ok c =
     let i = c.self.inside in
     if_ok _ (λ answer. lab_outcome c.args.self.now c.args.caller.now (Tables c.args.name.now) ≡ Answered answer c.args.self.now) c.tables_of.result
-    (λ answer found. subst (λ (w : World). lab_outcome w c.args.caller.now (Tables c.args.name.now) ≡ Answered answer w) c.self.view_is (tables_seen i.machine.settings i.machine.rows i.machine.version i.bus i.hosts i.manual c.self.invariant c.args.caller.now c.args.name.now answer c.in_ok-bar_tenant.ensures.ok found))
+    (λ answer found. subst (λ (w : World). lab_outcome w c.args.caller.now (Tables c.args.name.now) ≡ Answered answer w) c.self.view_is (tables_seen i.machine.settings i.machine.rows i.machine.version i.bus i.hosts i.manual c.self.invariant c.args.caller.now c.args.name.now answer c.in_ok-ensure_admin.ensures.ok found))
     c.tables_of.ensures.ok
 
 pub returns-clause-err : goal.returns-clause-err
 returns-clause-err c =
     let i = c.self.inside in
     if_err _ (IsBarred (lab_outcome c.args.self.now c.args.caller.now (Tables c.args.name.now))) c.tables_of.result
-    (λ refusal is. barred i.machine.settings i.machine.rows i.machine.version i.bus i.hosts i.manual c.self.invariant c.args.caller.now c.args.name.now (λ w a. Answered (answers.Tables a.tables) w) c.args.self.now c.self.view_is c.in_ok-bar_tenant.ensures.ok refusal is)
+    (λ refusal is. barred i.machine.settings i.machine.rows i.machine.version i.bus i.hosts i.manual c.self.invariant c.args.caller.now c.args.name.now (λ w a. Answered (answers.Tables a.tables) w) c.args.self.now c.self.view_is c.in_ok-ensure_admin.ensures.ok refusal is)
     c.tables_of.ensures.err

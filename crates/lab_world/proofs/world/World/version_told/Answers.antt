@@ -10,4 +10,4 @@ pub returns-clause-ok : goal.returns-clause-ok
 returns-clause-ok c =
     let i = c.self.inside in
     subst (λ (w : World). lab_outcome w c.args.caller.now call.Version ≡ Answered (Version c.first.result c.last.result) w) c.self.view_is
-    (version_seen i.machine.settings i.machine.rows i.machine.version i.bus i.hosts i.manual c.self.invariant c.args.caller.now c.first.result c.last.result c.in_ok-bar_tenant.ensures.ok c.first.ensures c.last.ensures)
+    (version_seen i.machine.settings i.machine.rows i.machine.version i.bus i.hosts i.manual c.self.invariant c.args.caller.now c.first.result c.last.result c.in_ok-ensure_admin.ensures.ok c.first.ensures c.last.ensures)

@@ -1,0 +1,3 @@
+pub mod RouterChecks
+pub mod RouterRules
+pub mod Ways

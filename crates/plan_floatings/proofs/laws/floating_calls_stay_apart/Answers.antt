@@ -1,0 +1,14 @@
+use Rattle.plan_floatings.proofs.FloatingCallsApart.{floating_created_apart, floating_deleted_apart, floating_updated_apart}
+use Rattle.plan_floatings.proofs.laws.floating_calls_stay_apart.Goals as goal
+
+pub returns-clause-created : goal.returns-clause-created
+returns-clause-created c settings form caller s t tenant named known other same =
+    floating_created_apart settings caller tenant s t known other same form
+
+pub returns-clause-updated : goal.returns-clause-updated
+returns-clause-updated c settings name form caller s t tenant named known other same =
+    floating_updated_apart settings caller tenant s t known other same name form
+
+pub returns-clause-deleted : goal.returns-clause-deleted
+returns-clause-deleted c settings name caller s t tenant named known other same =
+    floating_deleted_apart settings caller tenant s t known other same name

@@ -1,0 +1,14 @@
+use Rattle.plan_networks.proofs.NetworkCallsApart.{network_created_apart, network_deleted_apart, network_updated_apart}
+use Rattle.plan_networks.proofs.laws.network_calls_stay_apart.Goals as goal
+
+pub returns-clause-created : goal.returns-clause-created
+returns-clause-created c settings form caller s t tenant named known other same =
+    network_created_apart settings caller tenant named s t known other same form
+
+pub returns-clause-updated : goal.returns-clause-updated
+returns-clause-updated c settings name form caller s t tenant named known other same =
+    network_updated_apart settings caller tenant named s t known other same name form
+
+pub returns-clause-deleted : goal.returns-clause-deleted
+returns-clause-deleted c settings name caller s t tenant named known other same =
+    network_deleted_apart settings caller tenant named s t known other same name
