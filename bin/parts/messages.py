@@ -6,15 +6,16 @@ import re
 LENGTH = re.compile(rb"(?im)^content-length:[ \t]*([0-9]+)[ \t]*\r?$")
 
 
-def request(method, path, body=None, project="a", admin=False):
-    """The bytes of a request. A body is bytes, or a value that is written as JSON."""
+def request(method, path, body=None, project="a", admin=False, fields=""):
+    """The bytes of a request. A body is bytes, or a value that is written as JSON. Further fields are
+    lines."""
     text = b"" if body is None else body if isinstance(body, bytes) else json.dumps(body).encode()
     head = f"{method} {path} HTTP/1.1\r\nX-Project-Id: {project}\r\n"
     if admin:
         head += "X-Roles: admin\r\n"
     if body is not None:
         head += f"Content-Length: {len(text)}\r\n"
-    return head.encode() + b"\r\n" + text
+    return (head + fields).encode() + b"\r\n" + text
 
 
 def body_length(head):

@@ -16,6 +16,10 @@ sys.path.insert(0, os.path.join(TOP, "bin/parts"))
 from messages import body_length, messages_in, read_reply, request  # pylint: disable=wrong-import-position,unused-import
 
 PROGRAM = os.environ.get("PROGRAM", os.path.join(TOP, "crates/neutron/out/neutron"))
+# Callgrind. The C library clears and copies more than 2 KB by `rep stosb` and `rep movsb`, which callgrind
+# counts as an instruction a byte. Under these thresholds it doesn't.
+TUNABLES = ":".join(f"glibc.cpu.x86_rep_{what}_threshold=1000000000" for what in ("movsb", "stosb"))
+CALLGRIND = ["env", f"GLIBC_TUNABLES={TUNABLES}", "valgrind", "--tool=callgrind"]
 
 
 def compact(value):
@@ -30,9 +34,9 @@ def free_address():
         return free.getsockname()
 
 
-def connected(address):
-    """A socket that is connected to a server which is still starting, for at most a minute."""
-    for _ in range(600):
+def connected(address, seconds=60):
+    """A socket that is connected to a server which is still starting, for at most so long."""
+    for _ in range(10 * seconds):
         try:
             return socket.create_connection(address)
         except ConnectionRefusedError:
@@ -82,8 +86,8 @@ class Piped(Client):
 class Connected(Client):
     """One connection to a server, which may still be starting."""
 
-    def __init__(self, address):
-        self.socket = connected(address)
+    def __init__(self, address, seconds=60):
+        self.socket = connected(address, seconds)
         self.socket.setsockopt(socket.IPPROTO_TCP, socket.TCP_NODELAY, 1)
         super().__init__(self.socket.sendall, self.socket.makefile("rb"))
 
@@ -100,7 +104,7 @@ class Counter:
 
     def words(self, words):
         """The words that run these words under callgrind."""
-        return ["valgrind", "--tool=callgrind", "--instr-atstart=no", f"--callgrind-out-file={self.file}", *words]
+        return [*CALLGRIND, "--instr-atstart=no", f"--callgrind-out-file={self.file}", *words]
 
     @staticmethod
     def control(run, *words):
