@@ -6,4 +6,5 @@ pub mod Printing6
 pub mod Reading
 pub mod Spans
 pub mod Spelling
+pub mod Texts
 pub mod Words

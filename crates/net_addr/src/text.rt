@@ -4,74 +4,94 @@ ghost use Rattle.std.specs.Prelude.{◌≡◌, ◌↔◌, [], IfOk, IsTrue, stri
 
 use crate::equal::{Copies, Same};
 use crate::memory::OutOfMemory;
+use arrayvec::ArrayString;
 use std::alloc::Global;
 use std::marker::Model;
 
-/// A text. Contracts see it as the list of its bytes in UTF-8.
+// Texts of at most so many bytes take no memory of their own: ids, addresses, names of members.
+const INLINE: usize = 40;
+
+// Where the bytes of a text are kept.
+#[derive(Debug, Drop)]
+enum Place {
+    Inline(ArrayString<INLINE>),
+    Apart(String),
+}
+
+/// A text. Contracts see it as the list of its bytes in UTF-8. One of at most 40 bytes takes no
+/// memory of its own, as a rule.
 #[derive(Debug, Drop)]
 pub struct Text {
-    inner: String,
+    place: Place,
 }
 
 impl Model for Text {
-    ghost use Rattle.std.specs.Prelude.{List, ℕ, string_bytes};
+    ghost use Rattle.std.specs.Prelude.{List, ℕ};
+    ghost use Rattle.net_addr.specs.Texts.{bytes_at};
 
     ghost Value = { List ℕ };
 
-    ghost view = { λ t. string_bytes t.inner };
+    ghost view = { λ t. bytes_at t.place };
 }
 
 impl Text {
     /// The empty text.
-    pub fn new(alloc: Global) -> Text
+    pub fn new(_alloc: Global) -> Text
         ensures { result ≡ [] }
     {
         Text {
-            inner: String::new(alloc),
+            place: Place::Inline(ArrayString::new()),
         }
     }
 
-    /// A text of its own with these characters.
+    /// A text of its own with these characters. It takes memory for more than 40 bytes.
     pub fn of(alloc: Global, text: &str) -> Result<Text, OutOfMemory>
         ensures { IfOk result (λ t. t ≡ text.now) }
     {
-        Ok(Text {
-            inner: String::from_str(alloc, text)?,
-        })
+        let place = match ArrayString::from(text) {
+            Ok(short) => Place::Inline(short),
+            Err(_) => Place::Apart(String::from_str(alloc, text)?),
+        };
+        Ok(Text { place })
     }
 
     /// The text of a `String`.
-    pub fn from_string(inner: String) -> Text
-        ensures { result ≡ string_bytes inner }
+    pub fn from_string(text: String) -> Text
+        ensures { result ≡ string_bytes text }
     {
-        Text { inner }
+        Text {
+            place: Place::Apart(text),
+        }
     }
 
     /// The characters.
     pub fn as_str(&self) -> &str
         ensures { result.now ≡ self.now }
     {
-        self.inner.as_str()
+        match &self.place {
+            Place::Inline(text) => text.as_str(),
+            Place::Apart(text) => text.as_str(),
+        }
     }
 
     /// How many bytes there are.
     pub fn len(&self) -> usize
         ensures { result ≡ length self.now }
     {
-        self.inner.len()
+        self.as_str().len()
     }
 
     /// Whether there are none.
     pub fn is_empty(&self) -> bool
         ensures { IsTrue result ↔ (self.now ≡ []) }
     {
-        self.inner.is_empty()
+        self.as_str().is_empty()
     }
 }
 
 impl Copies for Text {
     fn copy(&self, alloc: Global) -> Result<Text, OutOfMemory> {
-        Text::of(alloc, self.inner.as_str())
+        Text::of(alloc, self.as_str())
     }
 }
 

@@ -2,7 +2,7 @@
 use Rattle.std.proofs.Common.{◌≡◌, ◌∙◌, ◌+◌, ◌-◌, ◌^◌, ◌≤◌, ◌∷◌, ℕ, List, [], Option, None, Some, inl, inr, ap, arith, min, option_map, refl, subst, sym}
 use Rattle.std.specs.Prelude.{Err, IfErr, IfSome, Ok, Result, is_some, false, true}
 use Rattle.keeper_core.specs.Counts.{HasRefusalCause, RoseBy, Tells}
-use Rattle.keeper_core.specs.Desk.{Asks, Closes, DeskTold, OpensWith, Stores, StoresClose, asks_refused, closed_as, opened_as, opening_rows, with_ask}
+use Rattle.keeper_core.specs.Desk.{AreNamed, Asks, Closes, DeskTold, OpensWith, Stores, StoresClose, asks_refused, closed_as, opened_as, opening_rows, with_ask}
 use Rattle.keeper_core.specs.Kept.{IsStored, KeeperTold}
 use Rattle.keeper_core.specs.declared.ask.DeskAsk.{DeskAsk}
 use Rattle.keeper_core.specs.declared.ask.DeskAsk.TheVariants.{Settings, Store}
@@ -10,8 +10,12 @@ use Rattle.keeper_core.specs.declared.refusal.OutsideRefusal.{OutsideRefusal}
 use Rattle.keeper_core.specs.declared.refusal.OutsideRefusal.TheVariants.{Failed, OutOfMemory}
 use Rattle.api_types.specs.RowLists.{RowLists}
 use Rattle.command_lines.specs.declared.line.Opening.{Opening}
+use Rattle.net_settings.specs.Document.{settings_of}
+use Rattle.net_settings.specs.Refusals.{Refuses}
 use Rattle.net_settings.specs.Settings.{SettingsParts}
-use Rattle.openings.specs.Openings.{AreMade, AreSettings, AreStored, EndsAtSettings, IsCause, IsSettingsCause, IsStoreCause, IsUnopened, RowsBreak, by_desk, opening_asks, settings_asks, with_asks, with_closing, with_opening}
+use Rattle.net_settings.specs.declared.refusal.SettingsRefusal.{SettingsRefusal}
+use Rattle.net_settings.specs.declared.refusal.SettingsRefusal.TheVariants as settings
+use Rattle.openings.specs.Openings.{AreBadSettings, AreMade, AreSettings, AreStored, EndsAtSettings, IsCause, IsSettingsCause, IsStoreCause, IsUnopened, RowsBreak, by_desk, by_settings, opening_asks, settings_asks, with_asks, with_closing, with_opening}
 use Rattle.openings.specs.declared.unopened.Unopened.{Unopened}
 use Rattle.openings.specs.declared.unopened.Unopened.TheVariants.{BadSettings, Inconsistent as Broken}
 use Rattle.openings.specs.declared.unopened.Unopened.TheVariants as unopened
@@ -112,6 +116,12 @@ module _ {P : Type 0} where
     asks = subst (λ n. AreMade why (settings_asks n) old.asks new.asks) (sym is) (all_made why (Settings name ∷ []) old.asks new.asks (ap (λ (d : DeskTold P). d.asks) asks.is));
     stays = asks.is ∙ ap (λ a. record old { asks = a; faults = new.faults }) (sym (ap (λ (d : DeskTold P). d.asks) asks.is));
   }
+
+  -- what was read of the named bytes is the cause
+  pub unread_cause : (refusal : SettingsRefusal) (text name : List ℕ) (opening : Opening) (old new : DeskTold P) → opening.settings ≡ Some name → AreNamed old.files name text
+      → Refuses (settings_of text) refusal → IsSettingsCause (by_settings refusal) opening old new
+  unread_cause (settings.BadSettings key) text name opening old new is named refuses = subst (AreBadSettings old.files) (sym is) (text, key, named, refuses)
+  unread_cause settings.OutOfMemory text name opening old new is named refuses = tt
 
   -- no memory for the default settings
   pub settings_unmade : (opening : Opening) (desk : DeskTold P) → EndsAtSettings unopened.OutOfMemory opening desk desk
