@@ -1,17 +1,14 @@
--- Addresses in a row, the least of some that isn't held, and lists in which addresses are looked for.
-use Rattle.std.proofs.Common.{◌≡◌, ◌∙◌, ℕ, ◌+◌, ◌-◌, ◌<◌, ◌≤◌, Bool, true, false, Option, Some, None, List, [], ◌∷◌, ap, sym, refl, arith, option_map}
-use Rattle.std.specs.Prelude.{◌||◌}
-use Rattle.std.specs.List.{list_any}
+-- Addresses in a row, and the least of some that isn't held.
+use Rattle.std.proofs.Common.{◌≡◌, ◌∙◌, ℕ, ◌+◌, ◌-◌, ◌<◌, ◌≤◌, Bool, true, false, Option, Some, None, ap, sym, refl, arith, option_map}
+use Rattle.std.specs.Prelude.{if◌then◌else◌, nat_le}
 use Rattle.std.proofs.lemmas.Bool.Decides.{nat_tests}
-use Rattle.net_addr.specs.Addresses.{addr_eq, number, with_number, same_version}
+use Rattle.net_addr.specs.Addresses.{number, with_number, same_version}
 use Rattle.net_addr.specs.Prefixes.{Span}
-use Rattle.net_addr.specs.contracts.address.AddrPartialEq.TheImpl.{ghosts}
 use Rattle.net_addr.specs.declared.address.Addr.{Addr}
 use Rattle.net_addr.specs.declared.address.Addr.TheVariants.{V4, V6}
 use Rattle.api_types.specs.Least.{least_from}
 use Rattle.api_ipam.specs.Addresses.{least_within, lesser}
-use Rattle.api_ipam.specs.FixedChoice.{is_in}
-use Rattle.api_ipam.proofs.LeastLemmas.{least-here, least-none, least-past}
+use Rattle.api_ipam.proofs.LeastLemmas.{least-far, least-here, least-none, least-past}
 
 -- an address is of its version and of its number
 pub itself : (x : Addr) → x ≡ with_number x (number x)
@@ -28,17 +25,6 @@ as_numbered (V6 m) (V4 n) h = cc
 pub next_is : (a x y : Addr) → x ≡ with_number a (number x) → y ≡ with_number x (number x + 1) → (y ≡ with_number a (number x + 1)) × (number y ≡ number x + 1)
 next_is (V4 m) x y is e = let f : y ≡ V4 (number x + 1) = e ∙ ap (λ z. with_number z (number x + 1)) is in (f, ap number f)
 next_is (V6 m) x y is e = let f : y ≡ V6 (number x + 1) = e ∙ ap (λ z. with_number z (number x + 1)) is in (f, ap number f)
-
--- a list has an address, whichever way round it is looked for
-turned : (a b : Addr) → addr_eq a b ≡ addr_eq b a
-turned (V4 m) (V4 n) = grind (arith, nat_tests)
-turned (V6 m) (V6 n) = grind (arith, nat_tests)
-turned (V4 m) (V6 n) = refl
-turned (V6 m) (V4 n) = refl
-
-pub in_is : (xs : List Addr) (x : Addr) → list_any (addr_eq x) xs ≡ is_in xs x
-in_is [] x = refl
-in_is (y ∷ xs) x = λ j. turned x y j || in_is xs x j
 
 -- the lesser of three
 
@@ -70,6 +56,24 @@ module _ (test : Addr → Bool) (s : Span) where
   abbrev pub sought : ℕ → Option ℕ
   sought n = least_from (λ k. test (with_number s.first k)) n (number s.last + 1 - n)
 
+  -- the one after so many that are no good is the least, if the span has it
+  pub counted : (many : ℕ) → ((k : ℕ) → k < many → test (with_number s.first (number s.first + k)) ≡ false) → test (with_number s.first (number s.first + many)) ≡ true
+      → (if nat_le (number s.first + many) (number s.last) then Some (with_number s.first (number s.first + many)) else None) ≡ least_within test s
+  counted many fails passes = by (nat_le (number s.first + many) (number s.last)) refl
+    where
+      by : (b : Bool) → nat_le (number s.first + many) (number s.last) ≡ b → (if b then Some (with_number s.first (number s.first + many)) else None) ≡ least_within test s
+      by true e =
+          let fits : number s.first + many ≤ number s.last = grind (arith, nat_tests) in
+          let far = least-far (λ k. test (with_number s.first k)) (number s.first) many (number s.last + 1 - number s.first) (omega (arith, fits)) fails in
+          let here = least-here (λ k. test (with_number s.first k)) (number s.first + many) (number s.last + 1 - number s.first - many) (omega (arith, fits)) passes in
+          ap (option_map (with_number s.first)) (sym here ∙ far)
+      by false e =
+          let past : number s.last < number s.first + many = grind (arith, nat_tests) in
+          let size = number s.last + 1 - number s.first in
+          let far = least-far (λ k. test (with_number s.first k)) (number s.first) size size (omega arith) (λ k less. fails k (omega (arith, less, past))) in
+          let none = least-none (λ k. test (with_number s.first k)) (number s.first + size) (size - size) (omega arith) in
+          ap (option_map (with_number s.first)) (sym none ∙ far)
+
   module _ (x : Addr) (to : number x ≤ number s.last) (is : x ≡ with_number s.first (number x)) (on : sought (number x) ≡ sought (number s.first)) where
     -- the last one is no good
     pub ended : x ≡ s.last → test x ≡ false → None ≡ least_within test s
@@ -96,10 +100,3 @@ module _ (test : Addr → Bool) (s : Span) where
         let many : 0 < number s.last + 1 - number x = omega arith in
         let past = least-past (λ k. test (with_number s.first k)) (number x) (number s.last + 1 - number x) many (ap test (sym is) ∙ fails) in
         ap (least_from (λ k. test (with_number s.first k)) (number x + 1)) (omega arith) ∙ (sym past ∙ on)
-
--- the equality of addresses as code tests it
-pub own_eq : (x y : Addr) → ghosts.eq x y ≡ addr_eq x y
-own_eq (V4 m) (V4 n) = grind (arith, nat_tests)
-own_eq (V6 m) (V6 n) = grind (arith, nat_tests)
-own_eq (V4 m) (V6 n) = refl
-own_eq (V6 m) (V4 n) = refl

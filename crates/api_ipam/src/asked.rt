@@ -84,8 +84,8 @@ pub fn first_known(
 }
 
 /// The addresses of a new port, by those that are held. There are none where a pool address is
-/// missed. Its cost grows with the subnets and their pools, times the items, and with the held
-/// addresses that stand first in the pools.
+/// missed. Its cost grows with the subnets and their pools, times the items, and with each of these
+/// pools, times the held addresses.
 pub fn first_addresses(
     alloc: Global,
     held: HeldAddresses,

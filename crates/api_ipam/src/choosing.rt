@@ -109,7 +109,8 @@ fn held_by(
     }
 }
 
-/// The first of these addresses that is held. Its cost grows with them.
+/// The first of these addresses that is held. Its cost grows with them, times the held ones: a port
+/// has five at most.
 pub fn first_held<'x>(held: &HeldAddresses, addresses: &'x [Addr]) -> Option<&'x Addr>
     ensures { option_copied result ≡ find (is_in held.now) addresses.now }
 {
@@ -336,8 +337,10 @@ fn choose_for(
 }
 
 /// The addresses that a port of the network takes, by its MAC address as it will be. A port that is
-/// changed is told by its old addresses; a new one has none. Its cost and memory grow with the
-/// subnets, times the items, and with the ports and their addresses, and not with the pools' size.
+/// changed is told by its old addresses; a new one has none. Its cost grows with the subnets and
+/// their pools, times the items, of which there are five at most, and with each of these, times the
+/// addresses of the ports; its memory grows with the subnets and these addresses. Neither grows with
+/// the pools' size.
 pub fn choose(
     alloc: Global,
     rows: &Rows,

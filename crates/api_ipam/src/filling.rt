@@ -59,7 +59,7 @@ fn given_in_turn(
 
 /// An address for each place: the known one, or the least of its subnet's pools that is neither
 /// held nor in the list. There is none where a pool address is missed. Its cost grows with the
-/// places, times their subnets' pools and the held addresses that stand first in them.
+/// places, times their subnets' pools, times the held addresses.
 pub fn all_filled(
     alloc: Global,
     held: HeldAddresses,

@@ -193,8 +193,8 @@ pub fn gateway_euis(
 }
 
 /// A pool address of each version for which there is such a subnet, and after them these. There is
-/// none where a pool address is missed. Its cost grows with the subnets, their pools and the held
-/// addresses that stand first in them.
+/// none where a pool address is missed. Its cost grows with the subnets and their pools, times the
+/// held addresses.
 pub fn with_euis(
     alloc: Global,
     held: &HeldAddresses,

@@ -1,12 +1,13 @@
 //! The least address that isn't held.
 
-ghost use Rattle.std.specs.Prelude.{◌≡◌, ◌<◌, ◌^◌, not};
-ghost use Rattle.net_addr.specs.Addresses.{number, width};
+ghost use Rattle.std.specs.Prelude.{◌≡◌, ◌+◌, ◌<◌, ◌||◌, ◌^◌, ℕ, IfSome, None, Some, false, if◌then◌else◌, length, nat_le, not, slice_index_or, true};
+ghost use Rattle.net_addr.specs.Addresses.{addr_eq, number, width, with_number};
 ghost use Rattle.api_ipam.specs.Addresses as addresses;
 ghost use Rattle.api_ipam.specs.FixedChoice.{is_in};
 
 use crate::held::HeldAddresses;
-use net_addr::{Addr, Same, Span};
+use crate::marks::{count_marked, mark};
+use net_addr::{Addr, Addr4, Addr6, Same, Span};
 
 /// The number of the bits of an address.
 pub(crate) fn number_of(address: &Addr) -> u128
@@ -19,9 +20,82 @@ pub(crate) fn number_of(address: &Addr) -> u128
     }
 }
 
-// The least address of a span that isn't held. No address is looked at but the held ones in front
-// of it.
-fn least_within(held: &HeldAddresses, span: &Span) -> Option<Addr>
+// The address of the same version with another number.
+fn numbered(address: &Addr, n: u128) -> Addr
+    requires { n < 2 ^ width address.now }
+    ensures { result ≡ with_number address.now n }
+{
+    match *address {
+        Addr::V4(_) => Addr::V4(Addr4(n as u32)),
+        Addr::V6(_) => Addr::V6(Addr6(n)),
+    }
+}
+
+// Marks an address, where it is among those from the first on.
+fn mark_address(marks: &mut [bool], first: &Addr, address: &Addr)
+    ensures length { length marks.new ≡ length marks.old }
+    ensures marked { (k : ℕ) → k < length marks.old
+        → slice_index_or marks.new k false
+        ≡ (slice_index_or marks.old k false
+        || addr_eq address.now (with_number first.now (number first.now + k))) }
+{
+    if address.is_same_version(first) {
+        mark(marks, number_of(first), number_of(address));
+    }
+}
+
+// Marks those of these addresses that are among those from the first on.
+fn mark_all(marks: &mut [bool], first: &Addr, held: &[Addr])
+    ensures length { length marks.new ≡ length marks.old }
+    ensures marked { (k : ℕ) → k < length marks.old
+        → slice_index_or marks.new k false
+        ≡ (slice_index_or marks.old k false
+        || is_in held.now (with_number first.now (number first.now + k))) }
+{
+    for address in held {
+        mark_address(marks, first, address);
+    }
+}
+
+// How many addresses from the first on are held, one after the other, before one that isn't. It
+// makes a mark for each held address, and one more. It doesn't tell if there is no memory for them.
+fn count_held(held: &HeldAddresses, first: &Addr) -> Option<usize>
+    ensures held { IfSome result
+        (λ n. (k : ℕ) → k < n
+        → is_in held.now (with_number first.now (number first.now + k)) ≡ true) }
+    ensures free { IfSome result
+        (λ n. is_in held.now (with_number first.now (number first.now + n)) ≡ false) }
+{
+    let addresses = held.as_slice();
+    let Ok(mut marks) = vec![in held.alloc(); false; addresses.len() + 1] else {
+        return None;
+    };
+    mark_all(marks.as_mut_slice(), first, addresses);
+    let many = count_marked(marks.as_slice());
+    if many < marks.len() {
+        return Some(many);
+    }
+    None
+}
+
+// The address of a span after so many, if the span has it.
+fn address_after(span: &Span, many: usize) -> Option<Addr>
+    ensures { result
+        ≡ (if nat_le (number span.now.first + many) (number span.now.last)
+        then Some (with_number span.now.first (number span.now.first + many)) else None) }
+{
+    let first = number_of(&span.first);
+    let last = number_of(&span.last);
+    let many = many as u128;
+    if last - first < many {
+        return None;
+    }
+    Some(numbered(&span.first, first + many))
+}
+
+// The least address of a span that isn't held, found address by address. No address is looked at
+// but the held ones in front of it.
+fn search_within(held: &HeldAddresses, span: &Span) -> Option<Addr>
     ensures { result ≡ addresses.least_within (λ x. not (is_in held.now x)) span.now }
 {
     let _last = number_of(&span.last); // for the proof: it fits its version
@@ -35,6 +109,16 @@ fn least_within(held: &HeldAddresses, span: &Span) -> Option<Addr>
     Some(address)
 }
 
+// The least address of a span that isn't held.
+fn least_within(held: &HeldAddresses, span: &Span) -> Option<Addr>
+    ensures { result ≡ addresses.least_within (λ x. not (is_in held.now x)) span.now }
+{
+    let Some(many) = count_held(held, &span.first) else {
+        return search_within(held, span);
+    };
+    address_after(span, many)
+}
+
 fn lesser(one: Option<Addr>, other: Option<Addr>) -> Option<Addr>
     ensures { result ≡ addresses.lesser one other }
 {
@@ -45,9 +129,10 @@ fn lesser(one: Option<Addr>, other: Option<Addr>) -> Option<Addr>
     }
 }
 
-/// The least address of the pools that isn't held, where one isn't. It allocates nothing. Its cost
-/// grows with the pools and the held addresses that stand first in them, and not with the pools'
-/// size.
+/// The least address of the pools that isn't held, where one isn't. Its cost grows with the pools,
+/// of which a subnet has 20 at most, times the held addresses, and not with the pools' size. For the
+/// time of a pass it has a mark for each held address; where there is no memory for them, it passes
+/// over the held addresses once for each one that stands first in a pool.
 pub fn least_free_address(held: &HeldAddresses, pools: &[Span]) -> Option<Addr>
     ensures { result ≡ addresses.least_free_address (λ x. not (is_in held.now x)) pools.now }
 {

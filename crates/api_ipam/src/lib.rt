@@ -6,7 +6,8 @@
 //! `are_placed`, `first_known` and `next_known` come before the held addresses are looked at,
 //! `first_held` tells one that is held, and `first_addresses`, `next_addresses`,
 //! `gateway_addresses` and `floating_address` choose. `HeldAddresses` are gathered once, in one
-//! pass over the ports; from then on nothing grows with a pool's size.
+//! pass over the ports, as a list; from then on a look-up passes over the list once, and a choice
+//! marks its addresses once. Nothing grows with a pool's size.
 #![tactic(auto)]
 
 mod asked;
@@ -18,6 +19,7 @@ mod free;
 mod held;
 mod least;
 mod macs;
+mod marks;
 mod places;
 mod pools;
 

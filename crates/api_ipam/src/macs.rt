@@ -1,11 +1,13 @@
 //! Which MAC address a port takes.
 
-ghost use Rattle.std.specs.Prelude.{◌≡◌, ◌+◌, ◌-◌, ◌<◌, ◌≤◌, ◌^◌, false, not};
+ghost use Rattle.std.specs.Prelude.{◌≡◌, ◌&&◌, ◌+◌, ◌-◌, ◌<◌, ◌≤◌, ◌^◌, ◌||◌, ℕ, None, Some, false, if◌then◌else◌, length, nat_lt, not, slice_index_or, true};
 ghost use Rattle.api_types.specs.Consistent.HeldOnce as held_once;
 ghost use Rattle.api_types.specs.HeldAddresses.{is_mac_held};
 ghost use Rattle.api_types.specs.Least.{least_from};
+ghost use Rattle.api_types.specs.Table.{ident_eq};
 ghost use Rattle.api_ipam.specs.MacChoice.{first_mac, free_mac};
 
+use crate::marks::{count_marked, mark};
 use api_types::{Id, PortRow, Shared};
 use net_addr::Mac;
 
@@ -15,6 +17,9 @@ const FIRST: u64 = 0xfa16_3e00_0000;
 /// The number after the last generated one, fa:16:3e:ff:ff:ff.
 const END: u64 = 0xfa16_3f00_0000;
 
+/// How many MAC addresses have a mark at once.
+const WINDOW: usize = 1_024;
+
 fn has_mac(port: &PortRow, network: Id, mac: u64) -> bool
     requires { mac < 2 ^ 48 }
     ensures { result ≡ held_once.has_mac network mac port.now }
@@ -22,39 +27,115 @@ fn has_mac(port: &PortRow, network: Id, mac: u64) -> bool
     network == port.network && port.mac == Mac(mac)
 }
 
-// From `mac` on, the number after those that ports have, one after the other in turn.
-fn behind_held(ports: &[Shared<PortRow>], network: Id, mac: u64) -> u64
-    requires { mac < first_mac + 2 ^ 24 }
-    ensures from { mac ≤ result }
+// The number after this one, if it is a generated one that the port has; otherwise this one.
+fn after_held(port: &PortRow, network: Id, mac: u64) -> u64
+    requires { mac ≤ first_mac + 2 ^ 24 }
+    ensures moved { result
+        ≡ (if nat_lt mac (first_mac + 2 ^ 24) && held_once.has_mac network mac port.now
+        then mac + 1 else mac) }
     ensures to { result ≤ first_mac + 2 ^ 24 }
-    ensures sought { least_from (λ m. not (is_mac_held ports.now network m)) result
-        (first_mac + 2 ^ 24 - result)
-        ≡ least_from (λ m. not (is_mac_held ports.now network m)) mac
-        (first_mac + 2 ^ 24 - mac) }
-    ensures stays { result ≡ mac → is_mac_held ports.now network mac ≡ false }
 {
-    let mut next = mac;
-    for port in ports {
-        if next < END && has_mac(port, network, next) {
-            next += 1;
-        }
+    if mac < END && has_mac(port, network, mac) {
+        return mac + 1;
     }
-    next
+    mac
+}
+
+// The greater of this MAC address and that of a port of the network.
+fn greatest_of(port: &PortRow, network: Id, greatest: u64) -> u64
+    ensures { result
+        ≡ (if ident_eq network port.now.network && nat_lt greatest port.now.mac
+        then port.now.mac else greatest) }
+{
+    if network == port.network && greatest < port.mac.0 {
+        return port.mac.0;
+    }
+    greatest
+}
+
+// The number after the generated MAC addresses that ports of the network have, one after the other
+// in turn, and the greatest MAC address that one has.
+fn behind_held(ports: &[Shared<PortRow>], network: Id) -> (u64, u64)
+    ensures to { result.0 ≤ first_mac + 2 ^ 24 }
+    ensures sought { least_from (λ m. not (is_mac_held ports.now network m)) result.0
+        (first_mac + 2 ^ 24 - result.0)
+        ≡ least_from (λ m. not (is_mac_held ports.now network m)) first_mac
+        (first_mac + 2 ^ 24 - first_mac) }
+    ensures greatest { (m : ℕ) → result.1 < m → is_mac_held ports.now network m ≡ false }
+{
+    let mut next = FIRST;
+    let mut greatest = 0;
+    for shared in ports {
+        let port = shared.get();
+        next = after_held(port, network, next);
+        greatest = greatest_of(port, network, greatest);
+    }
+    (next, greatest)
+}
+
+// Marks the MAC address of a port of the network, where it is among those from the first on.
+fn mark_port(marks: &mut [bool], network: Id, first: u64, port: &PortRow)
+    ensures length { length marks.new ≡ length marks.old }
+    ensures marked { (k : ℕ) → k < length marks.old
+        → slice_index_or marks.new k false
+        ≡ (slice_index_or marks.old k false || held_once.has_mac network (first + k) port.now) }
+{
+    if network == port.network {
+        mark(marks, u128::from(first), u128::from(port.mac.0));
+    }
+}
+
+// Marks the MAC addresses of the network's ports that are among those from the first on.
+fn mark_ports(marks: &mut [bool], ports: &[Shared<PortRow>], network: Id, first: u64)
+    ensures length { length marks.new ≡ length marks.old }
+    ensures marked { (k : ℕ) → k < length marks.old
+        → slice_index_or marks.new k false
+        ≡ (slice_index_or marks.old k false || is_mac_held ports.now network (first + k)) }
+{
+    for port in ports {
+        mark_port(marks, network, first, port);
+    }
+}
+
+// How many MAC addresses from the first on ports of the network have, of as many as have a mark.
+fn count_held(ports: &[Shared<PortRow>], network: Id, first: u64) -> usize
+    ensures within { result ≤ 1024 }
+    ensures held { (k : ℕ) → k < result → is_mac_held ports.now network (first + k) ≡ true }
+    ensures free { result < 1024 → is_mac_held ports.now network (first + result) ≡ false }
+{
+    let mut marks = [false; WINDOW];
+    mark_ports(&mut marks, ports, network, first);
+    count_marked(&marks)
+}
+
+// A MAC address, where it is before the end of the generated ones.
+fn generated(mac: u64) -> Option<Mac>
+    ensures { result ≡ (if nat_lt mac (first_mac + 2 ^ 24) then Some mac else None) }
+{
+    if mac < END {
+        return Some(Mac(mac));
+    }
+    None
 }
 
 /// The least generated MAC address that no port of the network has; there is none where all are
-/// held. It allocates nothing. Its cost is that of two looks at the ports where they took the
-/// generated MAC addresses in their order, and of one more for each that a later one took before.
+/// held. It allocates nothing. Its cost is that of one pass over the ports if they took the
+/// generated MAC addresses in their order and none went since, and otherwise of one more for each
+/// 1,024 ports.
 pub fn choose_mac(ports: &[Shared<PortRow>], network: Id) -> Option<Mac>
     ensures { result ≡ free_mac ports.now network }
 {
-    let mut mac = FIRST;
+    let (next, greatest) = behind_held(ports, network);
+    if greatest < next {
+        return generated(next);
+    }
+    let mut mac = next;
     'search: while mac < END {
-        let next = behind_held(ports, network, mac);
-        if next == mac {
-            return Some(Mac(mac));
+        let many = count_held(ports, network, mac);
+        mac += many as u64;
+        if many < WINDOW {
+            return generated(mac);
         }
-        mac = next;
     }
     None
 }

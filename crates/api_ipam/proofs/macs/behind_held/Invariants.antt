@@ -1,15 +1,13 @@
-use Rattle.std.proofs.Common.{◌≡◌, ◌+◌, ◌^◌, ◌≤◌, drop}
-use Rattle.std.specs.List.{list_any}
-use Rattle.api_types.specs.Consistent.HeldOnce.{has_mac}
+use Rattle.std.proofs.Common.{◌≡◌, ◌+◌, ◌<◌, ◌^◌, ◌≤◌, ℕ, drop}
+use Rattle.api_types.specs.HeldAddresses.{is_mac_held}
 use Rattle.api_ipam.specs.MacChoice.{first_mac}
 use Rattle.api_ipam.proofs.LeastLemmas.{sought}
 use Rattle.api_ipam.proofs.macs.behind_held.Given as goal
 
--- all from `mac` on are held that were passed by; where none was, no port so far has `mac`
-abbrev pub invariant-loop-port : goal.invariant-loop-port
-invariant-loop-port l = record {
-  from : l.mac ≤ l.next;
+-- all are held that were passed by, and no port so far has one after the greatest
+abbrev pub invariant-loop-shared : goal.invariant-loop-shared
+invariant-loop-shared l = record {
   to : l.next ≤ first_mac + 2 ^ 24;
-  same : sought l.ports l.network (first_mac + 2 ^ 24) l.next ≡ sought l.ports l.network (first_mac + 2 ^ 24) l.mac;
-  stays : l.next ≡ l.mac → list_any (has_mac l.network l.mac) (drop l.port-index l.ports) ≡ list_any (has_mac l.network l.mac) l.ports;
+  same : sought l.ports l.network (first_mac + 2 ^ 24) l.next ≡ sought l.ports l.network (first_mac + 2 ^ 24) first_mac;
+  none : (m : ℕ) → l.greatest < m → is_mac_held (drop l.shared-index l.ports) l.network m ≡ is_mac_held l.ports l.network m;
 }

@@ -6,7 +6,7 @@ use Rattle.api_ipam.proofs.macs.choose_mac.Given as goal
 -- the search goes on as it began
 abbrev pub invariant-search : goal.invariant-search
 invariant-search l = record {
-  to : l.mac ≤ first_mac + 2 ^ 24;
+  to : l.mac ≤ first_mac + 2 ^ 24 + 1024;
   same : sought l.ports l.network (first_mac + 2 ^ 24) l.mac ≡ sought l.ports l.network (first_mac + 2 ^ 24) first_mac;
 }
 

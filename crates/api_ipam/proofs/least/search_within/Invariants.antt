@@ -2,7 +2,7 @@ use Rattle.std.proofs.Common.{◌≡◌, ◌+◌, ◌-◌, ◌≤◌, not}
 use Rattle.net_addr.specs.Addresses.{number, with_number}
 use Rattle.api_ipam.specs.FixedChoice.{is_in}
 use Rattle.api_types.specs.Least.{least_from}
-use Rattle.api_ipam.proofs.least.least_within.Given as goal
+use Rattle.api_ipam.proofs.least.search_within.Given as goal
 
 -- all from the first on are held, up to this one
 abbrev pub invariant-loop-span : goal.invariant-loop-span
