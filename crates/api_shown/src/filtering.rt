@@ -1,39 +1,50 @@
 //! Filters, put together by their names once a query.
 
-ghost use Rattle.std.specs.Prelude.{◌≡◌, ℕ, List, Bool, IfOk, map};
+ghost use Rattle.std.specs.Prelude.{◌≡◌, ℕ, List, Bool, IfOk, false, map};
 ghost use Rattle.std.specs.HashSet.{contains_text};
 ghost use Rattle.std.specs.List.{list_all, list_any};
 ghost use Rattle.std.specs.Str.{bytes_eq};
 ghost use Rattle.api_types.specs.Printed.{member_of, tree_of, word};
 ghost use Rattle.api_types.specs.Printed as printed_specs;
+ghost use Rattle.api_types.specs.RowLists.{RowLists};
+ghost use Rattle.api_types.specs.declared.call.Caller.{Caller as TheCaller};
 ghost use Rattle.api_types.specs.declared.call.Filter.{Filter as TheFilter};
+ghost use Rattle.api_policy.specs.Trees.{id_word};
 ghost use Rattle.api_policy.specs.Filtered as filtered;
 ghost use Rattle.api_shown.specs.Asked.{AskedName, asked_under, has_asked};
 ghost use Rattle.api_shown.specs.Asked as asked_specs;
 
+use crate::asked_id::{find_asked, is_drawable, may_be};
+use crate::keys::{HasKeys, Key, find_key};
 use crate::showing::is_told;
-use api_types::{Filter, Members, Printed, Query};
+use api_types::{Filter, Id, Members, Printed, Query};
 use net_addr::{OutOfMemory, Text};
 use std::alloc::Global;
 use std::collections::HashSet;
 use std::marker::Model;
 
-/// The filters of one name: the texts that they ask for, and which truth values. Contracts see the
-/// name and all filters of the query.
+/// The filters of one name: the key that it names, the texts and the ids that they ask for, and
+/// which truth values. Contracts see the name and all filters of the query.
 #[derive(Drop)]
 struct NameFilters<'q> {
     filters: &'q [Filter], // for contracts alone
     name: &'q Text,
+    key: Option<Key>,
     texts: HashSet<String>,
+    id: Option<Id>,
     asks_true: bool,
     asks_false: bool,
 }
 
 impl<'q> Model for NameFilters<'q> {
-    ghost use Rattle.std.specs.Prelude.{◌≡◌, ℕ, List, true, false};
+    ghost use Rattle.std.specs.Prelude.{◌≡◌, ℕ, IfSome, IsTrue, List, true, false};
     ghost use Rattle.std.specs.HashSet.{contains_text};
+    ghost use Rattle.std.specs.Str.{bytes_eq};
+    ghost use Rattle.api_types.specs.Ident.{Ident, IsDrawable};
     ghost use Rattle.api_types.specs.Printed.{truth, word};
+    ghost use Rattle.api_policy.specs.Trees.{id_word};
     ghost use Rattle.api_shown.specs.Asked.{AskedName, asked_under, asks_for};
+    ghost use Rattle.api_shown.specs.Keys.{key_name, may_be};
 
     ghost Value = { AskedName };
 
@@ -41,7 +52,10 @@ impl<'q> Model for NameFilters<'q> {
 
     ghost invariant = { λ n. let asked : AskedName = asked_under n.filters.now n.name.now in
         record {
+          key : IfSome n.key (λ key. IsTrue (bytes_eq n.name.now (key_name key)));
           texts : (t : List ℕ) → contains_text n.texts t ≡ asks_for asked (word t);
+          id : (i : Ident) → IsDrawable i → may_be n.id i ≡ false
+              → asks_for asked (id_word i) ≡ false;
           yes : n.asks_true ≡ asks_for asked (truth true);
           no : n.asks_false ≡ asks_for asked (truth false);
         } };
@@ -89,7 +103,9 @@ impl<'q> NameFilters<'q> {
         Ok(NameFilters {
             filters,
             name,
+            key: find_key(name),
             texts: texts_of(alloc, filters, name)?,
+            id: find_asked(filters, name),
             asks_true: asks_truth(filters, name, true),
             asks_false: asks_truth(filters, name, false),
         })
@@ -108,6 +124,31 @@ impl<'q> NameFilters<'q> {
             }
             Printed::Word(text) => Ok(self.texts.contains(text.as_str())),
             Printed::Null | Printed::Items(_) | Printed::Object(_) => Ok(false),
+        }
+    }
+
+    // Whether they may ask for the id.
+    fn may_ask(&self, id: Id) -> bool
+        ensures { result ≡ false → asked_specs.asks_for self.now (id_word id) ≡ false }
+    {
+        !is_drawable(id) || may_be(self.id, id)
+    }
+
+    // Whether the row may have a member with the name and a value that one of them asks for, by
+    // its keys alone.
+    fn may_hold<R: HasKeys>(&self, row: &R) -> bool
+        ensures { result ≡ false → (rows : RowLists) (caller : TheCaller) (admin : Bool)
+            → has_asked admin (R.members_of rows caller row.now) self.now ≡ false }
+    {
+        let Some(key) = self.key else {
+            return true;
+        };
+        if let Some(word) = row.word_at(key) {
+            return self.texts.contains(word.as_str());
+        }
+        match row.id_at(key) {
+            Some(id) => self.may_ask(id),
+            None => true,
         }
     }
 
@@ -201,6 +242,19 @@ fn are_all_met(
     Ok(true)
 }
 
+// Whether the row may meet the filters of each name, by its keys alone.
+fn may_all_hold<R: HasKeys>(row: &R, by_name: &[NameFilters]) -> bool
+    ensures { result ≡ false → (rows : RowLists) (caller : TheCaller) (admin : Bool)
+        → list_all (has_asked admin (R.members_of rows caller row.now)) by_name.now ≡ false }
+{
+    for filters in by_name {
+        if !filters.may_hold(row) {
+            return false;
+        }
+    }
+    true
+}
+
 /// A query, whose filters are put together by their names, so that a row costs the same however
 /// many there are. Contracts see the query.
 #[derive(Drop)]
@@ -242,6 +296,15 @@ impl<'q> FilteredQuery<'q> {
         ensures { result.now ≡ self.now }
     {
         self.query
+    }
+
+    /// Whether the row may meet the filters, by its keys alone: false only if its members don't. It
+    /// makes no member, and its cost grows with the different names of the filters.
+    pub(crate) fn may_meet<R: HasKeys>(&self, row: &R) -> bool
+        ensures { result ≡ false → (rows : RowLists) (caller : TheCaller) (admin : Bool)
+            → filtered.meets admin self.now.filters (R.members_of rows caller row.now) ≡ false }
+    {
+        may_all_hold(row, self.by_name.as_slice())
     }
 
     /// Whether the members meet the filters. Its cost grows with the members, times the different

@@ -7,9 +7,9 @@ ghost use Rattle.api_policy.specs.Groups as groups;
 ghost use Rattle.api_policy.specs.Trees.{null_or};
 
 use crate::members::Shows;
-use crate::printable::{object_of, push, push_value, push_word};
+use crate::printable::{no_members, object_of, push, push_value, push_word};
 use api_types::{Caller, Direction, Ethertype, GroupRow, Members, Printed, Rows, RuleRow};
-use net_addr::{OutOfMemory, Seq, Text};
+use net_addr::{OutOfMemory, Text};
 use std::alloc::Global;
 
 fn direction_word(direction: Direction) -> &'static str
@@ -82,7 +82,7 @@ impl Shows for RuleRow {
         let protocol = protocol_of(alloc, self)?;
         let direction = direction_word(self.direction);
         let ethertype = ethertype_word(self.ethertype);
-        let mut all = Seq::new(alloc);
+        let mut all = no_members(alloc)?;
         push(alloc, &mut all, "description", &self.description)?;
         push_word(alloc, &mut all, "direction", direction)?;
         push_word(alloc, &mut all, "ethertype", ethertype)?;
@@ -136,7 +136,7 @@ impl Shows for GroupRow {
 
     fn members(&self, alloc: Global, rows: &Rows, caller: &Caller) -> Result<Members, OutOfMemory> {
         let rules = rules_of(alloc, rows, caller, self)?;
-        let mut all = Seq::new(alloc);
+        let mut all = no_members(alloc)?;
         push(alloc, &mut all, "description", &self.description)?;
         push(alloc, &mut all, "id", &self.id)?;
         push(alloc, &mut all, "name", &self.name)?;

@@ -7,8 +7,10 @@
 //! each row that the caller sees, after a marker, by filters and up to a limit.
 #![tactic(auto)]
 
+mod asked_id;
 mod filtering;
 mod group;
+mod keys;
 mod listing;
 mod members;
 mod network;

@@ -12,6 +12,7 @@ ghost use Rattle.api_shown.specs.ListRefusals.{IsListRefusal};
 ghost use Rattle.api_policy.specs.Shown.{shown_as};
 
 use crate::filtering::FilteredQuery;
+use crate::keys::HasKeys;
 use crate::members::Shows;
 use crate::showing::kept;
 use api_policy::{Visible, sees};
@@ -39,7 +40,7 @@ impl From<OutOfMemory> for ListRefusal {
 }
 
 // What is shown of a row, where the caller sees it and it meets the filters.
-fn shown_if_met<R: Shows + Visible>(
+fn shown_if_met<R: HasKeys + Visible>(
     alloc: Global,
     rows: &Rows,
     caller: &Caller,
@@ -54,6 +55,9 @@ fn shown_if_met<R: Shows + Visible>(
         then Some (shown_as kind caller.now.admin query.now.fields
         (R.members_of rows.now caller.now row.now)) else None)) }
 {
+    if !query.may_meet(row) {
+        return Ok(None);
+    }
     if !row.is_seen(rows, caller) {
         return Ok(None);
     }
@@ -76,7 +80,7 @@ fn is_full(limit: Option<u32>, many: usize) -> bool
 }
 
 // What is shown of the first rows, up to the limit, that the caller sees and that meet the filters.
-fn listed_of<R: Shows + Visible>(
+fn listed_of<R: HasKeys + Visible>(
     alloc: Global,
     rows: &Rows,
     caller: &Caller,
@@ -130,7 +134,7 @@ fn behind_marker<'a, R: Shows>(
     }
 }
 
-fn listed_in<R: Shows + Visible>(
+fn listed_in<R: HasKeys + Visible>(
     alloc: Global,
     rows: &Rows,
     caller: &Caller,
@@ -205,8 +209,8 @@ fn ensure_marker_seen(
 /// be one of the kind that the caller sees, the ones that it sees and that meet the filters, up to
 /// the limit, in order of creation. The marker's row need not meet the filters. Only members that
 /// the caller is told are compared. Its cost grows with the filters times their different names,
-/// and with the rows of the kind, each by what it is to make its members, which are compared with
-/// each of these names.
+/// and with the rows of the kind: each by these names, and, if its keys don't tell that it fails
+/// the filters, by what it is to make its members, which are compared with each of these names.
 pub fn listed(
     alloc: Global,
     rows: &Rows,

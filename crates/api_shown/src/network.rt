@@ -6,7 +6,7 @@ ghost use Rattle.api_policy.specs.Networks.{number_of, physical_of};
 ghost use Rattle.api_policy.specs.Networks as networks;
 
 use crate::members::Shows;
-use crate::printable::{Printable, push, push_value, push_word};
+use crate::printable::{Printable, no_members, push, push_value, push_word};
 use api_policy::Visible;
 use api_types::{
     Action, Caller, Id, Members, NetworkRow, PolicyRow, Printed, Rows, Segment, Shared,
@@ -88,7 +88,7 @@ impl Shows for NetworkRow {
         let shared = is_open(policies, self.id, Action::Shared);
         let subnets = subnets_of(alloc, rows, caller, self.id)?;
         let physical = physical(alloc, &self.segment)?;
-        let mut all = Seq::new(alloc);
+        let mut all = no_members(alloc)?;
         push(alloc, &mut all, "admin_state_up", &self.up)?;
         push(alloc, &mut all, "description", &self.description)?;
         push(alloc, &mut all, "id", &self.id)?;

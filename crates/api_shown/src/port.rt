@@ -6,9 +6,9 @@ ghost use Rattle.api_policy.specs.Ports.{status_word};
 ghost use Rattle.api_policy.specs.Ports as ports;
 
 use crate::members::Shows;
-use crate::printable::{push, push_word};
+use crate::printable::{no_members, push, push_word};
 use api_types::{Caller, Members, PortRow, Rows, Vif};
-use net_addr::{OutOfMemory, Seq};
+use net_addr::OutOfMemory;
 use std::alloc::Global;
 
 fn vif_word(vif: Vif) -> &'static str
@@ -56,7 +56,7 @@ impl Shows for PortRow {
         _caller: &Caller,
     ) -> Result<Members, OutOfMemory> {
         let status = status(is_live(rows, self));
-        let mut all = Seq::new(alloc);
+        let mut all = no_members(alloc)?;
         push(alloc, &mut all, "admin_state_up", &self.up)?;
         push(alloc, &mut all, "allowed_address_pairs", &self.pairs)?;
         push(alloc, &mut all, "binding:host_id", &self.host)?;

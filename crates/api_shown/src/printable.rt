@@ -128,6 +128,16 @@ fn printed_items<T: Printable>(alloc: Global, values: &[T]) -> Result<Vec<Printe
     Ok(items)
 }
 
+/// How many members a row has at most: those of a port.
+const MOST: usize = 18;
+
+/// No members yet, with room for those of a row.
+pub(crate) fn no_members(alloc: Global) -> Result<Members, OutOfMemory>
+    ensures { IfOk result (λ members. members ≡ []) }
+{
+    Ok(Seq::from_vec(Vec::with_capacity(alloc, MOST)?))
+}
+
 /// An object of members.
 pub(crate) fn object_of(members: Members) -> Printed
     ensures { tree_of result ≡ object (branches_of (map member_of members)) }

@@ -10,7 +10,7 @@ ghost use Rattle.api_policy.specs.Trees.{fixed_object, list_of, null_or};
 
 use crate::members::Shows;
 use crate::port::status;
-use crate::printable::{Printable, object_of, push, push_value, push_word};
+use crate::printable::{Printable, no_members, object_of, push, push_value, push_word};
 use api_types::{
     Action, Caller, FloatingRow, Gateway, Members, PolicyRow, Printed, RouterRow, Rows,
 };
@@ -64,7 +64,7 @@ impl Shows for RouterRow {
         _caller: &Caller,
     ) -> Result<Members, OutOfMemory> {
         let gateway = gateway_of(alloc, rows, self)?;
-        let mut all = Seq::new(alloc);
+        let mut all = no_members(alloc)?;
         push(alloc, &mut all, "admin_state_up", &self.up)?;
         push(alloc, &mut all, "description", &self.description)?;
         push_value(alloc, &mut all, "external_gateway_info", gateway)?;
@@ -93,7 +93,7 @@ impl Shows for FloatingRow {
         let port = self.target.map(|target| target.port);
         let router = self.target.map(|target| target.router);
         let status = status(self.target.is_some());
-        let mut all = Seq::new(alloc);
+        let mut all = no_members(alloc)?;
         push(alloc, &mut all, "description", &self.description)?;
         push(alloc, &mut all, "fixed_ip_address", &fixed)?;
         push(alloc, &mut all, "floating_ip_address", &self.address)?;
@@ -128,7 +128,7 @@ impl Shows for PolicyRow {
         _rows: &Rows,
         _caller: &Caller,
     ) -> Result<Members, OutOfMemory> {
-        let mut all = Seq::new(alloc);
+        let mut all = no_members(alloc)?;
         push_word(alloc, &mut all, "action", action_word(self.action))?;
         push(alloc, &mut all, "id", &self.id)?;
         push(alloc, &mut all, "object_id", &self.object)?;

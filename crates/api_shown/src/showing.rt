@@ -53,7 +53,10 @@ pub(crate) fn kept(
     ensures { IfOk result
         (λ m. map member_of m ≡ shown_members admin fields.now (map member_of members)) }
 {
-    let mut kept = Vec::new(alloc);
+    if admin && fields.len() == 0 {
+        return Ok(members);
+    }
+    let mut kept = Vec::with_capacity(alloc, members.len())?;
     for member in members.into_vec() {
         if is_told(admin, &member.0) && is_asked(fields, &member.0) {
             kept.push(member)?;

@@ -5,9 +5,9 @@ ghost use Rattle.api_policy.specs.Subnets.{version_number};
 ghost use Rattle.api_policy.specs.Subnets as subnets;
 
 use crate::members::Shows;
-use crate::printable::{Printable, push, push_value};
+use crate::printable::{Printable, no_members, push, push_value};
 use api_types::{Caller, Ipv6Mode, Members, Printed, Rows, SubnetRow};
-use net_addr::{OutOfMemory, Prefix, Seq, Text};
+use net_addr::{OutOfMemory, Prefix, Text};
 use std::alloc::Global;
 
 fn mode_text(mode: Ipv6Mode) -> &'static str
@@ -49,7 +49,7 @@ impl Shows for SubnetRow {
         _caller: &Caller,
     ) -> Result<Members, OutOfMemory> {
         let version = version_of(&self.prefix);
-        let mut all = Seq::new(alloc);
+        let mut all = no_members(alloc)?;
         push(alloc, &mut all, "allocation_pools", &self.pools)?;
         push(alloc, &mut all, "cidr", &self.prefix)?;
         push(alloc, &mut all, "description", &self.description)?;
