@@ -16,7 +16,7 @@ ghost use Rattle.agent_wire.specs.Snapshots.{are_new, drafted};
 
 use crate::snapshot::read_snapshot;
 use agent_node::AgentNode;
-use api_check::first_broken;
+use api_consistency::find_broken;
 use api_types::{Change, FitsRows, PageRow, PageRows, Rows};
 use call_parts::are_typed;
 use net_addr::{Copies, OutOfMemory, Text};
@@ -78,11 +78,11 @@ impl Model for WireAgent {
 }
 
 // Whether these rows may be put in place.
-fn are_sound(settings: &Settings, rows: &Rows) -> bool
+fn are_sound(alloc: Global, settings: &Settings, rows: &Rows) -> bool
     ensures { IsTrue result ↔ AreSound settings.now rows.now }
 {
     are_typed(rows);
-    first_broken(rows, settings).is_none()
+    find_broken(alloc, rows, settings).is_none()
 }
 
 // What agents ask that hold this version.
@@ -378,7 +378,7 @@ impl WireAgent {
         ensures ok { IfOk result (λ s. PutsRows self.old version rows.now s self.new) }
         ensures same { OnErr result (self.new ≡ self.old) }
     {
-        if !are_sound(&self.settings, rows) {
+        if !are_sound(alloc, &self.settings, rows) {
             return Ok(WireStep::BadRows);
         }
         give_rows(alloc, &mut self.node, &self.host, version, rows)?;

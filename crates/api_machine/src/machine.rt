@@ -72,6 +72,19 @@ impl Ready {
 }
 
 impl Machine {
+    /// A machine with consistent rows, whose bound ports are on hosts that can carry them, at
+    /// version 0. It reads the rows once, for the proof alone.
+    pub fn of(rows: Rows, settings: Settings) -> Machine
+        requires consistent { IsConsistent rows }
+        requires carried { HostsCarry settings rows }
+        ensures { result ≡ record { settings = settings; rows = rows; version = 0 } }
+    {
+        are_typed(&rows);
+        let _rules = settings.hosts(); // for the proof: the settings meet their rules
+        let state = State::make(rows, 0);
+        Machine { settings, state }
+    }
+
     /// A machine with these rows, at version 0. It is refused where they break a clause of
     /// consistency, with the first one and the first row that breaks it. It allocates nothing, and
     /// its cost grows with the square of the rows.
@@ -84,12 +97,7 @@ impl Machine {
         if let Some(broken) = first_broken(&rows, &settings) {
             return Err(broken);
         }
-        are_typed(&rows);
-        let _rules = settings.hosts(); // for the proof: the settings meet their rules
-        Ok(Machine {
-            settings,
-            state: State::make(rows, 0),
-        })
+        Ok(Machine::of(rows, settings))
     }
 
     /// The current rows.
@@ -156,8 +164,15 @@ impl Machine {
     {
         let mut rows = self.rows().copy(alloc)?;
         rows.apply_change(alloc, change)?;
+        Ok(self.ready(rows))
+    }
+
+    /// Rows that a plan leads to, ready to be put in place.
+    pub fn ready(&self, rows: Rows) -> Ready
+        ensures { result ≡ record { rows = rows; version = self.now.version } }
+    {
         let version = self.version();
-        Ok(Ready { rows, version })
+        Ready { rows, version }
     }
 
     /// Puts rows in place that were made ready at this version and are as sound as the current

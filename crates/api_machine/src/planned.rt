@@ -5,7 +5,7 @@ ghost use Rattle.api_policy.specs.Shown.{shown_as};
 ghost use Rattle.api_machine.specs.Plan.{IsDrafted};
 
 use api_shown::{Shows, shown_of};
-use api_types::{Answer, Change, Refusal, RowKind, Shown};
+use api_types::{Answer, Refusal, RowKind, Shown};
 use call_parts::{Asking, Draft, PlannedRow};
 use net_addr::{Names, OutOfMemory};
 use std::alloc::Global;
@@ -13,8 +13,8 @@ use std::alloc::Global;
 /// What a call would change, and its answer.
 #[derive(Drop)]
 pub struct Planned {
-    /// None where the call changes nothing.
-    pub change: Option<Change>,
+    /// The change and the rows after it. None where the call changes nothing.
+    pub change: Option<Draft>,
     pub answer: Answer,
 }
 
@@ -34,8 +34,9 @@ impl Planned {
     pub(crate) fn changing(draft: Draft, answer: Answer) -> Planned
         ensures { IsDrafted draft (reply_of answer) result }
     {
+        let _change = draft.change(); // for the proof: it leads from the first rows to the last
         Planned {
-            change: Some(draft.into_change()),
+            change: Some(draft),
             answer,
         }
     }

@@ -173,9 +173,19 @@ impl Draft {
     }
 
     /// The change that leads from the current rows to those after the edits.
-    pub fn into_change(self) -> Change
-        ensures { LeadsTo self.start result self.rows }
+    pub fn change(&self) -> &Change
+        ensures value { result.now ≡ self.now.change }
+        ensures leads { LeadsTo self.now.start self.now.change self.now.rows }
     {
-        self.change
+        &self.change
+    }
+
+    /// The change, and the rows that it leads to.
+    pub fn into_parts(self) -> (Change, Rows)
+        ensures change { result.0 ≡ self.change }
+        ensures rows { result.1 ≡ self.rows }
+    {
+        let Draft { change, rows, .. } = self;
+        (change, rows)
     }
 }

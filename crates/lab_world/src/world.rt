@@ -25,6 +25,7 @@ ghost use Rattle.lab_world.specs.World.{ByLab, Handles, IsAskInForm, IsHandled, 
 
 use crate::hosts::Hosts;
 use crate::opening::OpenRefusal;
+use api_consistency::find_broken;
 use api_machine::Machine;
 use api_types::{Caller, Refusal, Rows};
 use bus_core::Bus;
@@ -65,8 +66,8 @@ impl World {
     /// each of which wires them. Where delivery is `manual` hosts hear of changes by `deliver`
     /// alone, otherwise each is told of each change at once. It is refused where the rows break a
     /// clause of consistency, with the first one, or because memory ran out; rows and settings are
-    /// dropped then. Its cost grows with the square of the rows, and with the hosts times the
-    /// rows.
+    /// dropped then. Its cost grows with the rows and the logarithm of their number, and with the
+    /// hosts times the rows; with the square of the rows where they break a clause.
     pub fn open(
         alloc: Global,
         rows: Rows,
@@ -77,7 +78,10 @@ impl World {
         ensures sound { OnOk result (first_broken_of settings.hosts rows ≡ None) }
         ensures err { IfErr result (IsOpenRefusal (first_broken_of settings.hosts rows)) }
     {
-        let machine = Machine::open(rows, settings)?;
+        if let Some(broken) = find_broken(alloc, &rows, &settings) {
+            return Err(OpenRefusal::from(broken));
+        }
+        let machine = Machine::of(rows, settings);
         let hosts = first_hosts(alloc, machine.rows(), machine.settings().hosts())?;
         let bus = Bus::make(alloc)?;
         Ok(World {

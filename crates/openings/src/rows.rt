@@ -10,7 +10,7 @@ ghost use Rattle.openings.specs.Openings as openings;
 
 use crate::store::open_store;
 use crate::unopened::Unopened;
-use api_check::first_broken;
+use api_consistency::find_broken;
 use api_types::Rows;
 use command_lines::Opening;
 use keeper_core::{Desk, Keeper};
@@ -35,7 +35,7 @@ fn load_rows<K: Keeper>(
     ensures kept { (K.told keeper.new).rows ≡ (K.told keeper.old).rows }
 {
     let rows = keeper.load(alloc)?;
-    match first_broken(&rows, settings) {
+    match find_broken(alloc, &rows, settings) {
         Some(_) => Err(Unopened::Inconsistent),
         None => Ok(rows),
     }
@@ -43,7 +43,8 @@ fn load_rows<K: Keeper>(
 
 /// Asks the desk for the settings, and if they are good for the store, reads the store's rows and
 /// tests that they are consistent. The store is closed again, with the rows that it had. Its cost
-/// grows with the settings, and with the square of the rows.
+/// grows with the settings, and with the rows and the logarithm of their number, where they are
+/// consistent and memory suffices; otherwise with the square of the rows.
 pub fn read_rows<D: Desk>(
     alloc: Global,
     desk: &mut D,

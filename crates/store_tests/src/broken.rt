@@ -8,9 +8,9 @@ use std::alloc::Global;
 use std::test::Fail;
 use test_rows::{add, id, mac, network, port};
 
-// Clauses by number, each with the kind of the first row that breaks it in the store that is spoiled
-// so, and what its id is made of.
-const CLAUSES: [(u8, Kind, u8); 3] = [
+/// Clauses by number, each with the kind of the first row that breaks it in the store that is spoiled
+/// so, and what its id is made of.
+pub(crate) const CLAUSES: [(u8, Kind, u8); 3] = [
     (4, Kind::Port, 31),
     (10, Kind::Floating, 50),
     (12, Kind::Port, 72),
@@ -46,8 +46,8 @@ fn found(alloc: Global, rows: &Rows) -> Result<Option<Inconsistent>, OutOfMemory
     Ok(first_broken(rows, &settings))
 }
 
-// A store in which one clause is broken.
-fn spoiled(alloc: Global, rule: u8) -> Result<Rows, OutOfMemory> {
+/// A store in which one clause is broken.
+pub(crate) fn spoiled(alloc: Global, rule: u8) -> Result<Rows, OutOfMemory> {
     let mut rows = store(alloc)?;
     spoil(alloc, &mut rows, rule)?;
     Ok(rows)

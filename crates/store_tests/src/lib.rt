@@ -7,7 +7,13 @@
 #![tactic(auto)]
 
 #[cfg(test)]
+mod again;
+#[cfg(test)]
 mod broken;
+#[cfg(test)]
+mod found;
+#[cfg(test)]
+mod quick;
 #[cfg(test)]
 mod rows;
 #[cfg(test)]

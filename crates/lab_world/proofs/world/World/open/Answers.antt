@@ -13,7 +13,7 @@ use Rattle.lab_world.proofs.world.World.open.Goals as goal
 
 pub invariant_of-result : goal.invariant_of-result
 invariant_of-result c =
-    let made = c.in_ok-machine.ensures.ok in
+    let made = c.of-machine.ensures in
     let settings = c.args.settings in
     let settings_is = c.settings.ensures.value ∙ (λ j. (made j).settings) in
     let rows_is = c.rows.ensures.rows ∙ (λ j. (made j).rows) in
@@ -33,7 +33,7 @@ invariant_of-result c =
 
 pub returns-clause-ok : goal.returns-clause-ok
 returns-clause-ok c =
-    let made = c.in_ok-machine.ensures.ok in
+    let made = c.of-machine.ensures in
     let settings = c.args.settings in
     let settings_is = c.settings.ensures.value ∙ (λ j. (made j).settings) in
     let rows_is = c.rows.ensures.rows ∙ (λ j. (made j).rows) in

@@ -1,0 +1,12 @@
+pub mod StretchLemmas
+pub mod OnceLemmas
+pub mod FoundLemmas
+pub mod PlaceLemmas
+pub mod KeyLemmas
+pub mod DisjointLemmas
+pub mod RouterLemmas
+pub mod DhcpLemmas
+pub mod RuleLemmas
+pub mod GroupLemmas
+pub mod SoundLemmas
+pub mod SoundLaw

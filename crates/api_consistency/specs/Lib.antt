@@ -1,0 +1,4 @@
+pub mod Stretches
+pub mod Numbers
+pub mod Keys
+pub mod Parts
