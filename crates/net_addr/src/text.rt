@@ -8,7 +8,7 @@ use arrayvec::ArrayString;
 use std::alloc::Global;
 use std::marker::Model;
 
-// Texts of at most so many bytes take no memory of their own: ids, addresses, names of members.
+// Texts of at most this many bytes take no memory of their own: ids, addresses, names of members.
 const INLINE: usize = 40;
 
 // Where the bytes of a text are kept.
@@ -20,7 +20,7 @@ enum Place {
 
 /// A text. Contracts see it as the list of its bytes in UTF-8. One of at most 40 bytes takes no
 /// memory of its own, as a rule.
-#[derive(Debug, Drop)]
+#[derive(Debug)]
 pub struct Text {
     place: Place,
 }
@@ -32,6 +32,13 @@ impl Model for Text {
     ghost Value = { List ℕ };
 
     ghost view = { λ t. bytes_at t.place };
+}
+
+// One call in place of two ways at each exit of a function that owns texts.
+impl Drop for Text {
+    fn drop(self) {
+        let Text { place: _ } = self;
+    }
 }
 
 impl Text {

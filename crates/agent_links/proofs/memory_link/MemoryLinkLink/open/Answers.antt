@@ -1,11 +1,7 @@
-use Rattle.std.proofs.Common.{◌≡◌, ◌∙◌, ◌+◌, ◌-◌, ◌^◌, Some, map, min, ap, subst, sym, arith}
-use Rattle.std.specs.Prelude.{Err}
+use Rattle.std.proofs.Common.{◌≡◌, ◌∙◌, ◌+◌, ◌-◌, ◌^◌, Some, map, min, ap, sym, arith}
 use Rattle.keeper_core.specs.declared.calls.Calls.{Calls}
-use Rattle.keeper_core.specs.declared.refusal.OutsideRefusal.TheVariants.{Failed}
-use Rattle.agent_links.specs.Links.{OpensLink}
-use Rattle.agent_links.specs.MemoryLinks.{MemoryLinks, ended_of, links_told}
+use Rattle.agent_links.specs.MemoryLinks.{MemoryLinks, ended_of}
 use Rattle.agent_links.proofs.memory_link.MemoryLinkLink.open.Goals as goal
-use Rattle.agent_links.proofs.memory_link.MemoryLinkLink.open.Goals.{in-Apart-2, in-Inline-2}
 
 pub returns-in-None-clause-opens : goal.returns-in-None-clause-opens
 returns-in-None-clause-opens c =
@@ -15,18 +11,7 @@ returns-in-None-clause-opens c =
     let before : c.self.inside.calls.faults ≡ c.args.self.now.calls.faults = ap (λ (v : MemoryLinks). v.calls.faults) c.self.view_is in
     let first = c.count.ensures.cause.later in
     let more = c.add_faults.ensures.later in
-    let is : c.add_faults.new.calls.faults ≡ min (c.count.new.self.faults + 1) (2 ^ 64 - 1) = ap (λ (k : Calls). k.faults) c.add_faults.ensures.is in
-    let links : MemoryLinks = record {
-      to_come = c.pop_front.new.self.items;
-      ended = map ended_of c.reserve.new.self.items;
-      opened = c.self.inside.address;
-      calls = c.add_faults.new.calls;
-    } in
-    let links_are : c.match-address-2.self ≡ links = elim c.match-address-2.branch [
-      | in-Apart-2 w ↦ w.self-is
-      | in-Inline-2 w ↦ w.self-is
-    ] in
-    subst (λ (v : MemoryLinks). OpensLink c.args.address.now (Err Failed) (links_told c.args.self.now) (links_told v)) (sym links_are) (record {
+    let is : c.add_faults.new.calls.faults ≡ min (c.count.new.self.faults + 1) (2 ^ 64 - 1) = ap (λ (k : Calls). k.faults) c.add_faults.ensures.is in record {
       comes = ap Some to_come;
       cause = record { later = omega (arith, before, first, more); failed = λ _. omega (arith, before, first, is) };
       is = λ j. record {
@@ -35,4 +20,4 @@ returns-in-None-clause-opens c =
         opened = opened j;
         faults = c.add_faults.new.calls.faults;
       };
-    })
+    }
