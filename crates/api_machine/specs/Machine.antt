@@ -1,5 +1,6 @@
 -- What the API machine is: consistent rows with their version, under settings.
 use Rattle.net_addr.specs.Words.{Version}
+use Rattle.std.specs.Prelude.{◌≡◌, IfSome, Option}
 use Rattle.api_types.specs.Consistent.{IsConsistent}
 use Rattle.api_types.specs.RowLists.{RowLists}
 use Rattle.net_settings.specs.Rules.{MeetsRules}
@@ -26,3 +27,8 @@ pub record IsSound (m : MachineParts) : Type 0 where
   pub consistent : IsConsistent m.rows
   pub typed : AreTyped m.rows
   pub carried : HostsCarry m.settings m.rows
+
+-- such a machine, beside rows equal to its own, if there are any
+pub record IsKept (m : MachineParts) (shadow : Option RowLists) : Type 0 where
+  pub sound : IsSound m
+  pub same : IfSome shadow (λ rows. rows ≡ m.rows)

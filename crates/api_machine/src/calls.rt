@@ -119,14 +119,14 @@ fn delete(alloc: Global, asking: &Asking<'_>, kind: Kind, name: &IdText) -> Resu
 {
     match kind {
         Kind::Project => Err(not_found(alloc, Kind::Project, &name.text)),
-        Kind::Network => Ok(plan_deletion(delete_network(alloc, asking, name)?)),
-        Kind::Subnet => Ok(plan_deletion(delete_subnet(alloc, asking, name)?)),
-        Kind::Port => Ok(plan_deletion(delete_port(alloc, asking, name)?)),
-        Kind::Group => Ok(plan_deletion(delete_group(alloc, asking, name)?)),
-        Kind::Rule => Ok(plan_deletion(delete_rule(alloc, asking, name)?)),
-        Kind::Router => Ok(plan_deletion(delete_router(alloc, asking, name)?)),
-        Kind::Floating => Ok(plan_deletion(delete_floating(alloc, asking, name)?)),
-        Kind::Policy => Ok(plan_deletion(delete_policy(alloc, asking, name)?)),
+        Kind::Network => Ok(plan_deletion(delete_network(alloc, asking, name)?)?),
+        Kind::Subnet => Ok(plan_deletion(delete_subnet(alloc, asking, name)?)?),
+        Kind::Port => Ok(plan_deletion(delete_port(alloc, asking, name)?)?),
+        Kind::Group => Ok(plan_deletion(delete_group(alloc, asking, name)?)?),
+        Kind::Rule => Ok(plan_deletion(delete_rule(alloc, asking, name)?)?),
+        Kind::Router => Ok(plan_deletion(delete_router(alloc, asking, name)?)?),
+        Kind::Floating => Ok(plan_deletion(delete_floating(alloc, asking, name)?)?),
+        Kind::Policy => Ok(plan_deletion(delete_policy(alloc, asking, name)?)?),
     }
 }
 
@@ -154,11 +154,11 @@ pub(crate) fn plan_call(alloc: Global, asking: &Asking<'_>, call: &Call) -> Resu
         Call::Delete { kind, name } => delete(alloc, asking, *kind, name),
         Call::AddInterface { router, by } => {
             let PlannedInterface { draft, shown } = add_interface(alloc, asking, router, by)?;
-            Ok(Planned::changing(draft, Answer::Interface(shown)))
+            Ok(Planned::changing(draft, Answer::Interface(shown))?)
         }
         Call::RemoveInterface { router, by } => {
             let PlannedInterface { draft, shown } = remove_interface(alloc, asking, router, by)?;
-            Ok(Planned::changing(draft, Answer::Interface(shown)))
+            Ok(Planned::changing(draft, Answer::Interface(shown))?)
         }
     }
 }

@@ -15,6 +15,7 @@ mod laws;
 mod machine;
 mod planned;
 mod reads;
+mod shadow;
 
 pub use laws::{calls_keep, tenants_stay_apart};
 pub use machine::{Machine, Ready};

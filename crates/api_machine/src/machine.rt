@@ -19,6 +19,7 @@ ghost use Rattle.api_machine.specs.Plan.{Plans};
 
 use crate::calls::plan_call;
 use crate::planned::Planned;
+use crate::shadow::Shadow;
 use api_check::{Inconsistent, first_broken};
 use api_types::{Call, Caller, Change, Refusal, Rows};
 use call_parts::{Asking, State, are_typed};
@@ -27,15 +28,18 @@ use net_settings::Settings;
 use std::alloc::Global;
 use std::marker::Model;
 
-/// Consistent rows with their version, under settings whose hosts can carry them.
+/// Consistent rows with their version, under settings whose hosts can carry them. The rows of the
+/// version before stand beside them and follow one change late: so a change is put into tables that
+/// no one shares, and no table is copied.
 #[derive(Drop)]
 pub struct Machine {
     settings: Settings,
     state: State,
+    shadow: Option<Shadow>,
 }
 
 impl Model for Machine {
-    ghost use Rattle.api_machine.specs.Machine.{IsSound, MachineParts};
+    ghost use Rattle.api_machine.specs.Machine.{IsKept, MachineParts};
 
     ghost Value = { MachineParts };
 
@@ -43,8 +47,9 @@ impl Model for Machine {
         record { settings = m.settings; rows = m.state.rows; version = m.state.version } };
 
     ghost invariant = { λ m.
-        IsSound
-        (record { settings = m.settings; rows = m.state.rows; version = m.state.version }) };
+        IsKept
+        (record { settings = m.settings; rows = m.state.rows; version = m.state.version })
+        m.shadow };
 }
 
 /// Rows that can be put in place of those of a version.
@@ -52,14 +57,18 @@ impl Model for Machine {
 pub struct Ready {
     rows: Rows,
     version: u64,
+    shadow: Shadow,
 }
 
 impl Model for Ready {
+    ghost use Rattle.std.specs.Prelude.{◌≡◌};
     ghost use Rattle.call_parts.specs.State.{State};
 
     ghost Value = { State };
 
     ghost view = { λ r. record { rows = r.rows; version = r.version } };
+
+    ghost invariant = { λ r. r.shadow ≡ r.rows };
 }
 
 impl Ready {
@@ -82,7 +91,11 @@ impl Machine {
         are_typed(&rows);
         let _rules = settings.hosts(); // for the proof: the settings meet their rules
         let state = State::make(rows, 0);
-        Machine { settings, state }
+        Machine {
+            settings,
+            state,
+            shadow: None,
+        }
     }
 
     /// A machine with these rows, at version 0. It is refused where they break a clause of
@@ -153,8 +166,20 @@ impl Machine {
         plan_call(alloc, &asking, call)
     }
 
-    /// The rows after a change that fits, ready to be put in place. Nothing changes. Its cost
-    /// grows with the rows.
+    // Rows equal to the current ones, whose tables no one shares as a rule.
+    fn rows_apart(&mut self, alloc: Global) -> Result<Rows, OutOfMemory>
+        ensures rows { IfOk result (λ rows. rows ≡ self.old.rows) }
+        ensures same { self.new ≡ self.old }
+    {
+        match self.shadow.take() {
+            Some(shadow) => shadow.into_rows(alloc),
+            None => self.rows().copy(alloc),
+        }
+    }
+
+    /// The rows after a change that fits, ready to be put in place. Nothing changes. Its cost is
+    /// that of the change; for the first change of a kind, and after one that was given up, it grows
+    /// with the rows of the kinds that the change touches.
     pub fn prepare(&mut self, alloc: Global, change: &Change) -> Result<Ready, OutOfMemory>
         requires fits { Fits self.old.rows change.now }
         ensures ready { IfOk result
@@ -162,17 +187,16 @@ impl Machine {
             ≡ record { rows = after self.old.rows change.now; version = self.old.version }) }
         ensures same { self.new ≡ self.old }
     {
-        let mut rows = self.rows().copy(alloc)?;
+        let before = self.rows().copy(alloc)?;
+        let shadow = Shadow::of(alloc, before, change)?;
+        let mut rows = self.rows_apart(alloc)?;
         rows.apply_change(alloc, change)?;
-        Ok(self.ready(rows))
-    }
-
-    /// Rows that a plan leads to, ready to be put in place.
-    pub fn ready(&self, rows: Rows) -> Ready
-        ensures { result ≡ record { rows = rows; version = self.now.version } }
-    {
         let version = self.version();
-        Ready { rows, version }
+        Ok(Ready {
+            rows,
+            version,
+            shadow,
+        })
     }
 
     /// Puts rows in place that were made ready at this version and are as sound as the current
@@ -188,7 +212,12 @@ impl Machine {
               version = self.old.version + 1;
             } }
     {
-        let Ready { rows, version } = ready;
+        let Ready {
+            rows,
+            version,
+            shadow,
+        } = ready;
         self.state = State::make(rows, version + 1);
+        self.shadow = Some(shadow);
     }
 }

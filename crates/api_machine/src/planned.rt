@@ -1,11 +1,11 @@
 //! What a call would change, and its answer.
-ghost use Rattle.std.specs.Prelude.{◌≡◌, [], IfErr, IfOk, None};
+ghost use Rattle.std.specs.Prelude.{◌≡◌, [], IfErr, IfOk, IfSome, None};
 ghost use Rattle.api_types.specs.Printed.{NewRow, NoRow, OneRow, reply_of, shown_row};
 ghost use Rattle.api_policy.specs.Shown.{shown_as};
 ghost use Rattle.api_machine.specs.Plan.{IsDrafted};
 
 use api_shown::{Shows, shown_of};
-use api_types::{Answer, Refusal, RowKind, Shown};
+use api_types::{Answer, Change, Refusal, RowKind, Rows, Shown};
 use call_parts::{Asking, Draft, PlannedRow};
 use net_addr::{Names, OutOfMemory};
 use std::alloc::Global;
@@ -13,8 +13,8 @@ use std::alloc::Global;
 /// What a call would change, and its answer.
 #[derive(Drop)]
 pub struct Planned {
-    /// The change and the rows after it. None where the call changes nothing.
-    pub change: Option<Draft>,
+    /// None where the call changes nothing.
+    pub change: Option<Change>,
     pub answer: Answer,
 }
 
@@ -31,38 +31,74 @@ impl Planned {
     }
 
     /// A plan whose change leads to the rows of a draft.
-    pub(crate) fn changing(draft: Draft, answer: Answer) -> Planned
-        ensures { IsDrafted draft (reply_of answer) result }
+    pub(crate) fn changing(draft: Draft, answer: Answer) -> Result<Planned, OutOfMemory>
+        ensures { IfOk result (IsDrafted draft (reply_of answer)) }
     {
-        let _change = draft.change(); // for the proof: it leads from the first rows to the last
-        Planned {
-            change: Some(draft),
+        Ok(Planned {
+            change: Some(draft.into_change()?),
             answer,
-        }
+        })
     }
 }
 
-// What the caller is shown of a row among the rows that a draft leads to.
-fn show_planned<R: RowKind + Shows>(
+// What the caller is shown of a row among these rows.
+fn show_row<R: RowKind + Shows>(
     alloc: Global,
     asking: &Asking<'_>,
-    draft: &Draft,
+    rows: &Rows,
     row: &R,
 ) -> Result<Shown, OutOfMemory>
     ensures { IfOk result
         (λ s. shown_row s
         ≡ shown_as R.kind_is asking.now.caller.admin []
-        (R.members_of draft.now.rows asking.now.caller row.now)) }
+        (R.members_of rows.now asking.now.caller row.now)) }
 {
     let fields = Names::new(alloc);
-    shown_of(
-        alloc,
-        draft.rows(),
-        asking.caller(),
-        R::kind(),
-        row,
-        &fields,
-    )
+    shown_of(alloc, rows, asking.caller(), R::kind(), row, &fields)
+}
+
+// What the caller is shown of a row among the rows that a draft leads to, if no more than the last
+// edit has to be put into them, and what is shown says nothing of other rows of its kind.
+fn show_early<R: RowKind + Shows>(
+    alloc: Global,
+    asking: &Asking<'_>,
+    draft: &Draft,
+    row: &R,
+) -> Result<Option<Shown>, OutOfMemory>
+    ensures { IfOk result
+        (λ o. IfSome o
+        (λ s. shown_row s
+        ≡ shown_as R.kind_is asking.now.caller.admin []
+        (R.members_of draft.now.rows asking.now.caller row.now))) }
+{
+    if !R::is_apart() {
+        return Ok(None);
+    }
+    match draft.rows_but_of(R::kind()) {
+        Some(rows) => Ok(Some(show_row(alloc, asking, rows, row)?)),
+        None => Ok(None),
+    }
+}
+
+// The same for any draft, which is handed back.
+fn show_planned<R: RowKind + Shows>(
+    alloc: Global,
+    asking: &Asking<'_>,
+    draft: Draft,
+    row: &R,
+) -> Result<(Draft, Shown), OutOfMemory>
+    ensures draft { IfOk result (λ p. p.0 ≡ draft) }
+    ensures shown { IfOk result
+        (λ p. shown_row p.1
+        ≡ shown_as R.kind_is asking.now.caller.admin []
+        (R.members_of draft.rows asking.now.caller row.now)) }
+{
+    if let Some(shown) = show_early(alloc, asking, &draft, row)? {
+        return Ok((draft, shown));
+    }
+    let settled = draft.settle(alloc)?;
+    let shown = show_row(alloc, asking, settled.rows(), row)?;
+    Ok((settled.into_draft(alloc), shown))
 }
 
 /// The plan that makes a row, and shows it. Its cost is that of printing.
@@ -78,8 +114,8 @@ pub(crate) fn plan_creation<R: RowKind + Shows>(
     ensures err { IfErr result (λ e. e ≡ Refusal.OutOfMemory) }
 {
     let PlannedRow { draft, row } = planned;
-    let shown = show_planned(alloc, asking, &draft, &row)?;
-    Ok(Planned::changing(draft, Answer::Created(shown)))
+    let (draft, shown) = show_planned(alloc, asking, draft, &row)?;
+    Ok(Planned::changing(draft, Answer::Created(shown))?)
 }
 
 /// The plan that changes a row, and shows it. Its cost is that of printing.
@@ -95,13 +131,13 @@ pub(crate) fn plan_update<R: RowKind + Shows>(
     ensures err { IfErr result (λ e. e ≡ Refusal.OutOfMemory) }
 {
     let PlannedRow { draft, row } = planned;
-    let shown = show_planned(alloc, asking, &draft, &row)?;
-    Ok(Planned::changing(draft, Answer::One(shown)))
+    let (draft, shown) = show_planned(alloc, asking, draft, &row)?;
+    Ok(Planned::changing(draft, Answer::One(shown))?)
 }
 
 /// The plan that takes rows out, and shows none.
-pub(crate) fn plan_deletion(draft: Draft) -> Planned
-    ensures { IsDrafted draft NoRow result }
+pub(crate) fn plan_deletion(draft: Draft) -> Result<Planned, OutOfMemory>
+    ensures { IfOk result (IsDrafted draft NoRow) }
 {
     Planned::changing(draft, Answer::Gone)
 }

@@ -71,7 +71,18 @@ fn protocol_of(alloc: Global, rule: &RuleRow) -> Result<Printed, OutOfMemory>
 }
 
 impl Shows for RuleRow {
+    ghost use Rattle.api_policy.specs.Groups.{rule_members};
+    ghost use Rattle.std.specs.Prelude.{refl, true};
+
     ghost members_of = { λ _ _ r. rule_members r };
+
+    ghost is_apart = { true };
+
+    ghost apart = { λ _ _ _ _ _. refl };
+
+    fn is_apart() -> bool {
+        true
+    }
 
     fn members(
         &self,
@@ -131,8 +142,17 @@ fn rules_of(
 
 impl Shows for GroupRow {
     ghost use Rattle.api_policy.specs.Groups.{group_members};
+    ghost use Rattle.std.specs.Prelude.{refl, true};
 
     ghost members_of = { λ rows _ g. group_members rows g };
+
+    ghost is_apart = { true };
+
+    ghost apart = { λ _ _ _ _ _. refl };
+
+    fn is_apart() -> bool {
+        true
+    }
 
     fn members(&self, alloc: Global, rows: &Rows, caller: &Caller) -> Result<Members, OutOfMemory> {
         let rules = rules_of(alloc, rows, caller, self)?;

@@ -79,8 +79,18 @@ fn number(segment: &Segment) -> Printed
 
 impl Shows for NetworkRow {
     ghost use Rattle.api_policy.specs.Networks.{network_members};
+    ghost use Rattle.api_shown.specs.OwnKind.{never};
+    ghost use Rattle.std.specs.Prelude.{false};
 
     ghost members_of = { network_members };
+
+    ghost is_apart = { false };
+
+    ghost apart = { λ h _ _ _ _. never h };
+
+    fn is_apart() -> bool {
+        false
+    }
 
     fn members(&self, alloc: Global, rows: &Rows, caller: &Caller) -> Result<Members, OutOfMemory> {
         let policies = rows.policies().rows();

@@ -46,8 +46,18 @@ pub(crate) fn status(active: bool) -> &'static str
 
 impl Shows for PortRow {
     ghost use Rattle.api_policy.specs.Ports.{port_members};
+    ghost use Rattle.api_shown.specs.OwnKind.{port_apart};
+    ghost use Rattle.std.specs.Prelude.{true};
 
     ghost members_of = { λ rows _ p. port_members rows p };
+
+    ghost is_apart = { true };
+
+    ghost apart = { λ _ rows item _ p. port_apart rows item p };
+
+    fn is_apart() -> bool {
+        true
+    }
 
     fn members(
         &self,

@@ -54,8 +54,17 @@ fn gateway_of(alloc: Global, rows: &Rows, router: &RouterRow) -> Result<Printed,
 
 impl Shows for RouterRow {
     ghost use Rattle.api_policy.specs.Routers.{router_members};
+    ghost use Rattle.std.specs.Prelude.{refl, true};
 
     ghost members_of = { λ rows _ r. router_members rows r };
+
+    ghost is_apart = { true };
+
+    ghost apart = { λ _ _ _ _ _. refl };
+
+    fn is_apart() -> bool {
+        true
+    }
 
     fn members(
         &self,
@@ -80,8 +89,17 @@ impl Shows for RouterRow {
 
 impl Shows for FloatingRow {
     ghost use Rattle.api_policy.specs.Floatings.{floating_members};
+    ghost use Rattle.std.specs.Prelude.{refl, true};
 
     ghost members_of = { λ _ _ f. floating_members f };
+
+    ghost is_apart = { true };
+
+    ghost apart = { λ _ _ _ _ _. refl };
+
+    fn is_apart() -> bool {
+        true
+    }
 
     fn members(
         &self,
@@ -119,8 +137,17 @@ fn action_word(action: Action) -> &'static str
 
 impl Shows for PolicyRow {
     ghost use Rattle.api_policy.specs.Policies.{policy_members};
+    ghost use Rattle.std.specs.Prelude.{refl, true};
 
     ghost members_of = { λ _ _ p. policy_members p };
+
+    ghost is_apart = { true };
+
+    ghost apart = { λ _ _ _ _ _. refl };
+
+    fn is_apart() -> bool {
+        true
+    }
 
     fn members(
         &self,

@@ -39,8 +39,17 @@ impl Printable for Ipv6Mode {
 
 impl Shows for SubnetRow {
     ghost use Rattle.api_policy.specs.Subnets.{subnet_members};
+    ghost use Rattle.std.specs.Prelude.{refl, true};
 
     ghost members_of = { λ _ _ s. subnet_members s };
+
+    ghost is_apart = { true };
+
+    ghost apart = { λ _ _ _ _ _. refl };
+
+    fn is_apart() -> bool {
+        true
+    }
 
     fn members(
         &self,

@@ -10,6 +10,7 @@ use Rattle.api_types.specs.Rows.{project_id, after, before, after_item, before_i
 use Rattle.api_types.specs.declared.change.Item.{Item}
 use Rattle.api_types.specs.declared.kind.Kind.{Kind}
 use Rattle.api_types.specs.declared.kind.Row.{Row}
+use Rattle.api_types.specs.declared.project.ProjectRow.{ProjectRow}
 use Rattle.api_types.specs.declared.kind.Kind.TheVariants.{Project, Network, Subnet, Port, Group, Rule, Router, Floating, Policy}
 use Rattle.api_types.proofs.EditLemmas.{undone, own_still}
 
@@ -30,6 +31,31 @@ Fits-push rows (x ∷ items) item fits one = (fits.0, Fits-push (after_item rows
 pub Fits-parts : (rows : RowLists) (items : List Item) (item : Item) → Fits rows (items ++ item ∷ []) → Fits rows items × FitsItem (after rows items) item
 Fits-parts rows [] item fits = (tt, fits.0)
 Fits-parts rows (x ∷ items) item fits = let rest = Fits-parts (after_item rows x) items item fits.1 in ((fits.0, rest.0), rest.1)
+
+-- an item of projects, and one of another kind: each is put into a table of its own
+
+pub fits_beside : (rows : RowLists) (projects : List ProjectRow) (k : Kind) (item : Item) → ¬ (k ≡ Project) → FitsOfKind k (record rows { projects = projects }) item → FitsOfKind k rows item
+fits_beside rows projects Project item other fits = absurd (other refl)
+fits_beside rows projects Network item other fits = fits
+fits_beside rows projects Subnet item other fits = fits
+fits_beside rows projects Port item other fits = fits
+fits_beside rows projects Group item other fits = fits
+fits_beside rows projects Rule item other fits = fits
+fits_beside rows projects Router item other fits = fits
+fits_beside rows projects Floating item other fits = fits
+fits_beside rows projects Policy item other fits = fits
+
+pub after_beside : (rows : RowLists) (projects : List ProjectRow) (k : Kind) (item : Item) → ¬ (k ≡ Project)
+    → record (after_of_kind k rows item) { projects = projects } ≡ after_of_kind k (record rows { projects = projects }) item
+after_beside rows projects Project item other = absurd (other refl)
+after_beside rows projects Network item other = refl
+after_beside rows projects Subnet item other = refl
+after_beside rows projects Port item other = refl
+after_beside rows projects Group item other = refl
+after_beside rows projects Rule item other = refl
+after_beside rows projects Router item other = refl
+after_beside rows projects Floating item other = refl
+after_beside rows projects Policy item other = refl
 
 -- two changes, one after the other
 

@@ -1,6 +1,7 @@
 //! The rows of all kinds: nine shared tables, and changes put in and undone.
 
 ghost use Rattle.std.specs.Prelude.{◌≡◌, [], ◌∷◌, ◌++◌, if◌then◌else◌, OnOk, OnErr, IfOk};
+ghost use Rattle.api_types.specs.declared.kind.Kind.TheVariants.{Project};
 ghost use Rattle.api_types.specs.Table.{is_new};
 ghost use Rattle.api_types.specs.RowLists.{RowLists};
 
@@ -284,7 +285,8 @@ impl Rows {
 
     fn apply_item(&mut self, alloc: Global, item: &Item) -> Result<(), OutOfMemory>
         requires { FitsItem self.old item.now }
-        ensures { OnOk result (self.new ≡ after_item self.old item.now) }
+        ensures ok { OnOk result (self.new ≡ after_item self.old item.now) }
+        ensures err { OnErr result (self.new ≡ self.old) }
     {
         match item.kind {
             Kind::Project => edit_shared(alloc, &mut self.projects, item),
@@ -336,17 +338,52 @@ impl Rows {
         Ok(())
     }
 
-    /// Puts a change that fits the rows into them, or leaves them as they are. Its cost
-    /// grows with the rows of the kinds that it touches.
+    // Puts items into copies of the tables that they touch, or leaves all as it is.
+    fn apply_apart(&mut self, alloc: Global, items: &[Item]) -> Result<(), OutOfMemory>
+        requires { Fits self.old items.now }
+        ensures ok { OnOk result (self.new ≡ after self.old items.now) }
+        ensures err { OnErr result (self.new ≡ self.old) }
+    {
+        let mut made = self.copy(alloc)?;
+        made.apply_items(alloc, items)?;
+        *self = made;
+        Ok(())
+    }
+
+    // Puts in an item of projects and one of another kind, as where a row gets the id that is drawn
+    // for it, or leaves all as it is. Only the table of projects is copied, and the other where
+    // other rows share it.
+    fn apply_drawn(&mut self, alloc: Global, drawn: &Item, item: &Item) -> Result<(), OutOfMemory>
+        requires drawn { drawn.now.kind ≡ Project }
+        requires other { ¬ (item.now.kind ≡ Project) }
+        requires fits { Fits self.old (drawn.now ∷ item.now ∷ []) }
+        ensures ok { OnOk result (self.new ≡ after self.old (drawn.now ∷ item.now ∷ [])) }
+        ensures err { OnErr result (self.new ≡ self.old) }
+    {
+        let mut projects = self.projects.copy(alloc)?;
+        edit_shared(alloc, &mut projects, drawn)?;
+        self.apply_item(alloc, item)?;
+        self.projects = projects;
+        Ok(())
+    }
+
+    /// Puts a change that fits the rows into them, or leaves them as they are. Its cost grows with
+    /// the rows of the kinds that it touches; but a row that is added or replaced, alone or after an
+    /// id was drawn for it, costs the same however many there are in a table that is shared with no
+    /// other rows.
     pub fn apply_change(&mut self, alloc: Global, change: &Change) -> Result<(), OutOfMemory>
         requires { Fits self.old change.now }
         ensures ok { OnOk result (self.new ≡ after self.old change.now) }
         ensures err { OnErr result (self.new ≡ self.old) }
     {
-        let mut made = self.copy(alloc)?;
-        made.apply_items(alloc, change.as_slice())?;
-        *self = made;
-        Ok(())
+        let items = change.as_slice();
+        match items {
+            [item] => self.apply_item(alloc, item),
+            [drawn, item] if drawn.kind == Kind::Project && item.kind != Kind::Project => {
+                self.apply_drawn(alloc, drawn, item)
+            }
+            _ => self.apply_apart(alloc, items),
+        }
     }
 
     /// Takes a change back out of the rows that it led to, or leaves them as they are. The old rows

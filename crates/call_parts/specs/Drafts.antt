@@ -3,7 +3,7 @@ use Rattle.std.specs.Prelude.{◌≡◌, ℕ, ◌+◌, ◌++◌, List, [], ◌�
 use Rattle.api_types.specs.Ident.{Ident}
 use Rattle.api_types.specs.Edits.{FitsTable, list_after as list_edited}
 use Rattle.api_types.specs.RowLists.{RowLists}
-use Rattle.api_types.specs.Rows.{Fits, FitsItem, after, after_item}
+use Rattle.api_types.specs.Rows.{Fits, FitsItem, after, after_item, after_of_kind}
 use Rattle.api_types.specs.Registration.{ident}
 use Rattle.api_types.specs.Table.{HaveOwnIds, ident_eq, row_of}
 use Rattle.api_types.specs.declared.change.Item.{Item}
@@ -24,6 +24,10 @@ pub record DraftParts : Type 0 where
   pub start : RowLists
   pub change : List Item
   pub rows : RowLists
+
+-- rows after an item of a kind: they have the same rows of all other kinds
+abbrev pub AreAlikeBut : Kind → RowLists → RowLists → Type 0
+AreAlikeBut kind rows end = (item : Item) × (end ≡ after_of_kind kind rows item)
 
 -- the row with an id, at its place; no two have one id
 pub record IsFound {R : Type 0} (id_of : R → Ident) (i : Ident) (rows : List R) (place : ℕ) (r : R)

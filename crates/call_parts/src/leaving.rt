@@ -95,6 +95,7 @@ pub fn disassociate(
         (λ d. d.rows
         ≡ made draft.rows (disassociations draft.rows.floatings port kept.now)) }
 {
-    let lost = all_disassociated(alloc, draft.rows().floatings().rows(), port, kept)?;
-    put_all(alloc, draft, lost)
+    let settled = draft.settle(alloc)?;
+    let lost = all_disassociated(alloc, settled.rows().floatings().rows(), port, kept)?;
+    put_all(alloc, settled.into_draft(alloc), lost)
 }

@@ -19,7 +19,7 @@ mod state;
 mod typed;
 
 pub use asking::Asking;
-pub use draft::Draft;
+pub use draft::{Draft, Settled};
 pub use drawing::Drawn;
 pub use fixed::one_fixed;
 pub use given::{are_unlike, is_for_other, is_given, owner, text_or, value_of, value_or};

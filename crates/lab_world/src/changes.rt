@@ -12,7 +12,7 @@ ghost use Rattle.lab_world.specs.World.{ByMachine, IsHandled, is_change, state_o
 
 use crate::world::World;
 use api_machine::Planned;
-use api_types::{Answer, Call, Caller, Change, Refusal, Rows};
+use api_types::{Answer, Call, Caller, Change, Refusal};
 use keeper_core::{Keeper, KeeperRefusal};
 use plane_types::Reply;
 use std::alloc::Global;
@@ -54,27 +54,24 @@ impl World {
     {
         let _world = self.rows(); // for the proof: brings in the world's invariant
         let Planned { change, answer } = self.machine.plan(alloc, caller, call)?;
-        if let Some(draft) = change {
-            let (change, rows) = draft.into_parts();
-            self.keep(alloc, keeper, change, rows)?;
+        if let Some(change) = change {
+            self.keep(alloc, keeper, change)?;
         }
         Ok(answer)
     }
 
-    // Makes all ready for a planned change and the rows after it, at the hosts too, hands it to the
-    // keeper, puts the rows in place, tells the hosts and keeps the change as a message, or leaves
-    // all as it is.
+    // Makes all ready for a planned change, at the hosts too, hands it to the keeper, puts it in
+    // place, tells it to the hosts and keeps it as a message, or leaves all as it is.
     fn keep<K: Keeper>(
         &mut self,
         alloc: Global,
         keeper: &mut K,
         change: Change,
-        rows: Rows,
     ) -> Result<(), Refusal>
         requires kept { Tells (K.told keeper.old).rows self.old.history.rows }
         requires fits { Fits self.old.history.rows change }
-        requires leads { after self.old.history.rows change ≡ rows }
-        requires sound { AreKept self.old.settings self.old.history.rows rows }
+        requires sound { AreKept self.old.settings self.old.history.rows
+            (after self.old.history.rows change) }
         requires room { self.old.history.version < 2 ^ 64 - 1 }
         ensures ok { OnOk result (self.new ≡ step self.old (Accept change)) }
         ensures err { OnErr result (self.new ≡ self.old) }
@@ -85,7 +82,7 @@ impl World {
         ensures later { (K.told keeper.old).faults ≤ (K.told keeper.new).faults }
         ensures kept { IsStored self.new.history.rows (K.told keeper.old) (K.told keeper.new) }
     {
-        let ready = self.machine.ready(rows);
+        let ready = self.machine.prepare(alloc, &change)?;
         let version = self.machine.version();
         let told = self
             .hosts

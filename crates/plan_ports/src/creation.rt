@@ -17,7 +17,7 @@ ghost use Rattle.plan_ports.specs.PortCalls as calls;
 ghost use Rattle.plan_ports.specs.PortCalls.{port_created, port_made, port_shown};
 
 use crate::checks::{ensure_body_valid, ensure_creatable};
-use crate::row::{Chosen, new_port};
+use crate::row::{Chosen, Placed, new_port};
 use crate::supply::{Supply, expected_mac, first_supply, mac_for};
 use api_ipam::first_addresses;
 use api_policy::network_seen;
@@ -98,10 +98,14 @@ fn add_port(
     ensures rows { IfOk result
         (λ p. p.draft.rows ≡ with_added drawn.draft.rows (PortOf p.row)) }
 {
-    let port = new_port(alloc, asking, &drawn, form, network, owner, chosen)?;
+    let id = drawn.id(0);
+    let settled = drawn.draft.settle(alloc)?;
+    let Chosen { mac, fixed } = chosen;
+    let placed = Placed { id, mac, fixed };
+    let port = new_port(alloc, asking, settled.rows(), form, network, owner, placed)?;
     let kept = port.copy(alloc)?;
     Ok(PlannedRow {
-        draft: drawn.draft.add(alloc, port)?,
+        draft: settled.add(alloc, port)?,
         row: kept,
     })
 }

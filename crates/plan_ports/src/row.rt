@@ -1,19 +1,18 @@
 //! The row of a port, as a body asks for it.
 
-ghost use Rattle.std.specs.Prelude.{◌≡◌, ◌<◌, ◌^◌, [], IfOk, find, map, option_copied};
+ghost use Rattle.std.specs.Prelude.{◌≡◌, [], IfOk, find, map, option_copied};
 ghost use Rattle.api_types.specs.Consistent.Groups.{is_default_of};
 ghost use Rattle.api_types.specs.Given as given;
-ghost use Rattle.api_types.specs.Registration.{drawn_id};
-ghost use Rattle.call_parts.specs.Answers.{drawing_of};
 ghost use Rattle.plan_ports.specs.PortCalls as calls;
 ghost use Rattle.plan_ports.specs.PortCalls.{ids_of};
 
 use api_ml2::bind;
 use api_policy::is_marked;
 use api_types::{
-    FixedList, Given, GroupRow, Id, NetworkRow, Pair, PairAsked, PortForm, PortRow, Shared, Vif,
+    FixedList, Given, GroupRow, Id, NetworkRow, Pair, PairAsked, PortForm, PortRow, Rows, Shared,
+    Vif,
 };
-use call_parts::{Asking, Drawn, text_or, value_or};
+use call_parts::{Asking, text_or, value_or};
 use net_addr::{Copies, Mac, OutOfMemory, Seq, Text};
 use net_settings::Settings;
 use std::alloc::Global;
@@ -21,6 +20,14 @@ use std::alloc::Global;
 /// What is chosen for a new port: its MAC address and its addresses.
 #[derive(Drop)]
 pub(crate) struct Chosen {
+    pub mac: Mac,
+    pub fixed: FixedList,
+}
+
+/// What a new port is given besides its form: its id, its MAC address and its addresses.
+#[derive(Drop)]
+pub(crate) struct Placed {
+    pub id: Id,
     pub mac: Mac,
     pub fixed: FixedList,
 }
@@ -106,31 +113,29 @@ fn groups_at_first(
     }
 }
 
-/// The new port, with the first id that was drawn. Its cost grows with the groups, the policies and
-/// the hosts.
+/// The new port among rows in which its id is drawn. Its cost grows with the groups, the policies
+/// and the hosts.
 pub(crate) fn new_port(
     alloc: Global,
     asking: &Asking<'_>,
-    drawn: &Drawn,
+    rows: &Rows,
     form: &PortForm,
     network: &NetworkRow,
     owner: &Text,
-    chosen: Chosen,
+    placed: Placed,
 ) -> Result<PortRow, OutOfMemory>
-    requires { drawn.now.first < 2 ^ 62 }
     ensures { IfOk result
         (λ p. p
-        ≡ calls.new_port asking.now.settings drawn.now.draft.rows asking.now.caller form.now
-        network.now owner.now (drawn_id (drawing_of drawn.now) 0) chosen.mac chosen.fixed) }
+        ≡ calls.new_port asking.now.settings rows.now asking.now.caller form.now network.now
+        owner.now placed.id placed.mac placed.fixed) }
 {
-    let Chosen { mac, fixed } = chosen;
-    let rows = drawn.draft.rows();
+    let Placed { id, mac, fixed } = placed;
     let empty = Text::new(alloc);
     let host = text_or(alloc, &empty, &form.binding_host_id)?;
     let secured = value_or(true, &form.port_security_enabled);
     let groups = rows.groups().rows();
     Ok(PortRow {
-        id: drawn.id(0),
+        id,
         project: owner.copy(alloc)?,
         network: network.id,
         name: text_or(alloc, &empty, &form.name)?,

@@ -98,11 +98,12 @@ fn add_port(
 {
     let subnet = fixed.subnet;
     let id = drawn.id(0);
+    let settled = drawn.draft.settle(alloc)?;
     let leg = Leg { id, mac, fixed };
-    let port = interface_port(alloc, asking, drawn.draft.rows(), router, network, &leg)?;
+    let port = interface_port(alloc, asking, settled.rows(), router, network, &leg)?;
     let shown = interface_shown(alloc, router, &port, subnet)?;
     Ok(PlannedInterface {
-        draft: drawn.draft.add(alloc, port)?,
+        draft: settled.add(alloc, port)?,
         shown,
     })
 }

@@ -124,11 +124,12 @@ pub(crate) fn begin_serving(
     if !begins {
         return Ok(draft);
     }
-    match dhcp_port_with(alloc, draft.rows(), network.id, fixed)? {
-        Some(port) => draft.put(alloc, port),
+    let settled = draft.settle(alloc)?;
+    match dhcp_port_with(alloc, settled.rows(), network.id, fixed)? {
+        Some(port) => settled.put(alloc, port),
         None => {
             let id = Id::make(next.ordinal, next.count);
-            draft.add(
+            settled.add(
                 alloc,
                 new_dhcp_port(alloc, settings, network, id, next.mac, fixed)?,
             )
@@ -207,11 +208,12 @@ pub(crate) fn end_serving(
     if !ends {
         return Ok(draft);
     }
-    match dhcp_port_copied(alloc, draft.rows(), network)? {
+    let settled = draft.settle(alloc)?;
+    match dhcp_port_copied(alloc, settled.rows(), network)? {
         Some(port) => {
             let left = outside_subnet(alloc, subnet, port.fixed.as_slice())?;
-            keep_only(alloc, draft, port, left)
+            keep_only(alloc, settled.into_draft(alloc), port, left)
         }
-        None => Ok(draft),
+        None => Ok(settled.into_draft(alloc)),
     }
 }

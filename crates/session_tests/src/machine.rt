@@ -84,8 +84,8 @@ fn a_change_is_undone(rt: HostRuntime) -> Result<(), Fail> {
     let Ok(planned) = planned else {
         return Ok(assert!(rt; false, "no plan"));
     };
-    if let Some(draft) = &planned.change {
-        assert!(rt; put_in_and_taken_back(alloc, draft.change())? == (5, 0));
+    if let Some(change) = &planned.change {
+        assert!(rt; put_in_and_taken_back(alloc, change)? == (5, 0));
     }
     Ok(())
 }

@@ -5,5 +5,6 @@ use Rattle.api_machine.proofs.machine.Machine.of.Goals as goal
 
 pub invariant_of-result : goal.invariant_of-result
 invariant_of-result c =
-    subst (λ (s : State). IsSound (record { settings = c.args.settings; rows = s.rows; version = s.version })) (sym c.make-state.ensures)
-    (record { rules = c.hosts-rules.ensures.rules; consistent = c.requires.consistent; typed = c.are_typed.ensures; carried = c.requires.carried })
+    let sound = subst (λ (s : State). IsSound (record { settings = c.args.settings; rows = s.rows; version = s.version })) (sym c.make-state.ensures)
+    (record { rules = c.hosts-rules.ensures.rules; consistent = c.requires.consistent; typed = c.are_typed.ensures; carried = c.requires.carried }) in
+    record { sound = sound; same = tt }

@@ -1,12 +1,11 @@
-use Rattle.std.proofs.Common.{rules, ◌≡◌, ◌∙◌, None, Some, ap, subst, sym}
+use Rattle.std.proofs.Common.{rules, ◌≡◌, None, Some, subst, sym}
 use Rattle.std.proofs.lemmas.Result.{err_from_is_err_and}
 use Rattle.api_types.specs.Printed.{reply_of}
-use Rattle.api_types.specs.Rows.{Fits, after}
+use Rattle.api_types.specs.Rows.{after}
 use Rattle.api_machine.specs.Plan.{PlansAs}
 use Rattle.api_machine.specs.WholeStep.{api_step}
 use Rattle.kept_laws.specs.Kept.{AreKept}
 use Rattle.api_machine.specs.Machine.{state_at}
-use Rattle.world_laws.specs.Steps.{Accept, step}
 use Rattle.world_laws.specs.World.{World}
 use Rattle.api_machine.proofs.OwnRefusals.{no_plan_fault}
 use Rattle.plane_types.specs.declared.ask.Reply.TheVariants.{Done}
@@ -15,30 +14,12 @@ use Rattle.lab_world.proofs.Planning.{moved_handled, told_handled}
 use Rattle.lab_world.proofs.world.World.answer.Goals as goal
 use Rattle.lab_world.proofs.world.World.answer.Goals.{in-Some+in_ok-keep, in_default}
 
-pub keep-requires-clause-fits : goal.keep-requires-clause-fits
-keep-requires-clause-fits g c =
-    let m = c.self.inside.machine in
-    let draft = c.in-Some.draft in
-    let draft_is : c.in_ok-change.field-0.change ≡ Some draft = search (rules, c.in_ok-change.change-is, c.in-Some.is) in
-    let leads = subst (λ o. PlansAs m.settings (state_at m.rows m.version) (api_step m.settings (state_at m.rows m.version) c.args.caller.now c.args.call.now) o (reply_of c.in_ok-change.field-0.answer)) draft_is c.in_ok-change.ensures.ok in
-    subst (λ change. Fits c.args.self.now.history.rows change) (sym c.into_parts-change.ensures.change) (subst (λ (w : World). Fits w.history.rows draft.change) c.self.view_is leads.leads.fits)
-
-pub keep-requires-clause-leads : goal.keep-requires-clause-leads
-keep-requires-clause-leads g c =
-    let m = c.self.inside.machine in
-    let draft = c.in-Some.draft in
-    let draft_is : c.in_ok-change.field-0.change ≡ Some draft = search (rules, c.in_ok-change.change-is, c.in-Some.is) in
-    let leads = subst (λ o. PlansAs m.settings (state_at m.rows m.version) (api_step m.settings (state_at m.rows m.version) c.args.caller.now c.args.call.now) o (reply_of c.in_ok-change.field-0.answer)) draft_is c.in_ok-change.ensures.ok in
-    ap (λ change. after c.args.self.now.history.rows change) c.into_parts-change.ensures.change ∙ subst (λ (w : World). after w.history.rows draft.change ≡ draft.rows) c.self.view_is leads.leads.leads
-    ∙ sym c.into_parts-change.ensures.rows
-
 pub keep-requires-clause-sound : goal.keep-requires-clause-sound
 keep-requires-clause-sound g c =
     let m = c.self.inside.machine in
-    let draft = c.in-Some.draft in
-    let draft_is : c.in_ok-change.field-0.change ≡ Some draft = search (rules, c.in_ok-change.change-is, c.in-Some.is) in
-    let leads = subst (λ o. PlansAs m.settings (state_at m.rows m.version) (api_step m.settings (state_at m.rows m.version) c.args.caller.now c.args.call.now) o (reply_of c.in_ok-change.field-0.answer)) draft_is c.in_ok-change.ensures.ok in
-    subst (λ rows. AreKept c.args.self.now.settings c.args.self.now.history.rows rows) (sym c.into_parts-change.ensures.rows) (subst (λ (w : World). AreKept w.settings w.history.rows draft.rows) c.self.view_is leads.kept)
+    let change_is : c.in_ok-change.field-0.change ≡ Some c.in-Some.change = search (rules, c.in_ok-change.change-is, c.in-Some.is) in
+    let leads = subst (λ o. PlansAs m.settings (state_at m.rows m.version) (api_step m.settings (state_at m.rows m.version) c.args.caller.now c.args.call.now) o (reply_of c.in_ok-change.field-0.answer)) change_is c.in_ok-change.ensures.ok in
+    subst (λ (w : World). AreKept w.settings w.history.rows (after w.history.rows c.in-Some.change)) c.self.view_is leads.kept
 
 pub returns-in_err-change-clause-store_fault : goal.returns-in_err-change-clause-store_fault
 returns-in_err-change-clause-store_fault g c =
@@ -54,11 +35,10 @@ returns-clause-ok g c =
     subst (λ (w : World). PlansAs w.settings (state_of w) (api_step w.settings (state_of w) c.args.caller.now c.args.call.now) planned.change (reply_of planned.answer)) c.self.view_is c.in_ok-change.ensures.ok in
     elim c.match-change.branch [
       | in-Some+in_ok-keep w ↦
-          (let draft_is : planned.change ≡ Some w.in-Some.draft = search (rules, c.in_ok-change.change-is, w.in-Some.is) in
-          let leads = subst (λ o. PlansAs now.settings (state_of now) outcome o (reply_of planned.answer)) draft_is plans in
-          let moved = w.in_ok-keep.ensures.ok ∙ ap (λ change. step now (Accept change)) w.into_parts-change.ensures.change in
+          (let change_is : planned.change ≡ Some w.in-Some.change = search (rules, c.in_ok-change.change-is, w.in-Some.is) in
+          let leads = subst (λ o. PlansAs now.settings (state_of now) outcome o (reply_of planned.answer)) change_is plans in
           subst (λ (v : World). IsHandled (ByMachine outcome) now v (Done planned.answer)) (sym w.self-is)
-          (moved_handled now w.keep.new.self outcome planned.answer w.in-Some.draft leads moved))
+          (moved_handled now w.keep.new.self outcome planned.answer w.in-Some.change leads w.in_ok-keep.ensures.ok))
       | in_default w ↦
           (let none : planned.change ≡ None = search (rules, c.in_ok-change.change-is, w.in_default.is) in
           let told = subst (λ o. PlansAs now.settings (state_of now) outcome o (reply_of planned.answer)) none plans in

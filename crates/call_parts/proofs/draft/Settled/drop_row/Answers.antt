@@ -2,15 +2,15 @@ use Rattle.std.proofs.Common.{◌≡◌, ◌∙◌, ap, sym, subst, false, Some,
 use Rattle.std.specs.List.{list_any}
 use Rattle.api_types.specs.Table.{ident_eq}
 use Rattle.api_types.specs.Rows.{after_item}
-use Rattle.call_parts.specs.Drafts.{IsFound}
+use Rattle.call_parts.specs.Drafts.{DraftParts, IsFound}
 use Rattle.api_types.specs.RowKinds.{item_of}
 use Rattle.call_parts.proofs.EditLaws.{gone_absent, gone_leads, ok_by}
-use Rattle.call_parts.proofs.draft.Draft.drop_row.Goals as goal
+use Rattle.call_parts.proofs.draft.Settled.drop_row.Goals as goal
 
 pub returns-in_default-clause-rows : goal.returns-in_default-clause-rows
 returns-in_default-clause-rows g c =
     let none : list_any (λ q. ident_eq c.args.id (g.R.Keyed.id_of q)) (g.R.RowKind.list_of c.rows.result.now) ≡ false = c.in_default.ensures.none in
-    gone_absent _ _ _ _ _ _ g.met.R.RowKind.edits c.args.self.rows c.args.id
+    ap (λ (d : DraftParts). d.rows) c.into_draft.ensures ∙ gone_absent _ _ _ _ _ _ g.met.R.RowKind.edits c.args.self.rows c.args.id
     (ap (λ rows. list_any (λ q. ident_eq c.args.id (g.R.Keyed.id_of q)) (g.R.RowKind.list_of rows)) (sym c.rows.ensures) ∙ none)
 
 pub returns-clause-rows : goal.returns-clause-rows
