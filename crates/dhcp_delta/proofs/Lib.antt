@@ -1,0 +1,4 @@
+mod BridgeLemmas
+mod LedLemmas
+mod RowLemmas
+mod ServerLemmas

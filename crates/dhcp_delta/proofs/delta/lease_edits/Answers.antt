@@ -1,0 +1,23 @@
+use Rattle.std.proofs.Common.{subst}
+use Rattle.std.specs.Prelude.{IfOk, nat_lt}
+use Rattle.plane_types.specs.KeyedTables.{keyed_leases}
+use Rattle.plane_types.specs.NumberedRows.{numbered_rows, numbered_rows_after}
+use Rattle.plane_types.specs.TableRows.{lease_rows}
+use Rattle.table_edits.specs.Rewires.{Rewires}
+use Rattle.touched_rows.specs.declared.rewiring.Rewiring.{Rewiring}
+use Rattle.dhcp_delta.proofs.delta.lease_edits.Goals as goal
+
+pub of-requires-clause-up : goal.of-requires-clause-up
+of-requires-clause-up c k p away at = (c.requires.networks k p away at).up
+
+pub of-requires-clause-tag : goal.of-requires-clause-tag
+of-requires-clause-tag c k p away at = (c.requires.networks k p away at).tag
+
+pub returns : goal.returns
+returns c =
+    subst
+    (λ (change : Rewiring). IfOk c.edits_by.result (λ es. Rewires nat_lt
+    (keyed_leases (numbered_rows change.before.now) change.host.now change.old)
+    (keyed_leases (numbered_rows_after change.before.now change.items.now) change.host.now change.new)
+    change.tables.now.lists.leases (lease_rows change.after.now change.host.now change.new) es))
+    c.in_ok-servers.ensures.change c.edits_by.ensures

@@ -1,0 +1,2 @@
+pub mod DescendProp
+pub mod Serving

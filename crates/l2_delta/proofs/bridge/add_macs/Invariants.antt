@@ -1,0 +1,10 @@
+use Rattle.std.proofs.Common.{◌≡◌, ◌++◌, drop, map}
+use Rattle.std.specs.List.{filter_map}
+use Rattle.plane_types.specs.TableRows.{mac_row}
+use Rattle.l2_delta.proofs.bridge.add_macs.Given as goal
+
+-- the entries so far, and those of the ports that are left, are all
+abbrev pub invariant-loop-port : goal.invariant-loop-port
+invariant-loop-port l =
+    l.bridge.items ++ filter_map (mac_row l.rows l.host l.tags) (map (λ p. p.now) (drop l.port-index l.ports))
+    ≡ l.fn.bridge.items ++ filter_map (mac_row l.rows l.host l.tags) (map (λ p. p.now) l.ports)

@@ -1,0 +1,8 @@
+use Rattle.std.proofs.Common.{◌≡◌, map, take}
+use Rattle.plane_types.specs.KeyedTables.{neighbour_key}
+use Rattle.l2_delta.proofs.neighbours.keys_before.Given as goal
+
+-- the keys are those of the rows so far
+abbrev pub invariant-loop-row : goal.invariant-loop-row
+invariant-loop-row l =
+    l.keys.items ≡ map neighbour_key (take l.row-index l.row-items)
