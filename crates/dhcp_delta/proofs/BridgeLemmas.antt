@@ -1,11 +1,11 @@
 -- The bridge of a host leads to the DHCP port of a network exactly if that is here.
-use Rattle.std.proofs.Common.{◌≡◌, ◌∙◌, ℕ, List, Bool, true, false, Option, Some, None, find, refl, ap, sym, subst}
+use Rattle.std.proofs.Common.{◌≡◌, ◌∙◌, ℕ, List, Bool, true, false, Option, Some, None, refl, ap, sym}
 use Rattle.std.specs.Prelude.{◌&&◌, if◌then◌else◌, option_and_then, option_map}
 use Rattle.std.proofs.lemmas.Bool.{and_parts}
 use Rattle.api_types.specs.Holders.{dhcp_port, is_live_dhcp_of, router_of}
 use Rattle.api_types.specs.Ident.{Ident}
-use Rattle.api_types.specs.Live.{is_at, is_here, is_live, segment}
-use Rattle.api_types.specs.Owners.{is_dhcp, is_router_port}
+use Rattle.api_types.specs.Live.{is_at, is_live, segment}
+use Rattle.api_types.specs.Owners.{is_dhcp}
 use Rattle.api_types.specs.RowLists.{RowLists}
 use Rattle.api_types.specs.Table.{ident_eq}
 use Rattle.api_types.specs.declared.network.Segment.{Segment}
@@ -18,7 +18,6 @@ use Rattle.plane_types.specs.TableStep.{bridge_at}
 use Rattle.plane_types.specs.declared.lists.TableLists.{TableLists}
 use Rattle.plane_types.specs.declared.table.BridgeKey.TheVariants.{Dhcp as AtDhcp}
 use Rattle.plane_types.specs.declared.table.BridgeRow.{BridgeRow}
-use Rattle.plane_types.specs.declared.table.BridgeTo.{BridgeTo}
 use Rattle.plane_types.specs.declared.table.BridgeTo.TheVariants.{Tap}
 use Rattle.plane_types.specs.declared.table.TagRow.{TagRow}
 use Rattle.plane_laws.proofs.Facts.{FrameFacts, HostFacts}

@@ -5,7 +5,6 @@ use Rattle.std.specs.List.{list_any}
 use Rattle.std.proofs.lemmas.Bool.Decides.{nat_tests}
 use Rattle.api_types.specs.Ident.{Ident}
 use Rattle.api_types.specs.Live.{is_at, is_live}
-use Rattle.api_types.specs.Owners.{is_dhcp_of}
 use Rattle.api_types.specs.RowLists.{RowLists}
 use Rattle.api_types.specs.RowsWith.{subnet_with}
 use Rattle.api_types.specs.declared.change.Item.{Item}

@@ -1,6 +1,6 @@
 -- The lease of a port, by the DHCP port here of its network.
 use Rattle.std.proofs.Common.{◌≡◌, ◌∙◌, ℕ, List, [], ◌∷◌, Bool, true, false, Option, Some, None, cond, find, refl, ap, sym}
-use Rattle.std.specs.Prelude.{◌&&◌, ◌||◌, if◌then◌else◌, option_and_then, option_map}
+use Rattle.std.specs.Prelude.{◌&&◌, if◌then◌else◌, option_and_then, option_map}
 use Rattle.std.specs.List.{list_any}
 use Rattle.net_addr.specs.Addresses.{is_v4}
 use Rattle.api_types.specs.Consistent.Carried.{is_bound}

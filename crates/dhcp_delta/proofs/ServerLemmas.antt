@@ -1,10 +1,9 @@
 -- The DHCP ports here of networks, before a change and after it: by the bridge, and by the ports
 -- that a change touches.
-use Rattle.std.proofs.Common.{◌≡◌, ◌∙◌, ℕ, List, [], ◌∷◌, Bool, true, false, Option, Some, None, cond, find, slice_get, refl, ap, sym, subst, arith}
+use Rattle.std.proofs.Common.{◌≡◌, ◌∙◌, ℕ, List, [], ◌∷◌, Bool, true, false, Option, Some, None, cond, find, slice_get, refl, ap, sym, subst}
 use Rattle.std.specs.Prelude.{◌&&◌, ◌||◌, is_some, if◌then◌else◌, nat_lt, option_and_then, option_map}
 use Rattle.std.proofs.lemmas.Bool.{and_parts}
-use Rattle.std.proofs.lemmas.Bool.Decides.{nat_tests}
-use Rattle.api_types.specs.Holders.{dhcp_port, is_live_dhcp_of}
+use Rattle.api_types.specs.Holders.{is_live_dhcp_of}
 use Rattle.api_types.specs.Consistent.Carried.{is_bound}
 use Rattle.api_types.specs.Ident.{Ident}
 use Rattle.api_types.specs.Live.{is_at, is_here, is_live, network_up}
@@ -16,8 +15,8 @@ use Rattle.api_types.specs.Table.{HaveOwnIds, ident_eq, place_of}
 use Rattle.api_types.specs.declared.change.Item.{Item}
 use Rattle.api_types.specs.declared.kind.Kind.TheVariants.{Port}
 use Rattle.api_types.specs.declared.port.PortRow.{PortRow}
-use Rattle.api_types.proofs.ListLemmas.{and_both, both_and, false_true, none_some, some_equal}
-use Rattle.api_types.proofs.NameLemmas.{by_test, ident_same}
+use Rattle.api_types.proofs.ListLemmas.{false_true, none_some, some_equal}
+use Rattle.api_types.proofs.NameLemmas.{by_test}
 use Rattle.plane_types.specs.Keyed.{are_one}
 use Rattle.plane_types.specs.Numbered.{numbered_after, with_numbers}
 use Rattle.plane_types.specs.NumberedRows.{row_items}
@@ -25,14 +24,14 @@ use Rattle.plane_types.proofs.NumberedLemmas.{after_plain, after_rises, numbered
 use Rattle.plane_types.proofs.StayLemmas.{ports_after}
 use Rattle.plane_laws.proofs.Facts.{AtMostOne}
 use Rattle.plane_laws.proofs.FactsHold.{frame-facts}
-use Rattle.plane_laws.proofs.ListLemmas.{AtMostOne-less, find-none-less, find-passes}
+use Rattle.plane_laws.proofs.ListLemmas.{AtMostOne-less, find-none-less}
 use Rattle.table_edits.specs.EditsAt.{among}
 use Rattle.table_edits.specs.NumbersSeen.{Renumbered, at_after, at_before}
 use Rattle.table_edits.specs.Rewires.{LeadsOn}
 use Rattle.table_edits.proofs.NumberPlaces.{own_place}
 use Rattle.kept_rows.proofs.FoundLemmas.{found_at, number_found, place_of_number}
 use Rattle.kept_rows.proofs.NumberLists.{one_number}
-use Rattle.dhcp_delta.specs.Serving.{dhcp_here, if_at, serves_any, serves_here}
+use Rattle.dhcp_delta.specs.Serving.{dhcp_here, serves_any, serves_here}
 
 -- what is found and passes a second test is found by both
 found_both : {X : Type 0} (p q : X → Bool) (xs : List X) → AtMostOne p xs

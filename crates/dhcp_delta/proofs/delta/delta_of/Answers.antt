@@ -1,4 +1,4 @@
-use Rattle.std.proofs.Common.{◌≡◌, ◌∙◌, ap, false, subst, sym}
+use Rattle.std.proofs.Common.{◌∙◌, ap, subst, sym}
 use Rattle.std.specs.Prelude.{nat_lt}
 use Rattle.table_edits.specs.EditsAt.{KeysDescend, among}
 use Rattle.dhcp_delta.proofs.delta.delta_of.Goals as goal

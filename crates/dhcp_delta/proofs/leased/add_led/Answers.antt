@@ -1,4 +1,4 @@
-use Rattle.std.proofs.Common.{◌≡◌, ◌∙◌, ◌++◌, ap, false, length, sym}
+use Rattle.std.proofs.Common.{◌≡◌, ◌∙◌, ◌++◌, ap, false, sym}
 use Rattle.std.proofs.lemmas.List.{append-nil}
 use Rattle.std.specs.HashSet.{contains}
 use Rattle.api_types.specs.Ident.{Ident}

@@ -1,10 +1,8 @@
-use Rattle.std.proofs.Common.{◌≡◌, ◌∙◌, None, Some, ap, find, rules, subst, sym, false, slice_get}
+use Rattle.std.proofs.Common.{◌≡◌, ◌∙◌, None, Some, ap, find, rules, sym}
 use Rattle.std.specs.Prelude.{option_copied}
 use Rattle.plane_laws.proofs.ListLemmas.{find-passes}
-use Rattle.api_types.specs.Table.{HaveOwnIds}
-use Rattle.api_types.specs.declared.port.PortRow.{PortRow}
 use Rattle.table_edits.specs.NumbersSeen.{at_after}
-use Rattle.dhcp_delta.specs.Serving.{dhcp_here, serves_any}
+use Rattle.dhcp_delta.specs.Serving.{serves_any}
 use Rattle.dhcp_delta.proofs.ServerLemmas.{Stays, made_serves, none_serves, stays_serving, touched_goes}
 use Rattle.dhcp_delta.proofs.servers.Servers.after.Goals as goal
 

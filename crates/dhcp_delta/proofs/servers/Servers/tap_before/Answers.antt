@@ -1,11 +1,9 @@
-use Rattle.std.proofs.Common.{◌≡◌, ◌∙◌, None, Option, Some, ap, rules, sym}
+use Rattle.std.proofs.Common.{◌≡◌, ◌∙◌, None, Some, ap, rules, sym}
 use Rattle.std.specs.Prelude.{option_copied}
-use Rattle.plane_types.specs.TableRows.{tag_of}
 use Rattle.plane_laws.proofs.FactsHold.{frame-facts}
 use Rattle.plane_laws.proofs.SyncedHold.{host-facts}
 use Rattle.plane_types.specs.TableStep.{bridge_at}
 use Rattle.plane_types.specs.declared.table.BridgeKey.TheVariants.{Dhcp}
-use Rattle.dhcp_delta.specs.Serving.{tap_port}
 use Rattle.dhcp_delta.proofs.BridgeLemmas.{by_tag, tap_by}
 use Rattle.dhcp_delta.proofs.servers.Servers.tap_before.Goals as goal
 

@@ -1,0 +1,12 @@
+mod FloatLemmas
+mod HostedLemmas
+mod NamedLemmas
+mod PortNumbers
+mod RiseLemmas
+mod RouteRows
+mod RoutesLaw
+mod RowLemmas
+mod StayedWays
+mod SubnetLemmas
+mod TouchedLemmas
+mod WayLemmas

@@ -1,0 +1,2 @@
+pub mod RouterStays
+pub mod WayKeys
