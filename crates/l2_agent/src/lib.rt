@@ -17,4 +17,5 @@ mod taps;
 mod wires;
 mod wiring;
 
+pub use tags::assign_tags;
 pub use wiring::{L2Tables, wire_ports};

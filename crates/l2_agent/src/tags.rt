@@ -182,7 +182,7 @@ fn in_turn(
 /// The tags of a host. A network keeps the tag that it had, and the others take the least free
 /// ones, in order of creation. Its cost grows with the networks, the ports and the old tags.
 #[tactic(auto, unfolding(plane_types::specs::NewTags::new_tags))]
-pub(crate) fn assign_tags(
+pub fn assign_tags(
     alloc: Global,
     rows: &Rows,
     host: &Text,

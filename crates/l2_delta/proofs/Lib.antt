@@ -6,3 +6,17 @@ pub mod NeighbourLaw
 pub mod BridgeLaw
 pub mod MapChanges
 pub mod TagLaw
+pub mod GatherLemmas
+pub mod CoverLemmas
+pub mod FilterLemmas
+pub mod CoveredFilters
+pub mod ChangedGroups
+pub mod SetRows
+pub mod SetPorts
+pub mod SetChanges
+pub mod SetGroups
+pub mod SetsFollow
+pub mod SetPlaces
+pub mod TagsLaw
+pub mod FloatingsStay
+pub mod TouchedNumbers

@@ -222,7 +222,7 @@ fn entries_after(
 
 /// Edits of the bridge at the MACs of the ports that a change touches, and for DHCP. Its cost is
 /// that of these ports, and for each grows with the logarithm of the table.
-pub fn bridge_edits(
+pub(crate) fn bridge_edits(
     alloc: Global,
     change: &Rewiring,
     ports: &[usize],

@@ -2,12 +2,16 @@
 #![tactic(auto)]
 
 mod bridge;
+mod delta;
+mod filters;
+mod named_sets;
 mod neighbours;
+mod retag;
+mod ruled;
+mod set_keys;
+mod sets;
 mod tags;
 mod taps;
 mod touched;
 
-pub use bridge::bridge_edits;
-pub use neighbours::neighbour_edits;
-pub use tags::{inward_edits, tag_edits};
-pub use taps::tap_edits;
+pub use delta::ports_delta;

@@ -224,7 +224,7 @@ fn entries_after(
 
 /// Edits of the neighbours at the addresses of the ports and the floating addresses that a change
 /// touches. Its cost is that of their addresses, and for each grows with the logarithm of the table.
-pub fn neighbour_edits(
+pub(crate) fn neighbour_edits(
     alloc: Global,
     change: &Rewiring,
     ports: &[usize],

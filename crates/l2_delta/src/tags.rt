@@ -158,7 +158,7 @@ impl<'t, 'r> ByRow for InwardTable<'t, 'r> {
 
 /// Edits of the tags, at the networks that a change touches. Its cost is that of these networks,
 /// and for each grows with the logarithm of the table.
-pub fn tag_edits(
+pub(crate) fn tag_edits(
     alloc: Global,
     change: &Rewiring,
     networks: &Numbers<NetworkRow>,
@@ -189,7 +189,7 @@ pub fn tag_edits(
 
 /// Edits of what comes inward, at the networks that a change touches. Its cost is that of these
 /// networks, and for each grows with the logarithm of the table.
-pub fn inward_edits(
+pub(crate) fn inward_edits(
     alloc: Global,
     change: &Rewiring,
     networks: &Numbers<NetworkRow>,

@@ -123,7 +123,7 @@ impl<'t, 'r> ByRow for TapTable<'t, 'r> {
 
 /// Edits of the taps at the ports that a change touches. Its cost is that of these ports, and for
 /// each grows with the logarithm of the table.
-pub fn tap_edits(
+pub(crate) fn tap_edits(
     alloc: Global,
     change: &Rewiring,
     ports: &[usize],

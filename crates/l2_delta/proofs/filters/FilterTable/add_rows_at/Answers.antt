@@ -1,0 +1,46 @@
+use Rattle.std.proofs.Common.{◌∙◌, ◌++◌, List, ℕ, ap, map, sym}
+use Rattle.std.specs.Prelude.{nat_lt}
+use Rattle.std.proofs.Math.Path.{transport}
+use Rattle.std.proofs.lemmas.Result.{IfOk-weaker}
+use Rattle.api_types.specs.Table.{ident_eq}
+use Rattle.api_types.specs.declared.group.RuleRow.{RuleRow}
+use Rattle.plane_types.specs.Keyed.{rows_by_key}
+use Rattle.plane_types.specs.Numbered.{numbered_after}
+use Rattle.plane_types.specs.NumberedRows.{numbered_rows_after}
+use Rattle.plane_types.specs.TableRows.{filter_by}
+use Rattle.plane_types.specs.declared.table.FilterRow.{FilterRow}
+use Rattle.table_edits.specs.NumbersSeen.{Renumbered, at_after}
+use Rattle.l2_delta.specs.Covers.{Covers}
+use Rattle.l2_delta.proofs.CoveredFilters.{filters_there, none_named, none_there, rules_after}
+use Rattle.l2_delta.proofs.GatherLemmas.{none_more}
+use Rattle.l2_delta.proofs.filters.FilterTable.add_rows_at.Goals as goal
+
+pub returns-in_default : goal.returns-in_default
+returns-in_default c =
+    let table = c.args.self.now in
+    let n = numbered_rows_after table.change.now.before.now table.change.now.items.now in
+    let port = c.args.port.now in
+    let groups = table.groups.now in
+    none_more (map (λ r. (r.key, r.row)) c.args.rows.now.items) _ (none_there n port c.args.place (at_after groups c.args.place) (sym c.in_default.ensures))
+
+pub returns-then-not-names_group : goal.returns-then-not-names_group
+returns-then-not-names_group c =
+    let table = c.args.self.now in
+    let n = numbered_rows_after table.change.now.before.now table.change.now.items.now in
+    let port = c.args.port.now in
+    let groups = table.groups.now in
+    none_more (map (λ r. (r.key, r.row)) c.args.rows.now.items) _ (none_named n port c.args.place (at_after groups c.args.place) c.in-Some.group.now (sym c.in-Some.ensures) (sym c.names_group.ensures ∙ c.if-not-names_group.true))
+
+pub returns : goal.returns
+returns c =
+    let table = c.args.self.now in
+    let n = numbered_rows_after table.change.now.before.now table.change.now.items.now in
+    let port = c.args.port.now in
+    let groups = table.groups.now in
+    let group = c.in-Some.group.now in
+    let found : Covers (λ (r : RuleRow). ident_eq r.group group.id) c.rules.result.now c.as_slice.result.now =
+    transport (λ j. Covers (λ (r : RuleRow). ident_eq r.group group.id) (sym c.rules.ensures j) (sym c.as_slice.ensures.value j)) c.in_ok-numbers.ensures in
+    let all = rules_after port group c.rules.result.now c.as_slice.result.now found
+    ∙ ap (λ (m : Renumbered RuleRow). rows_by_key nat_lt (filter_by port group) (numbered_after m.rows m.items)) (c.rules.ensures ∙ table.rules_are) in
+    let there = filters_there n port c.args.place (at_after groups c.args.place) group (sym c.in-Some.ensures) (sym c.names_group.ensures ∙ c.if-not-names_group.false) _ all in
+    IfOk-weaker c.add_rows.result _ _ (λ u h. h ∙ ap (λ (xs : List ((ℕ × ℕ) × FilterRow)). map (λ r. (r.key, r.row)) c.args.rows.now.items ++ xs) there) c.add_rows.ensures

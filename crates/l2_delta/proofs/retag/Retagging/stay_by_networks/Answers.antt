@@ -1,0 +1,24 @@
+use Rattle.std.proofs.Common.{◌≡◌, ◌∙◌, ◌⊎◌, inr, get_or, option_copied, sym}
+use Rattle.std.proofs.Math.Path.{transport}
+use Rattle.table_edits.specs.NumbersSeen.{at_after, at_before}
+use Rattle.kept_rows.proofs.FoundLemmas.{place_of_number}
+use Rattle.l2_delta.specs.TagsStay.{NetworkStays}
+use Rattle.l2_delta.proofs.TouchedNumbers.{at_next}
+use Rattle.l2_delta.proofs.retag.Retagging.stay_by_networks.Goals as goal
+
+pub loop-number-preserved : goal.loop-number-preserved
+loop-number-preserved c =
+    let r = c.args.self.now in
+    let networks = c.args.networks.now in
+    let numbers = c.named-number-items.result.now in
+    let i = c.loop-number.number-index in
+    let n = get_or numbers i 0 in
+    let was : option_copied c.row.result ≡ at_before networks n =
+    c.row.ensures ∙ sym (place_of_number networks.rows n) in
+    let is : option_copied c.row_after.result ≡ at_after networks n = c.row_after.ensures in
+    at_next
+    (λ k. (at_before networks k ≡ at_after networks k)
+    ⊎ NetworkStays r.before.now r.after.now r.tags (at_before networks k) (at_after networks k))
+    numbers i c.loop-number-test.true c.loop-number.invariant
+    (inr (transport (λ j. NetworkStays r.before.now r.after.now r.tags (was j) (is j))
+    (c.stay_by_network.ensures c.if-not-stay_by_network.false)))
