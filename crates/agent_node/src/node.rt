@@ -2,15 +2,14 @@
 
 ghost use Rattle.std.specs.Prelude.{◌≡◌, ◌+◌, ◌<◌, ◌≤◌, [], ◌∷◌, ◌++◌, IfOk, OnErr, OnOk};
 ghost use Rattle.api_types.specs.Consistent.{IsConsistent};
-ghost use Rattle.api_types.specs.Rows.{Fits, after};
 ghost use Rattle.plane_types.specs.Attached.{IsAttached};
 ghost use Rattle.plane_types.specs.Realises.{Realises};
-ghost use Rattle.plane_types.specs.Node.{CanFollow, after_change, after_forget, after_restart, after_resync, first_agent, hearing, host_of, host_with, ready_for, with_entries};
+ghost use Rattle.plane_types.specs.Node.{after_forget, after_restart, after_resync, first_agent, host_of, host_with, ready_for, with_entries};
 
 use crate::ready::ReadyNode;
-use api_types::{Change, Rows};
+use api_types::Rows;
 use net_addr::{Copies, OutOfMemory, Seq, Text};
-use plane_types::{Entries, Entry, Heard, HostTables};
+use plane_types::{Entries, Entry, HostTables};
 use std::alloc::Global;
 use std::marker::Model;
 
@@ -23,12 +22,12 @@ const EVENT_ENTRIES: usize = 256;
 /// each entry is of a tap or router in them.
 #[derive(Drop)]
 pub struct AgentNode {
-    name: Text,
-    held: Option<u64>,
-    version: u64,
-    rows: Rows,
-    tables: HostTables,
-    entries: Entries,
+    pub(crate) name: Text,
+    pub(crate) held: Option<u64>,
+    pub(crate) version: u64,
+    pub(crate) rows: Rows,
+    pub(crate) tables: HostTables,
+    pub(crate) entries: Entries,
 }
 
 impl Model for AgentNode {
@@ -143,57 +142,6 @@ impl AgentNode {
         let ready = self.prepare_resync(alloc, version, rows)?;
         self.put(ready);
         Ok(())
-    }
-
-    // What the next change would put in place. Nothing changes. Its cost is that of wiring and of
-    // a copy of the rows.
-    fn prepare_next(
-        &self,
-        alloc: Global,
-        number: u64,
-        change: &Change,
-    ) -> Result<ReadyNode, OutOfMemory>
-        requires fits { Fits self.now.agent.rows change.now }
-        requires consistent { IsConsistent (after self.now.agent.rows change.now) }
-        ensures { IfOk result
-            (λ r. r ≡ ready_for number (after self.now.agent.rows change.now) self.now.agent) }
-    {
-        let name = self.name.copy(alloc)?;
-        let tags = self.tables.copy_tags(alloc)?;
-        let mut rows = self.rows.copy(alloc)?;
-        rows.apply_change(alloc, change)?;
-        ReadyNode::of(alloc, name, number, rows, tags)
-    }
-
-    /// Tells the host the change with a number. Where that is the next one after what the host
-    /// holds, the change is put into the wired rows, these are wired, and the number is then held.
-    /// Otherwise nothing changes. Its cost is that of wiring and of a copy of the rows, and grows
-    /// with the entries.
-    pub fn deliver(
-        &mut self,
-        alloc: Global,
-        number: u64,
-        change: &Change,
-    ) -> Result<Heard, OutOfMemory>
-        requires { CanFollow self.old.agent number change.now }
-        ensures heard { IfOk result (λ h. h ≡ hearing number self.old.agent.held) }
-        ensures agent { OnOk result
-            (self.new.agent ≡ after_change number change.now self.old.agent) }
-        ensures spare { OnOk result (self.old.spare.entries ≤ self.new.spare.entries) }
-        ensures same { OnErr result (self.new ≡ self.old) }
-    {
-        let Some(held) = self.held else {
-            return Ok(Heard::Asleep);
-        };
-        if number <= held {
-            return Ok(Heard::Old { held });
-        }
-        if number - held > 1 {
-            return Ok(Heard::Gap { held });
-        }
-        let next = self.prepare_next(alloc, number, change)?;
-        self.put(next);
-        Ok(Heard::Applied { held: number })
     }
 
     /// Nothing is held from now on. Nothing else changes. It allocates nothing.

@@ -68,8 +68,8 @@ impl ReadyNode {
         ReadyNode::of(alloc, name, version, rows.copy(alloc)?, old)
     }
 
-    /// The same of rows that are handed over. Its cost is that of wiring.
-    pub(crate) fn of(
+    // The same of rows that are handed over. Its cost is that of wiring.
+    fn of(
         alloc: Global,
         name: Text,
         version: u64,

@@ -7,24 +7,24 @@ use Rattle.std.proofs.lemmas.List.Sums.{sum_by-cons}
 use Rattle.api_types.specs.Ident.{Ident, IsDrawable, ident_text}
 use Rattle.api_types.specs.Owners.{device_is}
 use Rattle.api_types.specs.Table.{ident_eq}
-use Rattle.api_types.proofs.IdTexts.{one-text}
 use Rattle.api_types.proofs.ListLemmas.{false_true, none_some, none-counted, some_equal, uncounted}
 use Rattle.api_types.proofs.NameLemmas.{by_test, bytes_same, ident_itself}
-use Rattle.api_shown.specs.Keys.{may_be}
+use Rattle.api_shown.specs.Keys.{FitsId, may_be}
+use Rattle.api_shown.proofs.TextLemmas.{drawn_fits, printed_once}
 
 pub printed_text : (value : List ℕ) (i : Ident) → device_is value i ≡ true → value ≡ ident_text i
 unfolding device_is
 printed_text value i is = bytes_same value (ident_text i) is
 
 -- the text of an id is no other id's
-other_text : (value : List ℕ) (asked i : Ident) → IsDrawable asked → value ≡ ident_text asked → IsDrawable i → ident_eq asked i ≡ false → bytes_eq value (ident_text i) ≡ false
+other_text : (value : List ℕ) (asked i : Ident) → IsDrawable asked → value ≡ ident_text asked → FitsId i → ident_eq asked i ≡ false → bytes_eq value (ident_text i) ≡ false
 other_text value asked i first text second other =
     by_test (bytes_eq value (ident_text i)) (bytes_eq value (ident_text i) ≡ false)
-    (λ is. let same : asked ≡ i = one-text asked i first second (sym text ∙ bytes_same value (ident_text i) is) in
+    (λ is. let same : asked ≡ i = printed_once asked i (drawn_fits asked first) second (sym text ∙ bytes_same value (ident_text i) is) in
     false_true _ (sym other ∙ ap (ident_eq asked) (sym same) ∙ ident_itself asked))
     (λ fails. fails)
 
-pub unlike_asked : (value : List ℕ) (i : Ident) → IsDrawable i → (asked : Option Ident) → IfSome asked IsDrawable → IfSome asked (λ a. value ≡ ident_text a) → may_be asked i ≡ false → bytes_eq value (ident_text i) ≡ false
+pub unlike_asked : (value : List ℕ) (i : Ident) → FitsId i → (asked : Option Ident) → IfSome asked IsDrawable → IfSome asked (λ a. value ≡ ident_text a) → may_be asked i ≡ false → bytes_eq value (ident_text i) ≡ false
 unlike_asked value i h None first text other = false_true _ (sym other)
 unlike_asked value i h (Some asked) first text other = other_text value asked i first text h other
 

@@ -1,14 +1,16 @@
 -- What a key's value tells of filters.
-use Rattle.std.proofs.Common.{◌≡◌, ◌∙◌, ℕ, Bool, true, false, List, [], ◌∷◌, cond, map, ap, refl}
-use Rattle.std.specs.Prelude.{◌&&◌, ◌||◌}
+use Rattle.std.proofs.Common.{◌≡◌, ◌∙◌, ℕ, Bool, true, false, List, [], ◌∷◌, Option, None, Some, cond, map, ap, refl}
+use Rattle.std.specs.Prelude.{◌&&◌, ◌||◌, IfSome, codes}
 use Rattle.std.specs.List.{filter, list_any}
 use Rattle.std.specs.Str.{bytes_eq}
 use Rattle.api_types.proofs.ListLemmas.{or_false, or_none}
 use Rattle.api_types.proofs.NameLemmas.{and_fails, bytes_same}
+use Rattle.api_types.specs.Ident.{Ident}
 use Rattle.api_types.specs.Printed.{NamedTree, Tree}
 use Rattle.api_policy.specs.Shown.{is_told}
+use Rattle.api_policy.specs.Trees.{id_word}
 use Rattle.api_shown.specs.Asked.{AskedName, asks_for, has_asked}
-use Rattle.api_shown.specs.Keys.{values_under}
+use Rattle.api_shown.specs.Keys.{FitsId, IsOnlyId, may_be, values_under}
 
 -- where no value under the name is asked for, no member has one that is
 none_under : (admin : Bool) (a : AskedName) (members : List NamedTree) → list_any (asks_for a) (values_under a.name members) ≡ false → has_asked admin members a ≡ false
@@ -38,3 +40,9 @@ not_held admin a members value is fails = none_under admin a members (ap (list_a
 -- nor where the name is a key's, whose one value isn't asked for
 pub key_fails : (admin : Bool) (a : AskedName) (members : List NamedTree) (name : List ℕ) (value : Tree) → bytes_eq a.name name ≡ true → values_under name members ≡ value ∷ [] → asks_for a value ≡ false → has_asked admin members a ≡ false
 key_fails admin a members name value is under fails = not_held admin a members value (ap (λ n. values_under n members) (bytes_same a.name name is) ∙ under) fails
+
+-- where the name is the id's, and one id may be asked for
+pub only_asked : (a : AskedName) (asked : Option Ident) → bytes_eq a.name (codes "id") ≡ true → ((i : Ident) → FitsId i → may_be asked i ≡ false → asks_for a (id_word i) ≡ false)
+    → IfSome asked (IsOnlyId (λ admin members. has_asked admin members a))
+only_asked a None named unasked = tt
+only_asked a (Some j) named unasked = λ i fits other admin members shown. key_fails admin a members (codes "id") (id_word i) named shown (unasked i fits other)

@@ -3,5 +3,7 @@ pub mod AskedLemmas
 pub mod CutLemmas
 pub mod KeyLemmas
 pub mod ListLemmas
+pub mod NarrowLemmas
 pub mod SeenLemmas
+pub mod TextLemmas
 pub mod ToldLemmas

@@ -1,6 +1,6 @@
 -- Keys of rows: members by which rows are looked for, and whose values the row itself holds, as a
 -- text or as an id.
-use Rattle.std.specs.Prelude.{List, Bool, true, Option, None, Some, codes, map}
+use Rattle.std.specs.Prelude.{◌≡◌, ◌<◌, ◌^◌, ◌∷◌, List, [], Bool, false, true, Option, None, Some, codes, map}
 use Rattle.std.specs.List.{filter}
 use Rattle.std.specs.Str.{bytes_eq}
 use Rattle.net_addr.specs.Words.{Text}
@@ -8,6 +8,7 @@ use Rattle.api_types.specs.Ident.{Ident}
 use Rattle.api_types.specs.Printed.{NamedTree, Tree}
 use Rattle.api_types.specs.Table.{ident_eq}
 use Rattle.api_types.specs.declared.call.Filter.{Filter}
+use Rattle.api_policy.specs.Trees.{id_word}
 use Rattle.api_shown.specs.declared.keys.Key.{Key}
 use Rattle.api_shown.specs.declared.keys.Key.TheVariants.{Device, Group, Id, Name, Network, Project, Tenant}
 
@@ -28,6 +29,17 @@ values_under name members =
 
 abbrev pub is_under : Text → Filter → Bool
 is_under name f = bytes_eq name f.name
+
+-- an id that a program can hold: ordinals have 32 bits, counts 64
+abbrev pub FitsId : Ident → Type 0
+FitsId i = (i.ordinal < 2 ^ 32) × (i.count < 2 ^ 64)
+
+-- no members that show another id pass the test, which may depend on whether the caller is an
+-- administrator
+abbrev pub IsOnlyId : (Bool → List NamedTree → Bool) → Ident → Type 0
+IsOnlyId test asked = (i : Ident) → FitsId i → ident_eq asked i ≡ false
+    → (admin : Bool) (members : List NamedTree) → values_under (codes "id") members ≡ id_word i ∷ []
+    → test admin members ≡ false
 
 -- whether an id may be the one that is asked for, which may be unknown
 abbrev pub may_be : Option Ident → Ident → Bool

@@ -1,12 +1,12 @@
 //! The id that filters ask for.
 
-ghost use Rattle.std.specs.Prelude.{◌≡◌, IfSome, false, find, option_copied, true};
+ghost use Rattle.std.specs.Prelude.{◌≡◌, IfSome, false, find, option_copied};
 ghost use Rattle.std.specs.List.{count_by};
 ghost use Rattle.api_types.specs.Ident.{Ident, IsDrawable, ident_text};
 ghost use Rattle.api_policy.specs.Trees.{id_word};
 ghost use Rattle.api_shown.specs.Asked.{asked_under};
 ghost use Rattle.api_shown.specs.Asked as asked_specs;
-ghost use Rattle.api_shown.specs.Keys.{is_under};
+ghost use Rattle.api_shown.specs.Keys.{FitsId, is_under};
 ghost use Rattle.api_shown.specs.Keys as keys;
 
 use api_types::{Filter, Id};
@@ -36,7 +36,7 @@ fn find_under<'q>(filters: &'q [Filter], name: &Text) -> Option<&'q Filter>
 /// The id that alone the filters with this name may ask for, if there is one such filter and its
 /// value is an id's printed text.
 pub(crate) fn find_asked(filters: &[Filter], name: &Text) -> Option<Id>
-    ensures { (i : Ident) → IsDrawable i → keys.may_be result i ≡ false
+    ensures { (i : Ident) → FitsId i → keys.may_be result i ≡ false
         → asked_specs.asks_for (asked_under filters.now name.now) (id_word i) ≡ false }
 {
     if count_under(filters, name) != 1 {
@@ -48,12 +48,12 @@ pub(crate) fn find_asked(filters: &[Filter], name: &Text) -> Option<Id>
     }
 }
 
-/// Whether a project can have drawn the id.
-pub(crate) fn is_drawable(id: Id) -> bool
-    ensures { result ≡ true → IsDrawable id }
+/// For proofs alone: the numbers of an id fit their types.
+pub(crate) fn see_fit(id: Id)
+    ensures { FitsId id }
 {
-    let count = id.count();
-    id.ordinal() != 0 && (count != 0 && count < 0x4000_0000_0000_0000)
+    let _ordinal = id.ordinal();
+    let _count = id.count();
 }
 
 /// Whether the id may be the one that is asked for.

@@ -1,6 +1,6 @@
 //! Filters, put together by their names once a query.
 
-ghost use Rattle.std.specs.Prelude.{◌≡◌, ℕ, List, Bool, IfOk, false, map};
+ghost use Rattle.std.specs.Prelude.{◌≡◌, ℕ, List, Bool, IfOk, IfSome, false, map};
 ghost use Rattle.std.specs.HashSet.{contains_text};
 ghost use Rattle.std.specs.List.{list_all, list_any};
 ghost use Rattle.std.specs.Str.{bytes_eq};
@@ -13,8 +13,9 @@ ghost use Rattle.api_policy.specs.Trees.{id_word};
 ghost use Rattle.api_policy.specs.Filtered as filtered;
 ghost use Rattle.api_shown.specs.Asked.{AskedName, asked_under, has_asked};
 ghost use Rattle.api_shown.specs.Asked as asked_specs;
+ghost use Rattle.api_shown.specs.Keys.{IsOnlyId};
 
-use crate::asked_id::{find_asked, is_drawable, may_be};
+use crate::asked_id::{find_asked, may_be, see_fit};
 use crate::keys::{HasKeys, Key, find_key};
 use crate::showing::is_told;
 use api_types::{Filter, Id, Members, Printed, Query};
@@ -40,11 +41,11 @@ impl<'q> Model for NameFilters<'q> {
     ghost use Rattle.std.specs.Prelude.{◌≡◌, ℕ, IfSome, IsTrue, List, true, false};
     ghost use Rattle.std.specs.HashSet.{contains_text};
     ghost use Rattle.std.specs.Str.{bytes_eq};
-    ghost use Rattle.api_types.specs.Ident.{Ident, IsDrawable};
+    ghost use Rattle.api_types.specs.Ident.{Ident};
     ghost use Rattle.api_types.specs.Printed.{truth, word};
     ghost use Rattle.api_policy.specs.Trees.{id_word};
     ghost use Rattle.api_shown.specs.Asked.{AskedName, asked_under, asks_for};
-    ghost use Rattle.api_shown.specs.Keys.{key_name, may_be};
+    ghost use Rattle.api_shown.specs.Keys.{FitsId, key_name, may_be};
 
     ghost Value = { AskedName };
 
@@ -54,7 +55,7 @@ impl<'q> Model for NameFilters<'q> {
         record {
           key : IfSome n.key (λ key. IsTrue (bytes_eq n.name.now (key_name key)));
           texts : (t : List ℕ) → contains_text n.texts t ≡ asks_for asked (word t);
-          id : (i : Ident) → IsDrawable i → may_be n.id i ≡ false
+          id : (i : Ident) → FitsId i → may_be n.id i ≡ false
               → asks_for asked (id_word i) ≡ false;
           yes : n.asks_true ≡ asks_for asked (truth true);
           no : n.asks_false ≡ asks_for asked (truth false);
@@ -131,7 +132,23 @@ impl<'q> NameFilters<'q> {
     fn may_ask(&self, id: Id) -> bool
         ensures { result ≡ false → asked_specs.asks_for self.now (id_word id) ≡ false }
     {
-        !is_drawable(id) || may_be(self.id, id)
+        see_fit(id);
+        may_be(self.id, id)
+    }
+
+    // The one id that they ask for, where their name is the id's.
+    fn find_id(&self) -> Option<Id>
+        ensures { IfSome result
+            (IsOnlyId (λ admin members. has_asked admin members self.now)) }
+    {
+        let Some(key) = self.key else {
+            return None;
+        };
+        match key {
+            Key::Id => self.id,
+            Key::Name | Key::Project | Key::Tenant | Key::Network | Key::Device | Key::Group =>
+                None,
+        }
     }
 
     // Whether the row may have a member with the name and a value that one of them asks for, by
@@ -255,6 +272,19 @@ fn may_all_hold<R: HasKeys>(row: &R, by_name: &[NameFilters]) -> bool
     true
 }
 
+// The one id that the filters of some name ask for.
+fn find_id_among(by_name: &[NameFilters]) -> Option<Id>
+    ensures { IfSome result
+        (IsOnlyId (λ admin members. list_all (has_asked admin members) by_name.now)) }
+{
+    for filters in by_name {
+        if let Some(id) = filters.find_id() {
+            return Some(id);
+        }
+    }
+    None
+}
+
 /// A query, whose filters are put together by their names, so that a row costs the same however
 /// many there are. Contracts see the query.
 #[derive(Drop)]
@@ -305,6 +335,15 @@ impl<'q> FilteredQuery<'q> {
             → filtered.meets admin self.now.filters (R.members_of rows caller row.now) ≡ false }
     {
         may_all_hold(row, self.by_name.as_slice())
+    }
+
+    /// The one id that the filters ask for, if they do: no members with another one meet them. Its
+    /// cost grows with the different names of the filters.
+    pub(crate) fn find_id(&self) -> Option<Id>
+        ensures { IfSome result
+            (IsOnlyId (λ admin members. filtered.meets admin self.now.filters members)) }
+    {
+        find_id_among(self.by_name.as_slice())
     }
 
     /// Whether the members meet the filters. Its cost grows with the members, times the different

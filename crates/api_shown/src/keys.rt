@@ -1,6 +1,6 @@
 //! Keys of rows: members by which rows are looked for, and whose values the row itself holds.
 
-ghost use Rattle.std.specs.Prelude.{◌≡◌, ◌∷◌, [], IfSome, IsTrue, option_copied};
+ghost use Rattle.std.specs.Prelude.{◌≡◌, ◌∷◌, [], IfSome, IsTrue, codes, option_copied};
 ghost use Rattle.std.specs.Str.{bytes_eq};
 ghost use Rattle.api_types.specs.Printed.{word};
 ghost use Rattle.api_policy.specs.Trees.{id_word};
@@ -69,9 +69,17 @@ pub(crate) trait HasKeys: Shows {
         ensures { IfSome result (λ i. (rows : RowLists) (caller : TheCaller)
             → keys.values_under (keys.key_name key) (Self.members_of rows caller self.now)
             ≡ id_word i ∷ []) };
+
+    ghost own_id: { (rows : RowLists) (caller : TheCaller) (r : Self)
+        → keys.values_under (codes "id") (Self.members_of rows caller r)
+        ≡ id_word (Self.id_of r) ∷ [] };
 }
 
 impl HasKeys for NetworkRow {
+    ghost use Rattle.std.specs.Prelude.{refl};
+
+    ghost own_id = { λ _ _ _. refl };
+
     fn word_at(&self, key: Key) -> Option<&Text> {
         match key {
             Key::Name => Some(&self.name),
@@ -91,6 +99,10 @@ impl HasKeys for NetworkRow {
 }
 
 impl HasKeys for SubnetRow {
+    ghost use Rattle.std.specs.Prelude.{refl};
+
+    ghost own_id = { λ _ _ _. refl };
+
     fn word_at(&self, key: Key) -> Option<&Text> {
         match key {
             Key::Name => Some(&self.name),
@@ -110,6 +122,10 @@ impl HasKeys for SubnetRow {
 }
 
 impl HasKeys for PortRow {
+    ghost use Rattle.std.specs.Prelude.{refl};
+
+    ghost own_id = { λ _ _ _. refl };
+
     fn word_at(&self, key: Key) -> Option<&Text> {
         match key {
             Key::Name => Some(&self.name),
@@ -130,6 +146,10 @@ impl HasKeys for PortRow {
 }
 
 impl HasKeys for GroupRow {
+    ghost use Rattle.std.specs.Prelude.{refl};
+
+    ghost own_id = { λ _ _ _. refl };
+
     fn word_at(&self, key: Key) -> Option<&Text> {
         match key {
             Key::Name => Some(&self.name),
@@ -149,6 +169,10 @@ impl HasKeys for GroupRow {
 }
 
 impl HasKeys for RuleRow {
+    ghost use Rattle.std.specs.Prelude.{refl};
+
+    ghost own_id = { λ _ _ _. refl };
+
     fn word_at(&self, key: Key) -> Option<&Text> {
         match key {
             Key::Project => Some(&self.project),
@@ -167,6 +191,10 @@ impl HasKeys for RuleRow {
 }
 
 impl HasKeys for RouterRow {
+    ghost use Rattle.std.specs.Prelude.{refl};
+
+    ghost own_id = { λ _ _ _. refl };
+
     fn word_at(&self, key: Key) -> Option<&Text> {
         match key {
             Key::Name => Some(&self.name),
@@ -186,6 +214,10 @@ impl HasKeys for RouterRow {
 }
 
 impl HasKeys for FloatingRow {
+    ghost use Rattle.std.specs.Prelude.{refl};
+
+    ghost own_id = { λ _ _ _. refl };
+
     fn word_at(&self, key: Key) -> Option<&Text> {
         match key {
             Key::Project => Some(&self.project),
@@ -204,6 +236,10 @@ impl HasKeys for FloatingRow {
 }
 
 impl HasKeys for PolicyRow {
+    ghost use Rattle.std.specs.Prelude.{refl};
+
+    ghost own_id = { λ _ _ _. refl };
+
     fn word_at(&self, key: Key) -> Option<&Text> {
         match key {
             Key::Project => Some(&self.project),

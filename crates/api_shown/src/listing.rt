@@ -1,22 +1,28 @@
 //! Lists: what is shown of each row that is seen, after the marker, by filters, to the limit.
 
-ghost use Rattle.std.specs.Prelude.{◌≡◌, ◌&&◌, IfOk, IsTrue, None, Some, drop, if◌then◌else◌, map, option_map};
+ghost use Rattle.std.specs.Prelude.{◌≡◌, ◌&&◌, Bool, IfOk, IfSome, IsTrue, None, Some, drop, filter, if◌then◌else◌, map, option_map};
 ghost use Rattle.std.specs.Result.{IfErr};
-ghost use Rattle.api_types.specs.Lists.{is_some_so};
+ghost use Rattle.api_types.specs.Lists.{Each, is_some_so};
 ghost use Rattle.api_types.specs.Printed.{shown_row};
+ghost use Rattle.api_types.specs.RowLists.{RowLists};
+ghost use Rattle.api_types.specs.Table.{ident_eq};
+ghost use Rattle.api_types.specs.declared.call.Caller.{Caller as TheCaller};
+ghost use Rattle.api_types.specs.declared.kind.Kind.{Kind as TheKind};
 ghost use Rattle.api_policy.specs.Visibility.{sees_row};
 ghost use Rattle.api_policy.specs.Filtered as filtered;
 ghost use Rattle.api_policy.specs.Listed.{cut, has_marker};
 ghost use Rattle.api_policy.specs.Listed as listed_specs;
+ghost use Rattle.api_shown.specs.Keys.{FitsId, IsOnlyId};
 ghost use Rattle.api_shown.specs.ListRefusals.{IsListRefusal};
 ghost use Rattle.api_policy.specs.Shown.{shown_as};
 
+use crate::asked_id::see_fit;
 use crate::filtering::FilteredQuery;
 use crate::keys::HasKeys;
 use crate::members::Shows;
 use crate::showing::kept;
 use api_policy::{Visible, sees};
-use api_types::{Caller, Id, IdText, Kind, Query, Rows, Shared, Shown, ShownList, Table};
+use api_types::{Caller, Id, IdText, Keyed, Kind, Query, Rows, Shared, Shown, ShownList, Table};
 use net_addr::{Copies, OutOfMemory, Seq, Text};
 use std::alloc::Global;
 
@@ -134,6 +140,55 @@ fn behind_marker<'a, R: Shows>(
     }
 }
 
+// The one id that the filters ask for, where there is no marker.
+fn find_lone_id(query: &FilteredQuery) -> Option<Id>
+    ensures marker { IfSome result (λ _. query.now.marker ≡ None) }
+    ensures only { IfSome result
+        (IsOnlyId (λ admin members. filtered.meets admin query.now.filters members)) }
+{
+    match &query.as_query().marker {
+        Some(_) => None,
+        None => query.find_id(),
+    }
+}
+
+// For proofs alone: the numbers of all ids fit their types, so that no two ids print alike. Nothing
+// uses what the loop reads, so it is left to the optimizer to drop it.
+fn see_ids<R: Keyed>(rows: &[Shared<R>])
+    ensures { Each (λ r. FitsId (R.id_of r)) rows.now }
+{
+    for row in rows {
+        see_fit(row.id());
+    }
+}
+
+// The row with this id, and none where it isn't there.
+fn row_with<R: Shows>(table: &Table<R>, id: Id) -> &[Shared<R>]
+    ensures { result.now ≡ filter (λ r. ident_eq id (R.id_of r)) table.now }
+{
+    let rows = table.rows();
+    match table.place(id) {
+        Some(place) => &rows[place..place + 1],
+        None => &rows[rows.len()..],
+    }
+}
+
+// The rows after the marker's, or of these the one that can meet the filters, where they ask for
+// one id and there is no marker.
+fn candidates_of<'t, R: HasKeys>(table: &'t Table<R>, query: &FilteredQuery) -> &'t [Shared<R>]
+    ensures { (rows : RowLists) (caller : TheCaller) (kind : TheKind) (admin : Bool)
+        (seen : R → Bool)
+        → listed_specs.listed_of seen (R.members_of rows caller) kind admin query.now result.now
+        ≡ listed_specs.listed_of seen (R.members_of rows caller) kind admin query.now
+        (listed_specs.behind_marker R.id_of query.now.marker table.now) }
+{
+    let Some(id) = find_lone_id(query) else {
+        return behind_marker(table.rows(), &query.as_query().marker);
+    };
+    see_ids(table.rows());
+    row_with(table, id)
+}
+
 fn listed_in<R: HasKeys + Visible>(
     alloc: Global,
     rows: &Rows,
@@ -147,7 +202,7 @@ fn listed_in<R: HasKeys + Visible>(
         ≡ listed_specs.listed_in R.id_of (R.seen rows.now caller.now)
         (R.members_of rows.now caller.now) kind caller.now.admin query.now table.now) }
 {
-    let candidates = behind_marker(table.rows(), &query.as_query().marker);
+    let candidates = candidates_of(table, query);
     listed_of(alloc, rows, caller, kind, candidates, query)
 }
 
@@ -210,7 +265,8 @@ fn ensure_marker_seen(
 /// the limit, in order of creation. The marker's row need not meet the filters. Only members that
 /// the caller is told are compared. Its cost grows with the filters times their different names,
 /// and with the rows of the kind: each by these names, and, if its keys don't tell that it fails
-/// the filters, by what it is to make its members, which are compared with each of these names.
+/// the filters, by what it is to make its members, which are compared with each of these names. A
+/// list by one id, with no marker, costs the same however many rows there are.
 pub fn listed(
     alloc: Global,
     rows: &Rows,

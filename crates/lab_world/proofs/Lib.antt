@@ -12,4 +12,3 @@ pub mod LabLaws
 pub mod WorldLaws
 pub mod SyncLaws
 pub mod AskApart
-mod Following

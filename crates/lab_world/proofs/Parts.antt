@@ -1,7 +1,8 @@
 -- What calls do with the parts of the world is a step of the world.
-use Rattle.std.proofs.Common.{◌≡◌, ℕ, suc, ◌+◌, ◌≤◌, List, [], ◌∷◌, Bool, true, false, not, cond, None, Some, refl, ap, sym, subst, ◌∙◌, arith, map}
-use Rattle.std.specs.Prelude.{◌&&◌, count_by}
+use Rattle.std.proofs.Common.{◌≡◌, ℕ, suc, ◌+◌, ◌≤◌, List, [], ◌∷◌, Bool, true, false, cond, Option, None, Some, refl, ap, sym, subst, ◌∙◌, arith, map, slice_get}
+use Rattle.std.specs.Prelude.{count_by}
 use Rattle.std.specs.Str.{bytes_eq}
+use Rattle.api_types.specs.Consistent.{IsConsistent}
 use Rattle.api_types.specs.Lists.{Each}
 use Rattle.api_types.specs.RowLists.{RowLists}
 use Rattle.api_types.specs.Rows.{Fits, after}
@@ -17,8 +18,9 @@ use Rattle.plane_laws.proofs.KeptLaw.{stay-placed}
 use Rattle.plane_laws.proofs.ListLemmas.{AtMostOne-from_map}
 use Rattle.bus_core.specs.History.{change_at}
 use Rattle.bus_core.specs.Kept.{Kept, with_newest}
+use Rattle.bus_core.proofs.HistoryLaw.{rows_now}
 use Rattle.kept_laws.specs.Kept.{AreKept}
-use Rattle.plane_types.specs.Node.{Agent, CanFollow, Node, after_change, after_resync, agents_of, follows, host_of, ready_for}
+use Rattle.plane_types.specs.Node.{Agent, CanFollow, Node, after_change, after_resync, agents_of, follows, host_of}
 use Rattle.world_laws.specs.Lead.{IsWorld}
 use Rattle.world_laws.specs.Steps.{Accept, May, Send, Step, add_from, deliver_by, step}
 use Rattle.world_laws.specs.World.{AreSound, World}
@@ -26,36 +28,45 @@ use Rattle.world_laws.proofs.AgentLaw.{follows_held, sound_now}
 use Rattle.world_laws.proofs.Lists.{each_map}
 use Rattle.world_laws.proofs.MeaningLaw.{next_change, rows_of_now}
 use Rattle.world_laws.proofs.StepLaw.{host_names, step_kept}
-use Rattle.lab_world.specs.Hosts.{AreNextFor, IsNextFor, after_next, next_for, take_each}
+use Rattle.agent_node.specs.Rewired.{CanTake, IsReadyTo, after_taking}
+use Rattle.agent_node.specs.declared.rewire.Rewire.{Rewire}
+use Rattle.lab_world.specs.Hosts.{AreToldBy, CanTakeAll, IsToldBy, take_each}
 use Rattle.lab_world.specs.Parts.{AreParts, world_seen}
 use Rattle.lab_world.proofs.One.{agent_at}
 
 -- each host that can take the next change is given the rows that it leads to
-next_taken : (n : ℕ) (c : List Item) (rs : RowLists) (a : Agent) → (follows n a.held ≡ true → rs ≡ after a.rows c) → after_next (next_for false n rs a) a ≡ after_change n c a
-next_taken n c rs a leads = by (follows n a.held) refl
-  where
-    by : (b : Bool) → follows n a.held ≡ b → after_next (cond b (Some (ready_for n rs a)) None) a ≡ cond b (after_resync n (after a.rows c) a) a
-    by true e = ap (λ r. after_resync n r a) (leads e)
-    by false e = refl
+taken : (n : ℕ) (c : List Item) (rs : RowLists) (x : Node) (o : Option Rewire) → IsReadyTo n rs x o → (follows n x.agent.held ≡ true → rs ≡ after x.agent.rows c)
+    → after_taking n o x.agent ≡ after_change n c x.agent
+taken n c rs x None h leads = sym (ap (λ (b : Bool). cond b (after_resync n (after x.agent.rows c) x.agent) x.agent) h)
+taken n c rs x (Some r) h leads =
+    ap (λ rows. after_resync n rows x.agent) (h.1 ∙ leads h.0) ∙ sym (ap (λ (b : Bool). cond b (after_resync n (after x.agent.rows c) x.agent) x.agent) h.0)
 
-all_taken : (n : ℕ) (c : List Item) (rs : RowLists) (agents : List Agent) → Each (λ (a : Agent). follows n a.held ≡ true → rs ≡ after a.rows c) agents
-    → take_each (map (next_for false n rs) agents) agents ≡ map (after_change n c) agents
-all_taken n c rs [] each = refl
-all_taken n c rs (a ∷ agents) each = λ j. next_taken n c rs a (each 0 a refl) j ∷ all_taken n c rs agents (λ k b at. each (suc k) b at) j
+all_taken : (n : ℕ) (c : List Item) (rs : RowLists) (nodes : List Node) (ready : List (Option Rewire)) → AreToldBy false n rs nodes ready
+    → Each (λ (x : Node). follows n x.agent.held ≡ true → rs ≡ after x.agent.rows c) nodes → take_each n ready (agents_of nodes) ≡ map (after_change n c) (agents_of nodes)
+all_taken n c rs [] [] h each = refl
+all_taken n c rs [] (o ∷ ready) h each = absurd h
+all_taken n c rs (x ∷ nodes) [] h each = absurd h
+all_taken n c rs (x ∷ nodes) (o ∷ ready) h each =
+    λ j. taken n c rs x o h.0 (each 0 x refl) j ∷ all_taken n c rs nodes ready h.1 (λ k y at. each (suc k) y at) j
 
 -- by hand alone none is
-none_taken : (n : ℕ) (rs : RowLists) (agents : List Agent) → take_each (map (next_for true n rs) agents) agents ≡ agents
-none_taken n rs [] = refl
-none_taken n rs (a ∷ agents) = λ j. a ∷ none_taken n rs agents j
+none_taken : (n : ℕ) (rs : RowLists) (nodes : List Node) (ready : List (Option Rewire)) → AreToldBy true n rs nodes ready → take_each n ready (agents_of nodes) ≡ agents_of nodes
+none_taken n rs [] [] h = refl
+none_taken n rs [] (o ∷ ready) h = absurd h
+none_taken n rs (x ∷ nodes) [] h = absurd h
+none_taken n rs (x ∷ nodes) (o ∷ ready) h = λ j. after_taking n (h.0 j) x.agent ∷ none_taken n rs nodes ready h.1 j
 
--- what is made ready is for the host's name and tags
-pub are_next : (manual : Bool) (n : ℕ) (rs : RowLists) (nodes : List Node) → AreNextFor (map (next_for manual n rs) (agents_of nodes)) nodes
-are_next manual n rs [] = tt
-are_next manual n rs (x ∷ nodes) = (by (not manual && follows n x.agent.held), are_next manual n rs nodes)
-  where
-    by : (b : Bool) → IsNextFor (cond b (Some (ready_for n rs x.agent)) None) x.agent
-    by true = (refl, refl)
-    by false = tt
+-- what was made ready can be put in
+can_take : (manual : Bool) (n : ℕ) (rs : RowLists) (x : Node) (o : Option Rewire) → IsToldBy manual n rs x o → CanTake x o
+can_take true n rs x o h = subst (CanTake x) (sym h) tt
+can_take false n rs x None h = tt
+can_take false n rs x (Some r) h = h.2
+
+pub can_take_all : (manual : Bool) (n : ℕ) (rs : RowLists) (nodes : List Node) (ready : List (Option Rewire)) → AreToldBy manual n rs nodes ready → CanTakeAll nodes ready
+can_take_all manual n rs [] [] h = tt
+can_take_all manual n rs [] (o ∷ ready) h = absurd h
+can_take_all manual n rs (x ∷ nodes) [] h = absurd h
+can_take_all manual n rs (x ∷ nodes) (o ∷ ready) h = (can_take manual n rs x o h.0, can_take_all manual n rs nodes ready h.1)
 
 module _ (settings : SettingsParts) (rows : RowLists) (version : ℕ) (kept : Kept) (nodes : List Node) (manual : Bool) (are : AreParts settings rows version kept nodes manual) where
   abbrev old : World
@@ -85,12 +96,24 @@ module _ (settings : SettingsParts) (rows : RowLists) (version : ℕ) (kept : Ke
       let is : world_seen settings rows version kept new manual ≡ step old s = ap (λ (seen : List Agent). record old { agents = seen }) same ∙ sym leads in
       (record { world = subst IsWorld (sym is) (step_kept old s are.world may); numbered = are.numbered }, is)
 
-  -- a host that holds the version of now has its rows
+  -- a host that can take the next change has the rows of now
   rows_before : (c : List Item) → Each (λ (a : Agent). follows (version + 1) a.held ≡ true → after rows c ≡ after a.rows c) (agents_of nodes)
   rows_before c k a at next =
       let held = follows_held (version + 1) a.held next in
       let now : a.held ≡ Some version = held.1 ∙ ap Some (sym (let same : version ≡ held.0 = omega (arith, held.2) in same)) in
       ap (λ r. after r c) (sym (rows_of_now old are.world k a at now))
+
+  -- so has it with other room
+  pub rows_with : (c : List Item) (mid : List Node) → agents_of mid ≡ agents_of nodes → Each (λ (x : Node). follows (version + 1) x.agent.held ≡ true → after rows c ≡ after x.agent.rows c) mid
+  rows_with c mid same k x at = rows_before c k x.agent (ap (λ (agents : List Agent). slice_get agents k) (sym same) ∙ agent_at mid k x at)
+
+  -- the next change can follow at each host
+  pub can_follow : (c : List Item) → Fits rows c → IsConsistent (after rows c) → Each (λ (n : Node). CanFollow n.agent (version + 1) c) nodes
+  can_follow c fits consistent k n at next =
+      let held = follows_held (version + 1) n.agent.held next in
+      let now : n.agent.held ≡ Some version = held.1 ∙ ap Some (sym (let same : version ≡ held.0 = omega (arith, held.2) in same)) in
+      let same : n.agent.rows ≡ rows = rows_of_now old are.world k n.agent (agent_at nodes k n at) now in
+      (subst (λ r. Fits r c) (sym same) fits, subst (λ r. IsConsistent (after r c)) (sym same) consistent)
 
   -- the kept change that follows what a host holds can follow there
   pub next_follows : (number : ℕ) (c : List Item) → change_at (world_seen settings rows version kept nodes manual).history number ≡ Some c → Each (λ (n : Node). CanFollow n.agent number c) nodes
@@ -99,26 +122,33 @@ module _ (settings : SettingsParts) (rows : RowLists) (version : ℕ) (kept : Ke
       let f = next_change old are.world number held.0 c at held.2 k n.agent (agent_at nodes k n there) held.1 in
       (f.0, f.1.consistent)
 
+  -- and that which leads to the rows of now leads there from what the host has
+  pub rows_given : (c : List Item) → change_at (world_seen settings rows version kept nodes manual).history version ≡ Some c
+      → Each (λ (n : Node). follows version n.agent.held ≡ true → rows ≡ after n.agent.rows c) nodes
+  rows_given c at k n there follows_it =
+      let held = follows_held version n.agent.held follows_it in
+      let f = next_change old are.world version held.0 c at held.2 k n.agent (agent_at nodes k n there) held.1 in
+      sym (f.2 ∙ rows_now old.history are.world.lead.history.numbered)
+
   -- a change is accepted
   abbrev now_kept : List Item → Kept
   now_kept c = record { last = kept.last + 1; changes = with_newest kept.changes c }
 
-  delivers : (c : List Item) → take_each (map (next_for manual (version + 1) (after rows c)) (agents_of nodes)) (agents_of nodes) ≡ deliver_by manual (version + 1) c (agents_of nodes)
-  delivers c = by manual
+  delivers : (c : List Item) (mid : List Node) (ready : List (Option Rewire)) → agents_of mid ≡ agents_of nodes → AreToldBy manual (version + 1) (after rows c) mid ready
+      → take_each (version + 1) ready (agents_of mid) ≡ deliver_by manual (version + 1) c (agents_of nodes)
+  delivers c mid ready same told = by manual told
     where
-      by : (b : Bool) → take_each (map (next_for b (version + 1) (after rows c)) (agents_of nodes)) (agents_of nodes) ≡ deliver_by b (version + 1) c (agents_of nodes)
-      by true = none_taken (version + 1) (after rows c) (agents_of nodes)
-      by false = all_taken (version + 1) c (after rows c) (agents_of nodes) (rows_before c)
+      by : (b : Bool) → AreToldBy b (version + 1) (after rows c) mid ready → take_each (version + 1) ready (agents_of mid) ≡ deliver_by b (version + 1) c (agents_of nodes)
+      by true h = none_taken (version + 1) (after rows c) mid ready h ∙ same
+      by false h = all_taken (version + 1) c (after rows c) mid ready h (rows_with c mid same) ∙ ap (map (after_change (version + 1) c)) same
 
-  accepted_seen : (c : List Item) (new : List Node) → agents_of new ≡ take_each (map (next_for manual (version + 1) (after rows c)) (agents_of nodes)) (agents_of nodes)
-      → world_seen settings (after rows c) (version + 1) (now_kept c) new manual ≡ step (world_seen settings rows version kept nodes manual) (Accept c)
-  accepted_seen c new taken = ap (λ (agents : List Agent). record (world_seen settings (after rows c) (version + 1) (now_kept c) new manual) { agents = agents }) (taken ∙ delivers c)
-
-  pub accepted : (c : List Item) (new : List Node) → Fits rows c → AreSound settings (after rows c) → agents_of new ≡ take_each (map (next_for manual (version + 1) (after rows c)) (agents_of nodes)) (agents_of nodes)
+  pub accepted : (c : List Item) (mid new : List Node) (ready : List (Option Rewire)) → Fits rows c → AreSound settings (after rows c) → agents_of mid ≡ agents_of nodes
+      → AreToldBy manual (version + 1) (after rows c) mid ready → agents_of new ≡ take_each (version + 1) ready (agents_of mid)
       → AreParts settings (after rows c) (version + 1) (record { last = kept.last + 1; changes = with_newest kept.changes c }) new manual
       × (world_seen settings (after rows c) (version + 1) (record { last = kept.last + 1; changes = with_newest kept.changes c }) new manual ≡ step (world_seen settings rows version kept nodes manual) (Accept c))
-  accepted c new fits sound taken =
-      let s = accepted_seen c new taken in
+  accepted c mid new ready fits sound same told is =
+      let s : world_seen settings (after rows c) (version + 1) (now_kept c) new manual ≡ step old (Accept c) =
+      ap (λ (agents : List Agent). record (world_seen settings (after rows c) (version + 1) (now_kept c) new manual) { agents = agents }) (is ∙ delivers c mid ready same told) in
       (record { world = subst IsWorld (sym s) (step_kept old (Accept c) are.world (fits, sound)); numbered = ap (λ n. n + 1) are.numbered }, s)
 
   -- ---- frames

@@ -1,6 +1,6 @@
 -- What is done with all hosts one by one, as the world sees them.
-use Rattle.std.proofs.Common.{◌≡◌, ℕ, zero, suc, ◌+◌, List, [], ◌∷◌, ◌++◌, Bool, true, false, cond, Option, Some, refl, ap, sym, subst, ◌∙◌, arith, length, map, slice_get}
-use Rattle.std.specs.Prelude.{flat_map}
+use Rattle.std.proofs.Common.{◌≡◌, ℕ, zero, suc, ◌+◌, ◌<◌, List, [], ◌∷◌, ◌++◌, Bool, true, false, cond, Option, None, Some, refl, ap, sym, subst, ◌∙◌, arith, length, map, slice_get, slice_set}
+use Rattle.std.specs.Prelude.{Err, IfSome, Ok, OnErr, Result, flat_map}
 use Rattle.std.specs.List.{filter_map}
 use Rattle.std.specs.Str.{bytes_eq}
 use Rattle.api_types.specs.Lists.{Each}
@@ -10,9 +10,11 @@ use Rattle.plane_types.specs.Node.{Agent, Node, Ready, after_resync, agents_of, 
 use Rattle.plane_types.specs.Verdicts.{made_at}
 use Rattle.plane_types.specs.declared.verdict.Made.{Made}
 use Rattle.world_laws.specs.Steps.{add_from, after_settle, at_host, holds}
-use Rattle.lab_world.specs.Hosts.{AreNextFor, IsNextFor, after_next, made_for, name_and_tags, settle_each, state_at_version, state_with, take_each}
+use Rattle.agent_node.specs.Rewired.{CanTake, after_taking}
+use Rattle.agent_node.specs.declared.rewire.Rewire.{Rewire}
+use Rattle.lab_world.specs.Hosts.{AreToldBy, CanTakeAll, IsToldBy, made_for, name_and_tags, settle_each, state_at_version, state_with, take_each}
 use Rattle.lab_world.specs.Lab.{host_state}
-use Rattle.api_types.proofs.ListLemmas.{some_equal}
+use Rattle.api_types.proofs.ListLemmas.{none_some, some_equal}
 use Rattle.lab_world.proofs.SoFar.{Stepwise}
 
 later : {S : Type 0} (step : ℕ → S → S → Type 0) (x y : S) (old new : List S) → Stepwise step (x ∷ old) (y ∷ new) → Stepwise (λ k. step (suc k)) old new
@@ -22,36 +24,65 @@ pub entries_joined : (nodes : List Node) → flat_map (λ (n : Node). n.agent.en
 entries_joined [] = refl
 entries_joined (n ∷ nodes) = λ j. n.agent.entries ++ entries_joined nodes j
 
--- ---- given the next rows
+-- ---- told of a change
 
--- a host is given what was made ready for it, if anything
-abbrev pub IsTakenAt : List (Option Ready) → ℕ → Node → Node → Type 0
-IsTakenAt ready k n m = (o : Option Ready) → slice_get ready k ≡ Some o → m.agent ≡ after_next o n.agent
+-- what holds anyway holds after an error
+pub still_on_err : {X E : Type 0} (r : Result X E) (P : Type 0) → P → OnErr r P
+still_on_err (Ok x) P h = tt
+still_on_err (Err e) P h = h
 
-pub next_long : (ready : List (Option Ready)) (nodes : List Node) → AreNextFor ready nodes → length ready ≡ length nodes
-next_long [] [] h = refl
-next_long [] (n ∷ nodes) h = absurd h
-next_long (o ∷ ready) [] h = absurd h
-next_long (o ∷ ready) (n ∷ nodes) h = ap (λ k. suc k) (next_long ready nodes h.1)
+-- what holds of rows, where some are given
+pub given_at : {X : Type 0} (o : Option X) (P Q : X → Type 0) → ((x : X) → P x → Q x) → IfSome o P → IfSome o Q
+given_at None P Q f h = tt
+given_at (Some x) P Q f h = f x h
 
-pub next_at : (ready : List (Option Ready)) (nodes : List Node) → AreNextFor ready nodes → (k : ℕ) (o : Option Ready) (n : Node)
-    → slice_get ready k ≡ Some o → slice_get nodes k ≡ Some n → IsNextFor o n.agent
-next_at [] [] h k o n at bt = cc
-next_at [] (x ∷ nodes) h k o n at bt = absurd h
-next_at (p ∷ ready) [] h k o n at bt = absurd h
-next_at (p ∷ ready) (x ∷ nodes) h zero o n at bt =
-    subst (λ (a : Agent). IsNextFor o a) (ap (λ (m : Node). m.agent) (some_equal x n bt)) (subst (λ (q : Option Ready). IsNextFor q x.agent) (some_equal p o at) h.0)
-next_at (p ∷ ready) (x ∷ nodes) h (suc k) o n at bt = next_at ready nodes h.1 k o n at bt
+-- a host takes what was made ready for it, if anything
+abbrev pub IsTakenAt : ℕ → List (Option Rewire) → ℕ → Node → Node → Type 0
+IsTakenAt number ready k n m = (o : Option Rewire) → slice_get ready k ≡ Some o → m.agent ≡ after_taking number o n.agent
 
-pub all_taken : (ready : List (Option Ready)) (old new : List Node) → length ready ≡ length old → Stepwise (IsTakenAt ready) old new
-    → agents_of new ≡ take_each ready (agents_of old)
-all_taken [] [] [] long s = refl
-all_taken [] [] (y ∷ new) long s = absurd (omega (arith, s.length))
-all_taken [] (x ∷ old) new long s = absurd (omega (arith, long))
-all_taken (o ∷ ready) [] new long s = absurd (omega (arith, long))
-all_taken (o ∷ ready) (x ∷ old) [] long s = absurd (omega (arith, s.length))
-all_taken (o ∷ ready) (x ∷ old) (y ∷ new) long s =
-    λ j. s.each 0 x y refl refl o refl j ∷ all_taken ready old new (omega (arith, long)) (later (IsTakenAt (o ∷ ready)) x y old new s) j
+pub take_long : (nodes : List Node) (ready : List (Option Rewire)) → CanTakeAll nodes ready → length ready ≡ length nodes
+take_long [] [] h = refl
+take_long [] (o ∷ ready) h = absurd h
+take_long (n ∷ nodes) [] h = absurd h
+take_long (n ∷ nodes) (o ∷ ready) h = ap (λ k. suc k) (take_long nodes ready h.1)
+
+pub take_at : (nodes : List Node) (ready : List (Option Rewire)) → CanTakeAll nodes ready → (k : ℕ) (o : Option Rewire) (n : Node)
+    → slice_get ready k ≡ Some o → slice_get nodes k ≡ Some n → CanTake n o
+take_at [] [] h k o n at bt = cc
+take_at [] (p ∷ ready) h k o n at bt = absurd h
+take_at (x ∷ nodes) [] h k o n at bt = absurd h
+take_at (x ∷ nodes) (p ∷ ready) h zero o n at bt = subst (λ (m : Node). CanTake m o) (some_equal x n bt) (subst (CanTake x) (some_equal p o at) h.0)
+take_at (x ∷ nodes) (p ∷ ready) h (suc k) o n at bt = take_at nodes ready h.1 k o n at bt
+
+pub all_taken : (number : ℕ) (ready : List (Option Rewire)) (old new : List Node) → length ready ≡ length old → Stepwise (IsTakenAt number ready) old new
+    → agents_of new ≡ take_each number ready (agents_of old)
+all_taken number [] [] [] long s = refl
+all_taken number [] [] (y ∷ new) long s = absurd (omega (arith, s.length))
+all_taken number [] (x ∷ old) new long s = absurd (omega (arith, long))
+all_taken number (o ∷ ready) [] new long s = absurd (omega (arith, long))
+all_taken number (o ∷ ready) (x ∷ old) [] long s = absurd (omega (arith, s.length))
+all_taken number (o ∷ ready) (x ∷ old) (y ∷ new) long s =
+    λ j. s.each 0 x y refl refl o refl j ∷ all_taken number ready old new (omega (arith, long)) (later (IsTakenAt number (o ∷ ready)) x y old new s) j
+
+-- what was made ready at the hosts so far, with that at the next one
+pub one_told : (P : Node → Option Rewire → Type 0) (nodes : List Node) (ready : List (Option Rewire)) (i : ℕ) (m : Node) (o : Option Rewire) → length ready ≡ i
+    → ((k : ℕ) (n : Node) (p : Option Rewire) → slice_get nodes k ≡ Some n → slice_get ready k ≡ Some p → P n p) → P m o → i < length nodes
+    → (k : ℕ) (n : Node) (p : Option Rewire) → slice_get (slice_set nodes i m) k ≡ Some n → slice_get (ready ++ o ∷ []) k ≡ Some p → P n p
+one_told P [] ready i m o long all one within k n p at bt = absurd (omega (arith, within))
+one_told P (x ∷ nodes) [] zero m o long all one within zero n p at bt = subst (P n) (some_equal o p bt) (subst (λ (y : Node). P y o) (some_equal m n at) one)
+one_told P (x ∷ nodes) [] zero m o long all one within (suc k) n p at bt = none_some p _ bt
+one_told P (x ∷ nodes) [] (suc i) m o long all one within k n p at bt = absurd (omega (arith, long))
+one_told P (x ∷ nodes) (q ∷ ready) zero m o long all one within k n p at bt = absurd (omega (arith, long))
+one_told P (x ∷ nodes) (q ∷ ready) (suc i) m o long all one within zero n p at bt = all 0 n p at bt
+one_told P (x ∷ nodes) (q ∷ ready) (suc i) m o long all one within (suc k) n p at bt =
+    one_told P nodes ready i m o (omega (arith, long)) (λ j y r from to. all (suc j) y r from to) one (omega (arith, within)) k n p at bt
+
+pub all_told : (manual : Bool) (number : ℕ) (rows : RowLists) (nodes : List Node) (ready : List (Option Rewire)) → length ready ≡ length nodes
+    → ((k : ℕ) (n : Node) (p : Option Rewire) → slice_get nodes k ≡ Some n → slice_get ready k ≡ Some p → IsToldBy manual number rows n p) → AreToldBy manual number rows nodes ready
+all_told manual number rows [] [] long all = tt
+all_told manual number rows [] (o ∷ ready) long all = absurd (omega (arith, long))
+all_told manual number rows (x ∷ nodes) [] long all = absurd (omega (arith, long))
+all_told manual number rows (x ∷ nodes) (o ∷ ready) long all = (all 0 x o refl refl, all_told manual number rows nodes ready (omega (arith, long)) (λ k n p at bt. all (suc k) n p at bt))
 
 -- ---- settled
 

@@ -25,7 +25,7 @@ module _ {S : Type 0} where
   written (x ∷ xs) (suc i) z zero h same = absurd (omega (arith, same))
   written (x ∷ xs) (suc i) z (suc k) h same = written xs i z k (omega (arith, h)) (omega (arith, same))
 
-  unwritten : (xs : List S) (i : ℕ) (z : S) (k : ℕ) → (k ≡ i → ⊥) → slice_get (slice_set xs i z) k ≡ slice_get xs k
+  pub unwritten : (xs : List S) (i : ℕ) (z : S) (k : ℕ) → (k ≡ i → ⊥) → slice_get (slice_set xs i z) k ≡ slice_get xs k
   unwritten [] i z k other = refl
   unwritten (x ∷ xs) zero z zero other = absurd (other refl)
   unwritten (x ∷ xs) zero z (suc k) other = refl

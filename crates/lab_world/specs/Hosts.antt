@@ -1,8 +1,10 @@
 -- What is done at one host of a list, and with all of them one by one.
-use Rattle.std.specs.Prelude.{◌≡◌, ℕ, zero, suc, ◌&&◌, Bool, true, not, ⊤, List, [], ◌∷◌, Option, None, Some, find, map, slice_get, if◌then◌else◌}
+use Rattle.std.specs.Prelude.{◌≡◌, ℕ, zero, suc, Bool, true, false, ⊤, List, [], ◌∷◌, Option, None, Some, find, map, slice_get, if◌then◌else◌}
 use Rattle.std.specs.Str.{bytes_eq}
 use Rattle.api_types.specs.RowLists.{RowLists}
-use Rattle.plane_types.specs.Node.{Agent, Node, Ready, after_resync, follows, ready_for}
+use Rattle.plane_types.specs.Node.{Agent, Node, Ready}
+use Rattle.agent_node.specs.Rewired.{CanTake, IsReadyTo, after_taking}
+use Rattle.agent_node.specs.declared.rewire.Rewire.{Rewire}
 use Rattle.plane_types.specs.declared.ask.HostState.{HostState}
 use Rattle.plane_types.specs.declared.table.TagRow.{TagRow}
 use Rattle.world_laws.specs.Steps.{after_settle}
@@ -45,30 +47,31 @@ name_and_tags a = (a.name, a.tables.tags)
 abbrev pub AreFor : List Ready → List Node → Type 0
 AreFor ready nodes = map made_for ready ≡ map (λ (n : Node). name_and_tags n.agent) nodes
 
--- what a host is given with the rows of a version, where it holds the one before and delivery isn't
--- by hand alone
-abbrev pub next_for : Bool → ℕ → RowLists → Agent → Option Ready
-next_for manual n rows a =
-    if not manual && follows n a.held then Some (ready_for n rows a) else None
+-- what was made ready at a host for the change with a number that leads to these rows: nothing
+-- where delivery is by hand alone
+abbrev pub IsToldBy : Bool → ℕ → RowLists → Node → Option Rewire → Type 0
+IsToldBy true number rows n o = o ≡ None
+IsToldBy false number rows n o = IsReadyTo number rows n o
 
-abbrev pub IsNextFor : Option Ready → Agent → Type 0
-IsNextFor None a = ⊤
-IsNextFor (Some r) a = (r.name ≡ a.name) × (r.old ≡ a.tables.tags)
+abbrev pub AreToldBy : Bool → ℕ → RowLists → List Node → List (Option Rewire) → Type 0
+AreToldBy manual number rows [] [] = ⊤
+AreToldBy manual number rows [] (o ∷ ready) = ⊥
+AreToldBy manual number rows (n ∷ nodes) [] = ⊥
+AreToldBy manual number rows (n ∷ nodes) (o ∷ ready) =
+    IsToldBy manual number rows n o × AreToldBy manual number rows nodes ready
 
-abbrev pub AreNextFor : List (Option Ready) → List Node → Type 0
-AreNextFor [] [] = ⊤
-AreNextFor [] (n ∷ nodes) = ⊥
-AreNextFor (o ∷ ready) [] = ⊥
-AreNextFor (o ∷ ready) (n ∷ nodes) = IsNextFor o n.agent × AreNextFor ready nodes
+-- it can be put in at each
+abbrev pub CanTakeAll : List Node → List (Option Rewire) → Type 0
+CanTakeAll [] [] = ⊤
+CanTakeAll [] (o ∷ ready) = ⊥
+CanTakeAll (n ∷ nodes) [] = ⊥
+CanTakeAll (n ∷ nodes) (o ∷ ready) = CanTake n o × CanTakeAll nodes ready
 
-abbrev pub after_next : Option Ready → Agent → Agent
-after_next None a = a
-after_next (Some r) a = after_resync r.version r.rows a
-
-abbrev pub take_each : List (Option Ready) → List Agent → List Agent
-take_each [] agents = agents
-take_each (o ∷ ready) [] = []
-take_each (o ∷ ready) (a ∷ agents) = after_next o a ∷ take_each ready agents
+abbrev pub take_each : ℕ → List (Option Rewire) → List Agent → List Agent
+take_each number [] agents = agents
+take_each number (o ∷ ready) [] = []
+take_each number (o ∷ ready) (a ∷ agents) =
+    after_taking number o a ∷ take_each number ready agents
 
 -- each is given the rows that were made ready for it, where it doesn't hold the version
 abbrev pub settle_each : ℕ → List Ready → List Agent → List Agent

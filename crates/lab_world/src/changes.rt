@@ -86,11 +86,11 @@ impl World {
         let version = self.machine.version();
         let told = self
             .hosts
-            .prepare_next(alloc, self.manual, version + 1, ready.rows())?;
+            .prepare_told(alloc, self.manual, version + 1, &change, ready.rows())?;
         match keeper.apply(alloc, &change) {
             Ok(()) => {
                 self.machine.accept(ready);
-                self.hosts.take(told);
+                self.hosts.take(told, version + 1);
                 let _kept = self.bus.push(change);
                 Ok(())
             }

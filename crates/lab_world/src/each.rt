@@ -1,71 +1,104 @@
 //! Loops over all hosts, each as one step of one host.
 
-ghost use Rattle.std.specs.Prelude.{◌≡◌, ◌≤◌, ◌++◌, IfOk, OnOk, length, map};
+ghost use Rattle.std.specs.Prelude.{◌≡◌, ◌≤◌, ◌++◌, IfOk, IfSome, OnErr, OnOk, length, map, true};
 ghost use Rattle.std.specs.List.{filter_map};
-ghost use Rattle.api_types.specs.Consistent.{IsConsistent};
 ghost use Rattle.api_types.specs.Lists.{Each};
+ghost use Rattle.api_types.specs.Rows.{after as rows_after};
 ghost use Rattle.plane_types.specs.Attached.{IsAttached};
 ghost use Rattle.plane_types.specs.Verdicts.{with_made, made_at};
-ghost use Rattle.plane_types.specs.Node.{Node, Ready, agents_of, follows, host_of, host_with, with_entries};
+ghost use Rattle.plane_types.specs.Node.{CanFollow, Node, Ready, after_change, agents_of, follows, hearing, host_of, host_with, with_entries};
 ghost use Rattle.world_laws.specs.Steps.{add_from, after_settle};
-ghost use Rattle.lab_world.specs.Hosts.{AreFor, AreNextFor, IsNextFor, after_next, next_for, settle_each, take_each};
+ghost use Rattle.lab_world.specs.Hosts.{AreFor, AreToldBy, CanTakeAll, IsToldBy, settle_each, take_each};
 
-use agent_node::{AgentNode, ReadyNode};
-use api_types::Rows;
+use agent_node::{AgentNode, ReadyNode, Rewire};
+use api_types::{Change, Rows};
 use net_addr::OutOfMemory;
-use plane_types::{Entries, Entry, Made};
+use plane_types::{Entries, Entry, Heard, Made};
 use std::alloc::Global;
 
-// Whether a number is the next one after what is held.
-#[tactic(auto, using(crate::proofs::Following::next_after))]
-fn is_next(held: Option<u64>, number: u64) -> bool
-    ensures { result ≡ follows number held }
-{
-    match held {
-        Some(held) => number > held && number - held == 1,
-        None => false,
-    }
-}
-
-/// What a host would be given with the rows of a version, if it holds the one before and delivery
-/// isn't by hand alone.
-pub(crate) fn next_of(
+// Makes all ready at a host for a change with its number that leads to these rows, unless delivery
+// is by hand alone.
+fn prepare_one(
     alloc: Global,
-    node: &AgentNode,
+    node: &mut AgentNode,
     manual: bool,
     number: u64,
-    rows: &Rows,
-) -> Result<Option<ReadyNode>, OutOfMemory>
-    requires { IsConsistent rows.now }
-    ensures { IfOk result (λ o. o ≡ next_for manual number rows.now node.now.agent) }
+    change: &Change,
+    after: &Rows,
+) -> Result<Option<Rewire>, OutOfMemory>
+    requires fits { CanFollow node.old.agent number change.now }
+    requires rows { follows number node.old.agent.held ≡ true
+        → after.now ≡ rows_after node.old.agent.rows change.now }
+    ensures ready { IfOk result (IsToldBy manual number after.now node.new) }
+    ensures agent { node.new.agent ≡ node.old.agent }
 {
-    if !manual && is_next(node.held(), number) {
-        Ok(Some(node.prepare_resync(alloc, number, rows)?))
-    } else {
-        Ok(None)
+    if manual {
+        return Ok(None);
     }
+    node.prepare_change(alloc, number, change, after)
 }
 
-// Puts in place what was made ready for a host, if anything.
-fn take(node: &mut AgentNode, ready: Option<ReadyNode>)
-    requires { IsNextFor ready node.old.agent }
-    ensures { node.new.agent ≡ after_next ready node.old.agent }
+/// Makes all ready at each host for a change with its number that leads to these rows, unless
+/// delivery is by hand alone.
+pub(crate) fn prepare_all(
+    alloc: Global,
+    nodes: &mut [AgentNode],
+    manual: bool,
+    number: u64,
+    change: &Change,
+    after: &Rows,
+) -> Result<Vec<Option<Rewire>>, OutOfMemory>
+    requires fits { Each (λ (n : Node). CanFollow n.agent number change.now) nodes.old }
+    requires rows { Each
+        (λ (n : Node). follows number n.agent.held ≡ true
+        → after.now ≡ rows_after n.agent.rows change.now)
+        nodes.old }
+    ensures ready { IfOk result
+        (λ ready. AreToldBy manual number after.now nodes.new ready.items) }
+    ensures agents { agents_of nodes.new ≡ agents_of nodes.old }
 {
-    if let Some(ready) = ready {
-        node.put(ready);
+    let mut ready = Vec::new(alloc);
+    for node in nodes.iter_mut() {
+        let one = prepare_one(alloc, node, manual, number, change, after)?;
+        ready.push(one)?;
     }
+    Ok(ready)
 }
 
-/// Puts in place at each host what was made ready for it, if anything.
-pub(crate) fn take_all(nodes: &mut [AgentNode], ready: Vec<Option<ReadyNode>>)
-    requires { AreNextFor ready.items nodes.old }
-    ensures { agents_of nodes.new ≡ take_each ready.items (agents_of nodes.old) }
+/// Puts in at each host what was made ready for it, if anything.
+pub(crate) fn take_all(nodes: &mut [AgentNode], ready: Vec<Option<Rewire>>, number: u64)
+    requires { CanTakeAll nodes.old ready.items }
+    ensures { agents_of nodes.new ≡ take_each number ready.items (agents_of nodes.old) }
 {
     let mut left = ready.into_iter();
     for node in nodes.iter_mut() {
         if let Some(ready) = left.next() {
-            take(node, ready);
+            node.take_change(number, ready);
         }
+    }
+}
+
+/// Tells a host the change with a number. If the rows after the change are given, the host shares
+/// them.
+pub(crate) fn tell(
+    alloc: Global,
+    node: &mut AgentNode,
+    number: u64,
+    change: &Change,
+    after: Option<&Rows>,
+) -> Result<Heard, OutOfMemory>
+    requires fits { CanFollow node.old.agent number change.now }
+    requires rows { IfSome after
+        (λ rows. follows number node.old.agent.held ≡ true
+        → rows.now ≡ rows_after node.old.agent.rows change.now) }
+    ensures heard { IfOk result (λ h. h ≡ hearing number node.old.agent.held) }
+    ensures agent { OnOk result
+        (node.new.agent ≡ after_change number change.now node.old.agent) }
+    ensures same { OnErr result (node.new.agent ≡ node.old.agent) }
+{
+    match after {
+        Some(after) => node.deliver_with(alloc, number, change, after),
+        None => node.deliver(alloc, number, change),
     }
 }
 

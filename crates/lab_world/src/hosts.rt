@@ -1,21 +1,22 @@
 //! The hosts in order, each with its agents; frames see them as a fleet.
 
-ghost use Rattle.std.specs.Prelude.{◌≡◌, ◌↔◌, ◌<◌, ◌≤◌, ◌++◌, ◌∷◌, [], None, Some, IfNone, IfOk, IfSome, IsTrue, OnErr, OnOk, flat_map, if◌then◌else◌, length, map, option_copied, option_map, slice_get};
+ghost use Rattle.std.specs.Prelude.{◌≡◌, ◌↔◌, ◌<◌, ◌≤◌, ◌++◌, ◌∷◌, [], None, Some, IfNone, IfOk, IfSome, IsTrue, OnErr, OnOk, flat_map, if◌then◌else◌, length, map, option_copied, option_map, slice_get, true};
 ghost use Rattle.std.specs.Str.{bytes_eq};
 ghost use Rattle.api_types.specs.Consistent.{IsConsistent};
 ghost use Rattle.api_types.specs.Lists.{Each};
 ghost use Rattle.plane_types.specs.Hosts.{is_named};
 ghost use Rattle.plane_types.specs.Attached.{IsAttached};
 ghost use Rattle.plane_types.specs.Verdicts.{with_made};
-ghost use Rattle.plane_types.specs.Node.{CanFollow, Node, Ready, after_change, after_forget, after_restart, after_resync, agents_of, first_agent, hearing, host_of, ready_for};
+ghost use Rattle.plane_types.specs.Node.{CanFollow, Node, Ready, after_change, after_forget, after_restart, after_resync, agents_of, first_agent, follows, hearing, host_of, ready_for};
 ghost use Rattle.plane_types.specs.Room.{Room};
 ghost use Rattle.plane_types.specs.Tables.{Tables};
+ghost use Rattle.api_types.specs.Rows.{after as rows_after};
 ghost use Rattle.world_laws.specs.Steps.{add_from};
-ghost use Rattle.lab_world.specs.Hosts.{AreFor, AreNextFor, IsNamedAt, at_place, named_node, next_for, settle_each, state_at_version, state_with, take_each};
+ghost use Rattle.lab_world.specs.Hosts.{AreFor, AreToldBy, CanTakeAll, IsNamedAt, at_place, named_node, settle_each, state_at_version, state_with, take_each};
 ghost use Rattle.lab_world.specs.Lab.{host_state};
 
-use crate::each::{add_entries, keep_all, next_of, reserve_all, settle_all, take_all};
-use agent_node::{AgentNode, ReadyNode};
+use crate::each::{add_entries, keep_all, prepare_all, reserve_all, settle_all, take_all, tell};
+use agent_node::{AgentNode, ReadyNode, Rewire};
 use api_types::{Change, Rows};
 use fabric_run::Fleet;
 use net_addr::{Copies, OutOfMemory, Seq, Text};
@@ -99,34 +100,36 @@ impl Hosts {
         settle_all(self.nodes.as_mut_slice(), ready, version);
     }
 
-    /// What each host would be given with the rows of a version that a change leads to, unless
-    /// delivery is by hand alone or the host doesn't hold the version before. Nothing changes. Its
-    /// cost is that of wiring each host; they share the rows.
-    pub fn prepare_next(
-        &self,
+    /// Makes all ready at each host for a change with its number that leads to these rows, unless
+    /// delivery is by hand alone. Nothing changes but room. Its cost for each host grows with what
+    /// the change touches.
+    pub fn prepare_told(
+        &mut self,
         alloc: Global,
         manual: bool,
         number: u64,
-        rows: &Rows,
-    ) -> Result<Vec<Option<ReadyNode>>, OutOfMemory>
-        requires { IsConsistent rows.now }
-        ensures { IfOk result
-            (λ ready. ready.items ≡ map (next_for manual number rows.now) (agents_of self.now)) }
+        change: &Change,
+        after: &Rows,
+    ) -> Result<Vec<Option<Rewire>>, OutOfMemory>
+        requires fits { Each (λ (n : Node). CanFollow n.agent number change.now) self.old }
+        requires rows { Each
+            (λ (n : Node). follows number n.agent.held ≡ true
+            → after.now ≡ rows_after n.agent.rows change.now)
+            self.old }
+        ensures ready { IfOk result
+            (λ ready. AreToldBy manual number after.now self.new ready.items) }
+        ensures agents { agents_of self.new ≡ agents_of self.old }
     {
-        let mut ready = Vec::new(alloc);
-        for node in &self.nodes {
-            ready.push(next_of(alloc, node, manual, number, rows)?)?;
-        }
-        Ok(ready)
+        let nodes = self.nodes.as_mut_slice();
+        prepare_all(alloc, nodes, manual, number, change, after)
     }
 
-    /// Puts in place what was made ready for each host, if anything. It allocates nothing. Its cost
-    /// grows with the entries of each host times its taps and routers.
-    pub fn take(&mut self, ready: Vec<Option<ReadyNode>>)
-        requires { AreNextFor ready.items self.old }
-        ensures { agents_of self.new ≡ take_each ready.items (agents_of self.old) }
+    /// Puts in what was made ready at each host for the change with a number. It allocates nothing.
+    pub fn take(&mut self, ready: Vec<Option<Rewire>>, number: u64)
+        requires { CanTakeAll self.old ready.items }
+        ensures { agents_of self.new ≡ take_each number ready.items (agents_of self.old) }
     {
-        take_all(self.nodes.as_mut_slice(), ready);
+        take_all(self.nodes.as_mut_slice(), ready, number);
     }
 
     /// The place of the first host of this name.
@@ -142,26 +145,33 @@ impl Hosts {
         None
     }
 
-    /// Tells the host at a place a change with its number, and answers what it makes of it. Its
-    /// cost is that of wiring the host.
+    /// Tells the host at a place a change with its number, and answers what it makes of it. If the
+    /// rows after the change are given, the host shares them. Its cost is that of
+    /// `AgentNode::deliver`.
     pub fn deliver(
         &mut self,
         alloc: Global,
         at: usize,
         number: u64,
         change: &Change,
+        after: Option<&Rows>,
     ) -> Result<Heard, OutOfMemory>
         requires within { at < length self.old }
         requires fits { Each (λ (n : Node). CanFollow n.agent number change.now) self.old }
+        requires rows { IfSome after
+            (λ rows. Each
+            (λ (n : Node). follows number n.agent.held ≡ true
+            → rows.now ≡ rows_after n.agent.rows change.now)
+            self.old) }
         ensures heard { IfOk result
             (λ heard. (n : Node) → slice_get self.old at ≡ Some n
             → heard ≡ hearing number n.agent.held) }
         ensures ok { OnOk result
             (agents_of self.new
             ≡ at_place at (after_change number change.now) (agents_of self.old)) }
-        ensures err { OnErr result (self.new ≡ self.old) }
+        ensures err { OnErr result (agents_of self.new ≡ agents_of self.old) }
     {
-        let heard = self.nodes[at].deliver(alloc, number, change)?;
+        let heard = tell(alloc, &mut self.nodes[at], number, change, after)?;
         Ok(heard)
     }
 

@@ -1,17 +1,31 @@
 //! Calls of the lab that deliver messages to hosts, lose what hosts hold, and tell of hosts.
-ghost use Rattle.std.specs.Prelude.{◌≡◌, IfErr, IfOk};
+ghost use Rattle.std.specs.Prelude.{◌≡◌, IfErr, IfOk, IfSome};
 ghost use Rattle.lab_world.specs.Lab.{Answered, IsBarred, lab_outcome};
 ghost use Rattle.lab_world.specs.World.{ByLab, IsHandled};
 
 use crate::lab::{ensure_admin, kept_change, place_of, tables_of};
 use crate::world::World;
-use api_types::{Caller, Refusal};
+use api_machine::Machine;
+use api_types::{Caller, Refusal, Rows};
 use net_addr::Text;
 use plane_types::{LabAnswer, LabCall, Reply};
 use std::alloc::Global;
 
+// The current rows, if the change with this number leads to them.
+fn rows_of(machine: &Machine, number: u64) -> Option<&Rows>
+    ensures { IfSome result
+        (λ rows. (number ≡ machine.now.version) × (rows.now ≡ machine.now.rows)) }
+{
+    if number == machine.version() {
+        Some(machine.rows())
+    } else {
+        None
+    }
+}
+
 impl World {
-    /// Tells the host of this name the change with a number. Its cost is that of wiring the host.
+    /// Tells the host of this name the change with a number. Its cost is that of
+    /// `AgentNode::deliver`; the host shares the current rows if that is their change.
     pub(crate) fn deliver(
         &mut self,
         alloc: Global,
@@ -32,7 +46,8 @@ impl World {
         ensure_admin(caller)?;
         let at = place_of(alloc, &self.hosts, name)?;
         let change = kept_change(&self.bus, number)?;
-        let heard = self.hosts.deliver(alloc, at, number, change)?;
+        let after = rows_of(&self.machine, number);
+        let heard = self.hosts.deliver(alloc, at, number, change, after)?;
         Ok(LabAnswer::Told(heard))
     }
 

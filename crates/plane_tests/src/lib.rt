@@ -1,5 +1,6 @@
 //! Tests of `fabric_run` and the agents, on what no stream of tests/corpus can say: tables that no
-//! agent makes, and tags that no host of a server gives. Values were worked out by hand.
+//! agent makes, tags that no host of a server gives, and how many rows the edits of a change write.
+//! Values were worked out by hand.
 //!
 //! A crate with tests is proved twice, so they stand here, above the crates that they test, and not
 //! in them. It promises nothing by itself.
@@ -9,6 +10,8 @@
 mod dangling;
 #[cfg(test)]
 mod lab;
+#[cfg(test)]
+mod steps;
 #[cfg(test)]
 mod tags;
 #[cfg(test)]
