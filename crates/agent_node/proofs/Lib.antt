@@ -1,2 +1,5 @@
 pub mod PutLemmas
 pub mod MadeTables
+pub mod NoFew
+pub mod StillRows
+pub mod StillTables

@@ -1,1 +1,2 @@
 pub mod Rewired
+pub mod Still

@@ -16,6 +16,7 @@
 mod node;
 mod ready;
 mod rewire;
+mod still;
 mod wiring;
 
 pub use node::AgentNode;

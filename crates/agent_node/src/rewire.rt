@@ -13,6 +13,7 @@ ghost use Rattle.table_edits.specs.Rewires.{LeadsOn};
 ghost use Rattle.agent_node.specs.Rewired.{AreFewFor, CanTake, IsReadyFor, IsReadyTo, after_taking, rewired};
 
 use crate::node::AgentNode;
+use crate::still::{are_still, no_edits};
 use api_types::{Change, Rows};
 use dhcp_delta::leases_delta;
 use l2_delta::ports_delta;
@@ -61,6 +62,26 @@ fn drop_parted(entries: &mut Entries, tables: &HostTables, parts: bool)
 impl AgentNode {
     // The edits by which a change leads to the tables that the rows after it give to the host.
     fn delta_of(&self, alloc: Global, change: &Change, after: &Rows) -> Result<Delta, OutOfMemory>
+        requires { LeadsOn self.now.agent.rows change.now after.now }
+        ensures leads { IfOk result
+            (λ d. with_delta self.now.agent.tables d
+            ≡ tables_of_rows after.now self.now.agent.name self.now.agent.tables.tags) }
+        ensures few { IfOk result (AreFewFor self.now.agent change.now after.now) }
+    {
+        let _tables = &self.tables; // for the proof: they realise the rows
+        if are_still(change.as_slice()) {
+            return Ok(no_edits(alloc));
+        }
+        self.touched_delta(alloc, change, after)
+    }
+
+    // The same, found at what the change touches.
+    fn touched_delta(
+        &self,
+        alloc: Global,
+        change: &Change,
+        after: &Rows,
+    ) -> Result<Delta, OutOfMemory>
         requires { LeadsOn self.now.agent.rows change.now after.now }
         ensures leads { IfOk result
             (λ d. with_delta self.now.agent.tables d
@@ -125,8 +146,8 @@ impl AgentNode {
     /// Puts edits that were made ready for this host in, and their rows. Entries without a tap or
     /// router in the new tables are dropped, and the others stay in their order. Each row of a
     /// table that is taken out and each that is put in is a step. It takes no memory. Its cost
-    /// grows with the edits and the rows after the place of each, and with the entries if a tap or
-    /// a router is taken out.
+    /// grows with the edits and, in each table that has any, with the rows after the first, once for
+    /// each edit where they are few; and with the entries if a tap or a router is taken out.
     pub fn rewire<L: Ledger>(&mut self, ready: Rewire, steps: &mut Steps<L>)
         requires { IsReadyFor self.old ready }
         ensures agent { self.new.agent ≡ rewired ready.rows self.old.agent }

@@ -18,7 +18,7 @@ use Rattle.plane_types.specs.declared.table.TagRow.{TagRow}
 use Rattle.table_edits.specs.EditsAt.{among}
 use Rattle.table_edits.specs.NumbersSeen.{Renumbered, at_after, at_before}
 use Rattle.table_edits.specs.Untouched.{SubnetStays}
-use Rattle.touched_rows.specs.TouchedNumbers.{holds_in_any, numbers_from}
+use Rattle.touched_rows.specs.TouchedNumbers.{can_live, holds_in_any, numbers_from}
 use Rattle.kept_rows.proofs.FoundLemmas.{place_of_number}
 use Rattle.kept_rows.proofs.NumberLists.{none_any}
 use Rattle.dhcp_delta.specs.Serving.{dhcp_here, is_dhcp_on, is_led, is_served, serves_any}
@@ -93,7 +93,7 @@ none_is (Some x) h = cc
 
 module _ (before after : RowLists) (items : List Item) (ports : Renumbered PortRow) (touched : List ℕ)
     (s : Stays before after items ports touched) (host : List ℕ) (old new : List TagRow)
-    (tag : (k : ℕ) (p : PortRow) → among nat_lt k touched ≡ false → at_before ports k ≡ Some p → tag_of old p.network ≡ tag_of new p.network)
+    (tag : (k : ℕ) (p : PortRow) → among nat_lt k touched ≡ false → at_before ports k ≡ Some p → can_live p ≡ true → tag_of old p.network ≡ tag_of new p.network)
     (networks subnets : Ident → Bool)
     (dhcp : (n : Ident) → networks n ≡ list_any (λ k. is_dhcp_on n (slice_get ports.rows k) || is_dhcp_on n (at_after ports k)) touched)
     (told : (i : Ident) → subnets i ≡ false → SubnetStays (subnet_with before i) (subnet_with after i)) where
@@ -117,7 +117,7 @@ module _ (before after : RowLists) (items : List Item) (ports : Renumbered PortR
       (λ served.
       let away : (networks p.network || holds_in_any subnets p) ≡ false = unled (networks p.network || holds_in_any subnets p) (is_served before after host p.network) served fails in
       let parts = or_none (networks p.network) (holds_in_any subnets p) away in
-      lease_stays before after host old new p (s.up k p off at) (tag k p off at) (same_server p.network parts.0)
+      lease_stays before after host old new p (s.live k p off at) (tag k p off at) (same_server p.network parts.0)
       (λ d. leased_alike before after subnets d p told parts.1))
       (λ none.
       let parts = or_none (is_some (dhcp_here before host p.network)) (is_some (dhcp_here after host p.network)) none in

@@ -3,24 +3,25 @@ use Rattle.std.proofs.Common.{◌≡◌, ◌∙◌, ℕ, List, [], ◌∷◌, Bo
 use Rattle.std.specs.Prelude.{◌&&◌, if◌then◌else◌, option_and_then, option_map}
 use Rattle.std.specs.List.{list_any}
 use Rattle.net_addr.specs.Addresses.{is_v4}
-use Rattle.api_types.specs.Consistent.Carried.{is_bound}
 use Rattle.api_types.specs.Holders.{dhcp_port}
 use Rattle.api_types.specs.Ident.{Ident}
 use Rattle.api_types.specs.Leases.{lease_for, lease_in, lease_of}
-use Rattle.api_types.specs.Live.{is_at, is_live, network_up}
+use Rattle.api_types.specs.Live.{is_at, is_live}
 use Rattle.api_types.specs.Owners.{holds_in}
 use Rattle.api_types.specs.RowLists.{RowLists}
-use Rattle.api_types.specs.RowsWith.{network_with, subnet_with}
+use Rattle.api_types.specs.RowsWith.{subnet_with}
 use Rattle.api_types.specs.declared.lease.Lease.{Lease}
 use Rattle.api_types.specs.declared.port.Fixed.{Fixed}
 use Rattle.api_types.specs.declared.port.PortRow.{PortRow}
 use Rattle.api_types.specs.declared.subnet.SubnetRow.{SubnetRow}
 use Rattle.api_types.proofs.ListLemmas.{none_some, or_none, some_equal}
+use Rattle.api_types.proofs.NameLemmas.{by_test}
 use Rattle.plane_types.specs.TableRows.{lease_row, lease_row_by, tag_of}
 use Rattle.plane_types.specs.declared.table.LeaseRow.{LeaseRow}
 use Rattle.plane_types.specs.declared.table.TagRow.{TagRow}
 use Rattle.table_edits.specs.Untouched.{SubnetStays}
-use Rattle.touched_rows.specs.TouchedNumbers.{holds_in_any}
+use Rattle.touched_rows.specs.TouchedNumbers.{can_live, holds_in_any}
+use Rattle.touched_rows.proofs.SeesLemmas.{not_live}
 use Rattle.dhcp_delta.specs.Serving.{dhcp_here, if_at, served_row}
 
 -- by the DHCP port here alone
@@ -78,35 +79,39 @@ leased_alike before after subnets d q stays away = go q.fixed away
         by true here rest = here
         by false here rest = rest
 
-same_live : (before after : RowLists) (p : PortRow)
-    → network_up (network_with before p.network) ≡ network_up (network_with after p.network)
-    → is_live before p ≡ is_live after p
-unfolding is_live
-same_live before after p up = ap (λ b. p.up && is_bound p.vif && b) up
-
--- a port has the lease that it had if its network and its server are as before, and so is what is
--- leased to it
+-- a port has the lease that it had if it is as live, its tag and its server are as before, and so
+-- is what is leased to it
 pub lease_stays : (before after : RowLists) (host : List ℕ) (old new : List TagRow) (q : PortRow)
-    → network_up (network_with before q.network) ≡ network_up (network_with after q.network)
-    → tag_of old q.network ≡ tag_of new q.network
+    → is_live before q ≡ is_live after q
+    → (can_live q ≡ true → tag_of old q.network ≡ tag_of new q.network)
     → dhcp_here before host q.network ≡ dhcp_here after host q.network
     → ((d : PortRow) → lease_for before d q ≡ lease_for after d q)
     → lease_row before host old q ≡ lease_row after host new q
-lease_stays before after host old new q up tag server leased =
+lease_stays before after host old new q live tag server leased =
     lease_by_here before host old q
-    ∙ (λ j. if same_live before after q up j then served j else None)
+    ∙ by_test (can_live q) (row before old ≡ row after new)
+    (λ can. (λ j. if live j then served (tag can) j else None))
+    (λ off. ap (λ b. if b then leased_row before old else None) (not_live before q off)
+    ∙ sym (ap (λ b. if b then leased_row after new else None) (not_live after q off)))
     ∙ sym (lease_by_here after host new q)
   where
-    by : (o : Option PortRow) → option_and_then (served_row before old q) o ≡ option_and_then (served_row after new q) o
-    by None = refl
-    by (Some d) =
+    leased_row : RowLists → List TagRow → Option LeaseRow
+    leased_row rows tags = option_and_then (served_row rows tags q) (dhcp_here rows host q.network)
+
+    row : RowLists → List TagRow → Option LeaseRow
+    row rows tags = if is_live rows q then leased_row rows tags else None
+
+    by : tag_of old q.network ≡ tag_of new q.network → (o : Option PortRow)
+        → option_and_then (served_row before old q) o ≡ option_and_then (served_row after new q) o
+    by tag None = refl
+    by tag (Some d) =
         λ j. option_and_then
         (λ (lease : Lease). option_map (λ tag. record { port = q.id; tag = tag; mac = q.mac; lease = lease }) (tag j))
         (leased d j)
 
-    served : option_and_then (served_row before old q) (dhcp_here before host q.network)
-        ≡ option_and_then (served_row after new q) (dhcp_here after host q.network)
-    served = by (dhcp_here before host q.network) ∙ ap (option_and_then (served_row after new q)) server
+    served : tag_of old q.network ≡ tag_of new q.network → leased_row before old ≡ leased_row after new
+    served tag =
+        by tag (dhcp_here before host q.network) ∙ ap (option_and_then (served_row after new q)) server
 
 -- nor has one that none serves here before or after
 pub unserved : (before after : RowLists) (host : List ℕ) (old new : List TagRow) (q : PortRow)

@@ -4,13 +4,11 @@ use Rattle.std.proofs.Common.{◌≡◌, ◌∙◌, ℕ, List, [], ◌∷◌, Bo
 use Rattle.std.specs.Prelude.{◌&&◌, ◌||◌, is_some, if◌then◌else◌, nat_lt, option_and_then, option_map}
 use Rattle.std.proofs.lemmas.Bool.{and_parts}
 use Rattle.api_types.specs.Holders.{is_live_dhcp_of}
-use Rattle.api_types.specs.Consistent.Carried.{is_bound}
 use Rattle.api_types.specs.Ident.{Ident}
-use Rattle.api_types.specs.Live.{is_at, is_here, is_live, network_up}
+use Rattle.api_types.specs.Live.{is_at, is_here, is_live}
 use Rattle.api_types.specs.Owners.{is_dhcp, is_dhcp_of}
 use Rattle.api_types.specs.Parts.{port_of}
 use Rattle.api_types.specs.RowLists.{RowLists}
-use Rattle.api_types.specs.RowsWith.{network_with}
 use Rattle.api_types.specs.Table.{HaveOwnIds, ident_eq, place_of}
 use Rattle.api_types.specs.declared.change.Item.{Item}
 use Rattle.api_types.specs.declared.kind.Kind.TheVariants.{Port}
@@ -71,18 +69,11 @@ once_here rows host n once =
     (and_parts (is_live_dhcp_of rows n q) (is_at host q) h).0).0)
     once
 
--- whether a port serves is as before if its network is as up
-same_live : (before after : RowLists) (p : PortRow)
-    → network_up (network_with before p.network) ≡ network_up (network_with after p.network)
-    → is_live before p ≡ is_live after p
-unfolding is_live
-same_live before after p up = ap (λ b. p.up && is_bound p.vif && b) up
-
+-- whether a port serves is as before if it is as live
 pub same_serving : (before after : RowLists) (host : List ℕ) (n : Ident) (p : PortRow)
-    → network_up (network_with before p.network) ≡ network_up (network_with after p.network)
+    → is_live before p ≡ is_live after p
     → serves_here before host n p ≡ serves_here after host n p
-same_serving before after host n p up =
-    ap (λ b. is_dhcp_of n p && b && is_at host p) (same_live before after p up)
+same_serving before after host n p live = ap (λ b. is_dhcp_of n p && b && is_at host p) live
 
 -- a port that serves here serves its network
 pub serving_its : (rows : RowLists) (host : List ℕ) (n : Ident) (p : PortRow)
@@ -143,8 +134,8 @@ pub record Stays (before after : RowLists) (items : List Item) (ports : Renumber
   pub numbered : ports ≡ record { rows = before.ports; items = row_items Port port_of items }
   pub own_ids : HaveOwnIds (λ (p : PortRow). p.id) ports.rows
   pub stay : (k : ℕ) → among nat_lt k touched ≡ false → at_before ports k ≡ at_after ports k
-  pub up : (k : ℕ) (p : PortRow) → among nat_lt k touched ≡ false → at_before ports k ≡ Some p
-      → network_up (network_with before p.network) ≡ network_up (network_with after p.network)
+  pub live : (k : ℕ) (p : PortRow) → among nat_lt k touched ≡ false → at_before ports k ≡ Some p
+      → is_live before p ≡ is_live after p
 
 abbrev place : List PortRow → PortRow → Option ℕ
 place rows p = place_of (λ (p : PortRow). p.id) p.id rows
@@ -239,7 +230,7 @@ module _ (before after : RowLists) (items : List Item) (ports : Renumbered PortR
         let was : at_before ports at.0 ≡ Some d = s.stay at.0 away ∙ at.1 in (
           at.0,
           away,
-          here_before at.0 d was (same_serving before after host n d (s.up at.0 d away was) ∙ at.2),
+          here_before at.0 d was (same_serving before after host n d (s.live at.0 d away was) ∙ at.2),
           own_number at.0 d was,
         ))
 
@@ -280,7 +271,7 @@ module _ (before after : RowLists) (items : List Item) (ports : Renumbered PortR
           let was : at_before ports m ≡ Some d = ap (at_before ports) (sym same) ∙ at.1 in
           let now : at_after ports m ≡ Some d = sym (s.stay m away) ∙ was in
           sym (place_of_number ports.rows m) ∙ was
-          ∙ sym (here_after m d now (sym (same_serving before after host n d (s.up m d away was)) ∙ at.2))
+          ∙ sym (here_after m d now (sym (same_serving before after host n d (s.live m d away was)) ∙ at.2))
 
   -- if no touched port is a DHCP port of the network, the server stays
   pub server_stays : ((k : ℕ) → among nat_lt k touched ≡ true → serves_any before host n (at_before ports k) ≡ false)
@@ -296,12 +287,12 @@ module _ (before after : RowLists) (items : List Item) (ports : Renumbered PortR
           (λ there. false_true _ (sym (old at.0 there) ∙ ap (serves_any before host n) at.1 ∙ at.2))
           (λ away.
           let now : at_after ports at.0 ≡ Some d = sym (s.stay at.0 away) ∙ at.1 in
-          h ∙ sym (here_after at.0 d now (sym (same_serving before after host n d (s.up at.0 d away at.1)) ∙ at.2)))
+          h ∙ sym (here_after at.0 d now (sym (same_serving before after host n d (s.live at.0 d away at.1)) ∙ at.2)))
       go None (Some d) h g =
           let at = number_after d g in
           by_test (among nat_lt at.0 touched) _
           (λ there. false_true _ (sym (new at.0 there) ∙ ap (serves_any after host n) at.1 ∙ at.2))
           (λ away.
           let was : at_before ports at.0 ≡ Some d = s.stay at.0 away ∙ at.1 in
-          none_some d _ (sym h ∙ here_before at.0 d was (same_serving before after host n d (s.up at.0 d away was) ∙ at.2)))
+          none_some d _ (sym h ∙ here_before at.0 d was (same_serving before after host n d (s.live at.0 d away was) ∙ at.2)))
       go None None h g = h ∙ sym g

@@ -1,8 +1,6 @@
 //! Edits of the leases. Begin here.
 
 ghost use Rattle.std.specs.Prelude.{◌≡◌, IfOk, Some, false, nat_lt};
-ghost use Rattle.api_types.specs.Live.{network_up};
-ghost use Rattle.api_types.specs.RowsWith.{network_with};
 ghost use Rattle.api_types.specs.declared.port.PortRow.{PortRow as ThePort};
 ghost use Rattle.plane_types.specs.KeyedTables.{keyed_leases};
 ghost use Rattle.plane_types.specs.NewTags.{new_tags};
@@ -12,7 +10,7 @@ ghost use Rattle.plane_types.specs.TableRows.{lease_rows, tag_of};
 ghost use Rattle.table_edits.specs.EditsAt.{KeysDescend, among};
 ghost use Rattle.table_edits.specs.NumbersSeen.{at_after, at_before};
 ghost use Rattle.table_edits.specs.Rewires.{LeadsOn, Rewires};
-ghost use Rattle.table_edits.specs.Untouched.{StaysAlike};
+ghost use Rattle.touched_rows.specs.SeesAlike.{SeesAlike};
 
 use crate::leased::leased_ports;
 use crate::servers::Servers;
@@ -58,8 +56,7 @@ fn lease_edits(
         → at_before change.now.ports k ≡ at_after change.now.ports k }
     requires networks { (k : _) (p : ThePort) → among nat_lt k touched.now ≡ false
         → at_before change.now.ports k ≡ Some p
-        → StaysAlike change.now.before.now change.now.after.now change.now.old change.now.new
-        p.network }
+        → SeesAlike change.now.before.now change.now.after.now change.now.old change.now.new p }
     ensures { IfOk result
         (λ es. Rewires nat_lt
         (keyed_leases (numbered_rows change.now.before.now) change.now.host.now change.now.old)

@@ -1,16 +1,16 @@
 //! Which ports of a host serve networks by DHCP, before a change and after it.
 
-ghost use Rattle.std.specs.Prelude.{◌≡◌, ◌&&◌, IfOk, None, OnOk, Some, false, find, if◌then◌else◌, is_some, nat_lt, option_and_then, option_copied, option_map};
+ghost use Rattle.std.specs.Prelude.{◌≡◌, ◌&&◌, IfOk, None, OnOk, Some, false, find, if◌then◌else◌, is_some, nat_lt, option_and_then, option_copied, option_map, true};
 ghost use Rattle.std.specs.HashMap.{get};
 ghost use Rattle.api_types.specs.Ident.{Ident};
-ghost use Rattle.api_types.specs.Live.{is_here as is_here_by_rows, network_up};
+ghost use Rattle.api_types.specs.Live.{is_here as is_here_by_rows, is_live};
 ghost use Rattle.api_types.specs.Owners.{is_dhcp as is_dhcp_owner};
-ghost use Rattle.api_types.specs.RowsWith.{network_with};
 ghost use Rattle.api_types.specs.Table.{ident_eq, place_of};
 ghost use Rattle.api_types.specs.declared.port.PortRow.{PortRow as ThePort};
 ghost use Rattle.plane_types.specs.TableRows.{tag_of};
 ghost use Rattle.table_edits.specs.EditsAt.{KeysDescend, among};
 ghost use Rattle.table_edits.specs.NumbersSeen.{at_after, at_before};
+ghost use Rattle.touched_rows.specs.TouchedNumbers.{can_live};
 ghost use Rattle.dhcp_delta.specs.DescendProp.{KeysDescend-prop};
 ghost use Rattle.dhcp_delta.specs.Serving.{dhcp_here, is_served as is_served_by_rows, serves_any, tap_port};
 
@@ -35,12 +35,11 @@ pub(crate) struct Servers<'t, 'r> {
     ghost down: { KeysDescend nat_lt touched.now } by { KeysDescend-prop nat_lt touched.now },
     ghost stay: { (k : _) → among nat_lt k touched.now ≡ false
         → at_before change.now.ports k ≡ at_after change.now.ports k },
-    ghost up: { (k : _) (p : ThePort) → among nat_lt k touched.now ≡ false
+    ghost live: { (k : _) (p : ThePort) → among nat_lt k touched.now ≡ false
         → at_before change.now.ports k ≡ Some p
-        → network_up (network_with change.now.before.now p.network)
-        ≡ network_up (network_with change.now.after.now p.network) },
+        → is_live change.now.before.now p ≡ is_live change.now.after.now p },
     ghost tag: { (k : _) (p : ThePort) → among nat_lt k touched.now ≡ false
-        → at_before change.now.ports k ≡ Some p
+        → at_before change.now.ports k ≡ Some p → can_live p ≡ true
         → tag_of change.now.old p.network ≡ tag_of change.now.new p.network },
     ghost listed: { (n : Ident)
         → get ident_eq made n
@@ -121,12 +120,11 @@ impl<'t, 'r> Servers<'t, 'r> {
         requires down { KeysDescend nat_lt touched.now }
         requires stay { (k : _) → among nat_lt k touched.now ≡ false
             → at_before change.now.ports k ≡ at_after change.now.ports k }
-        requires up { (k : _) (p : ThePort) → among nat_lt k touched.now ≡ false
+        requires live { (k : _) (p : ThePort) → among nat_lt k touched.now ≡ false
             → at_before change.now.ports k ≡ Some p
-            → network_up (network_with change.now.before.now p.network)
-            ≡ network_up (network_with change.now.after.now p.network) }
+            → is_live change.now.before.now p ≡ is_live change.now.after.now p }
         requires tag { (k : _) (p : ThePort) → among nat_lt k touched.now ≡ false
-            → at_before change.now.ports k ≡ Some p
+            → at_before change.now.ports k ≡ Some p → can_live p ≡ true
             → tag_of change.now.old p.network ≡ tag_of change.now.new p.network }
         ensures change { IfOk result (λ s. s.change.now ≡ change.now) }
         ensures touched { IfOk result (λ s. s.touched.now ≡ touched.now) }

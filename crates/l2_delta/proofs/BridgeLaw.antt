@@ -167,13 +167,7 @@ module _ (rows now : RowLists) (host : List ℕ) (old new : List TagRow) (good :
           let same : (a.0).id ≡ (b.0).id = one_device p.device (a.0).id (b.0).id a.2 b.2 a.3 b.3 in
           ap (to_router p) a.1 ∙ ap (λ i. Some (ToRouter i p.id)) same ∙ sym (ap (to_router p) b.1)
 
-  entry_stays : (key : BridgeKey) (p : PortRow) → IsAlike rows now old new p.network → HasRouter rows good p → HasRouter now good_now p → bridge_row rows host old key p ≡ bridge_row now host new key p
+  pub entry_stays : (key : BridgeKey) (p : PortRow) → IsAlike rows now old new p.network → HasRouter rows good p → HasRouter now good_now p → bridge_row rows host old key p ≡ bridge_row now host new key p
   entry_stays key p same has also =
       (λ j. if live_same rows now host old new p same j
       then bridge_by key (if is_at host p then here_stays p has also j else to_there (same.on j) p) (same.tag j) else None)
-
-  pub mac_stays : (p : PortRow) → IsAlike rows now old new p.network → HasRouter rows good p → HasRouter now good_now p → mac_row rows host old p ≡ mac_row now host new p
-  mac_stays p same has also = entry_stays (AtMac p.mac) p same has also
-
-  pub dhcp_stays : (p : PortRow) → IsAlike rows now old new p.network → HasRouter rows good p → HasRouter now good_now p → dhcp_row rows host old p ≡ dhcp_row now host new p
-  dhcp_stays p same has also = ap (λ o. if is_dhcp p.owner then o else None) (entry_stays AtDhcp p same has also)

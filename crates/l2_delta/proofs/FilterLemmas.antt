@@ -4,7 +4,7 @@ use Rattle.std.proofs.Common.{◌≡◌, ◌∙◌, ℕ, List, [], ◌∷◌, �
 use Rattle.std.specs.Prelude.{◌&&◌, ◌||◌, if◌then◌else◌, nat_lt, option_and_then, option_map}
 use Rattle.std.specs.List.{list_any}
 use Rattle.api_types.specs.Ident.{Ident}
-use Rattle.api_types.specs.Live.{is_at}
+use Rattle.api_types.specs.Live.{is_at, is_live}
 use Rattle.api_types.specs.Members.{names_group}
 use Rattle.api_types.specs.Owners.{is_router_port}
 use Rattle.api_types.specs.Parts.{group_of, port_of, rule_of}
@@ -24,10 +24,8 @@ use Rattle.plane_types.specs.Numbered.{numbered_after, rows_after, with_numbers}
 use Rattle.plane_types.specs.NumberedRows.{NumberedRows, numbered_rows, numbered_rows_after, row_items}
 use Rattle.plane_types.specs.TableRows.{filter_by, filter_of, filter_rows, is_tap}
 use Rattle.plane_types.specs.declared.table.FilterRow.{FilterRow}
-use Rattle.plane_types.specs.declared.table.TagRow.{TagRow}
 use Rattle.plane_types.proofs.KeyedLemmas.{same_entries}
 use Rattle.plane_types.proofs.KeyedTablesLemmas.{filters-rows}
-use Rattle.plane_types.proofs.LocalLemmas.{IsAlike, live_same}
 use Rattle.plane_types.proofs.NumberedLemmas.{after_plain, after_rises, number_order, numbered_rises, plain_numbered}
 use Rattle.plane_types.proofs.PairLemmas.{at_flat, flat_rises, flat_rows, pair_total}
 use Rattle.plane_types.proofs.StayLemmas.{ports_after}
@@ -194,9 +192,9 @@ module _ (m n : NumberedRows) (test : Ident → Bool)
       ∙ ap (row_at nat_lt q.1) (at_number (row_at nat_lt q.0 m.groups) (row_at nat_lt q.0 n.groups) (λ i off. groups_stay i off q.0))
       ∙ sym (at_flat nat_lt nat_lt number_order number_order (group_filters n p) q n.groups n_groups ∙ at_chunk n q.1 (row_at nat_lt q.0 n.groups)))
 
--- is as filtered as before, where its network is alike
-pub tap_stays : (before after : RowLists) (host : List ℕ) (old new : List TagRow) (p : PortRow) → IsAlike before after old new p.network → is_filtered before host p ≡ is_filtered after host p
-tap_stays before after host old new p same = (λ j. ((live_same before after host old new p same j && is_at host p) && not (is_router_port p.owner)) && p.secured)
+-- is as filtered as before, where it is as live
+pub tap_stays : (before after : RowLists) (host : List ℕ) (p : PortRow) → is_live before p ≡ is_live after p → is_filtered before host p ≡ is_filtered after host p
+tap_stays before after host p live = (λ j. ((live j && is_at host p) && not (is_router_port p.owner)) && p.secured)
 
 module _ (m n : NumberedRows) (test : Ident → Bool)
     (m_groups : Rises nat_lt m.groups) (n_groups : Rises nat_lt n.groups) (m_rules : Rises nat_lt m.rules) (n_rules : Rises nat_lt n.rules)
@@ -236,14 +234,14 @@ module _ (rows : RowLists) (items : List Item) (host : List ℕ) where
   rises_after p = port_rises (numbered_rows_after rows items) (after_rises rows.groups (row_items Group group_of items)) (after_rises rows.rules (row_items Rule rule_of items)) p host
 
   -- a port that is left alone
-  pub left_alone : (old new : List TagRow) (groups : Renumbered GroupRow) (rules : Renumbered RuleRow) (test : Ident → Bool)
+  pub left_alone : (groups : Renumbered GroupRow) (rules : Renumbered RuleRow) (test : Ident → Bool)
       → groups ≡ record { rows = rows.groups; items = row_items Group group_of items } → rules ≡ record { rows = rows.rules; items = row_items Rule rule_of items }
       → ((i : Ident) → test i ≡ false → (k : ℕ) → is_group i (at_before groups k) ≡ is_group i (at_after groups k))
       → ((i : Ident) → test i ≡ false → (k : ℕ) → rule_of_group i (at_before rules k) ≡ rule_of_group i (at_after rules k))
-      → (p : PortRow) → IsAlike rows (rows_by_change rows items) old new p.network → is_filtered_by rows host test p ≡ false
+      → (p : PortRow) → is_live rows p ≡ is_live (rows_by_change rows items) p → is_filtered_by rows host test p ≡ false
       → port_filters (numbered_rows rows) host p ≡ port_filters (numbered_rows_after rows items) host p
-  left_alone old new groups rules test groups_are rules_are groups_stay rules_stay p same off =
+  left_alone groups rules test groups_are rules_are groups_stay rules_stay p live off =
       filters_stay (numbered_rows rows) (numbered_rows_after rows items) test (numbered_rises 0 rows.groups) (after_rises rows.groups (row_items Group group_of items)) (numbered_rises 0 rows.rules) (after_rises rows.rules (row_items Rule rule_of items))
       (subst (λ (n : Renumbered GroupRow). (i : Ident) → test i ≡ false → (k : ℕ) → is_group i (at_before n k) ≡ is_group i (at_after n k)) groups_are groups_stay)
       (subst (λ (n : Renumbered RuleRow). (i : Ident) → test i ≡ false → (k : ℕ) → rule_of_group i (at_before n k) ≡ rule_of_group i (at_after n k)) rules_are rules_stay)
-      host p (tap_stays rows (rows_by_change rows items) host old new p same) off
+      host p (tap_stays rows (rows_by_change rows items) host p live) off

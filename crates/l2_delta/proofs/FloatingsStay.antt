@@ -23,7 +23,7 @@ use Rattle.api_types.specs.declared.port.PortRow.{PortRow}
 use Rattle.api_types.specs.declared.router.Gateway.{Gateway}
 use Rattle.api_types.specs.declared.router.RouterRow.{RouterRow}
 use Rattle.api_types.proofs.ListLemmas.{and_both, none_some, or_true, some_equal}
-use Rattle.api_types.proofs.NameLemmas.{by_test, ident_same}
+use Rattle.api_types.proofs.NameLemmas.{and_fails, by_test, ident_same}
 use Rattle.plane_laws.proofs.Facts.{AtMostOne, has_id}
 use Rattle.plane_laws.proofs.FactsHold.{frame-facts}
 use Rattle.plane_laws.proofs.ListLemmas.{find-only, find-passes, find-some, some_of}
@@ -38,10 +38,10 @@ use Rattle.plane_types.proofs.StayLemmas.{ports_after}
 use Rattle.table_edits.specs.EditsAt.{among}
 use Rattle.table_edits.specs.NumbersSeen.{Renumbered, at_after, at_before}
 use Rattle.table_edits.specs.Rewires.{LeadsOn}
-use Rattle.table_edits.specs.Untouched.{StaysAlike}
 use Rattle.table_edits.proofs.KindsAfter.{routers_after}
+use Rattle.touched_rows.specs.SeesAlike.{SeesAlike}
 use Rattle.kept_rows.proofs.FoundLemmas.{found_at, number_found, place_at, same_found}
-use Rattle.l2_delta.proofs.UntouchedPorts.{alike}
+use Rattle.l2_delta.proofs.UntouchedPorts.{seen}
 
 -- the ports, routers and floating addresses that a change touches, by number: a touched port
 -- touches its router, and a touched router the floating addresses that name it
@@ -54,7 +54,7 @@ pub record Touches (before after : RowLists) (items : List Item) (old new : List
   pub routed : routers ≡ record { rows = before.routers; items = row_items Router router_of items }
   pub ports_stay : (k : ℕ) → among nat_lt k by_ports ≡ false → at_before ports k ≡ at_after ports k
   pub networks : (k : ℕ) (p : PortRow) → among nat_lt k by_ports ≡ false
-      → at_before ports k ≡ Some p → StaysAlike before after old new p.network
+      → at_before ports k ≡ Some p → SeesAlike before after old new p
   pub routers_stay : (k : ℕ) → among nat_lt k by_routers ≡ false
       → at_before routers k ≡ at_after routers k
   pub ports_before : (k j : ℕ) (r : RouterRow) (p : PortRow) → among nat_lt k by_routers ≡ false
@@ -181,7 +181,7 @@ module _ (before after : RowLists) (items : List Item) (old new : List TagRow)
 
       -- and its network is alike
       port_alike : (p : PortRow) → port_with before g.port ≡ Some p
-          → StaysAlike before after old new p.network
+          → SeesAlike before after old new p
       port_alike p is =
           let found =
           number_found (has_id g.port) (with_numbers 0 ports.rows) (numbered_rises 0 ports.rows) p
@@ -198,10 +198,10 @@ module _ (before after : RowLists) (items : List Item) (old new : List TagRow)
             ap (gateway_port_of before) e ∙ port_stays g e ∙ sym (ap (gateway_port_of after) e)
 
     gateway_alike : (p : PortRow) → gateway_port before r ≡ Some p
-        → StaysAlike before after old new p.network
+        → SeesAlike before after old new p
     gateway_alike p is = go r.gateway refl
       where
-        go : (o : Option Gateway) → r.gateway ≡ o → StaysAlike before after old new p.network
+        go : (o : Option Gateway) → r.gateway ≡ o → SeesAlike before after old new p
         go None e = none_some p _ (sym (ap (gateway_port_of before) e) ∙ is)
         go (Some g) e = port_alike g e p (sym (ap (gateway_port_of before) e) ∙ is)
 
@@ -264,11 +264,11 @@ module _ (before after : RowLists) (items : List Item) (old new : List TagRow)
 
       outer_alike : (q : PortRow)
           → option_and_then (gateway_port before) (router_with before x.router) ≡ Some q
-          → StaysAlike before after old new q.network
+          → SeesAlike before after old new q
       outer_alike q is = go (router_with before x.router) refl
         where
           go : (o : Option RouterRow) → router_with before x.router ≡ o
-              → StaysAlike before after old new q.network
+              → SeesAlike before after old new q
           go None e =
               none_some q _ (sym (ap (option_and_then (gateway_port before)) e) ∙ is)
           go (Some r) e =
@@ -292,10 +292,10 @@ module _ (before after : RowLists) (items : List Item) (old new : List TagRow)
             ∙ outer_stays x e
             ∙ sym (ap (λ o. option_and_then (gateway_port after) (target_router after o)) e)
 
-    on_alike : (q : PortRow) → outer before ≡ Some q → StaysAlike before after old new q.network
+    on_alike : (q : PortRow) → outer before ≡ Some q → SeesAlike before after old new q
     on_alike q is = go f.target refl
       where
-        go : (o : Option Target) → f.target ≡ o → StaysAlike before after old new q.network
+        go : (o : Option Target) → f.target ≡ o → SeesAlike before after old new q
         go None e =
             none_some q _
             (sym (ap (λ o. option_and_then (gateway_port before) (target_router before o)) e) ∙ is)
@@ -325,30 +325,44 @@ module _ (before after : RowLists) (items : List Item) (old new : List TagRow)
           go true = refl
           go false = refl
 
-      shown_same : (q : PortRow) → StaysAlike before after old new q.network
+      shown_same : (q : PortRow) → SeesAlike before after old new q
           → shown q (ident_eq f.network q.network && is_live before q) (is_joined before q host)
           (tag_of old f.network)
           ≡ shown q (ident_eq f.network q.network && is_live after q) (is_joined after q host)
           (tag_of new f.network)
-      shown_same q same =
+      shown_same q sees =
           by_test (ident_eq f.network q.network)
           (shown q (ident_eq f.network q.network && is_live before q) (is_joined before q host)
           (tag_of old f.network)
           ≡ shown q (ident_eq f.network q.network && is_live after q) (is_joined after q host)
           (tag_of new f.network))
           (λ on.
+          seen before after old new q sees
+          (shown q (ident_eq f.network q.network && is_live before q) (is_joined before q host)
+          (tag_of old f.network))
+          (shown q (ident_eq f.network q.network && is_live after q) (is_joined after q host)
+          (tag_of new f.network))
+          (λ same.
           let tag : tag_of old f.network ≡ tag_of new f.network =
           subst (λ n. tag_of old n ≡ tag_of new n) (sym (ident_same f.network q.network on))
           same.tag in
           let live : is_live before q ≡ is_live after q =
-          live_same before after host old new q (alike before after old new q.network same) in
+          live_same before after host old new q same in
           (λ j. shown q (ident_eq f.network q.network && live j) (joins (same.on j) q.host host)
           (tag j)))
+          (λ was is.
+          unshown (is_live before q) was (is_joined before q host) (tag_of old f.network)
+          ∙ sym (unshown (is_live after q) is (is_joined after q host) (tag_of new f.network))))
           (λ off.
           ap (λ b. shown q (b && is_live before q) (is_joined before q host) (tag_of old f.network))
           off
           ∙ sym (ap (λ b. shown q (b && is_live after q) (is_joined after q host)
           (tag_of new f.network)) off))
+        where
+          unshown : (live : Bool) → live ≡ false → (joined : Bool) (tag : Option ℕ)
+              → shown q (ident_eq f.network q.network && live) joined tag ≡ None
+          unshown live off joined tag =
+              ap (λ b. shown q b joined tag) (and_fails (ident_eq f.network q.network) live off)
 
       gives : floating_neighbour before host old f ≡ floating_neighbour after host new f
       unfolding floating_holder

@@ -4,6 +4,7 @@ pub mod MapLaw
 pub mod UntouchedPorts
 pub mod NeighbourLaw
 pub mod BridgeLaw
+pub mod SeenPorts
 pub mod MapChanges
 pub mod TagLaw
 pub mod GatherLemmas

@@ -25,7 +25,6 @@ use Rattle.plane_types.specs.declared.table.BridgeRow.{BridgeRow}
 use Rattle.plane_types.specs.declared.table.NeighbourRow.{NeighbourRow}
 use Rattle.plane_types.specs.declared.table.TagRow.{TagRow}
 use Rattle.plane_types.proofs.KeyedTablesLemmas.{unkeyed}
-use Rattle.plane_types.proofs.LocalLemmas.{neighbours_same}
 use Rattle.plane_types.proofs.NumberedLemmas.{after_plain, after_rises, numbered_rises, plain_numbered}
 use Rattle.plane_types.proofs.RealisedTags.{are_tags}
 use Rattle.plane_types.proofs.RetaggedLaw.{tags_stand}
@@ -33,15 +32,16 @@ use Rattle.plane_types.proofs.StayLemmas.{ports_after}
 use Rattle.table_edits.specs.EditsAt.{KeysDescend, among}
 use Rattle.table_edits.specs.NumbersSeen.{Renumbered, at_after, at_before}
 use Rattle.table_edits.specs.Rewires.{LeadsOn}
-use Rattle.table_edits.specs.Untouched.{StaysAlike}
 use Rattle.table_edits.proofs.KindsAfter.{floatings_after}
-use Rattle.l2_delta.proofs.BridgeLaw.{HasRouter, bridge_own, dhcp_stays, have_routers, mac_stays, of_dhcp, of_mac}
+use Rattle.touched_rows.specs.SeesAlike.{SeesAlike}
+use Rattle.l2_delta.proofs.BridgeLaw.{HasRouter, bridge_own, have_routers, of_dhcp, of_mac}
 use Rattle.l2_delta.proofs.BridgeLaw.{before as bridge_at, order as bridge_total}
 use Rattle.l2_delta.proofs.MapLaw.{IsMapChange, as_list, given_options, map_changes}
 use Rattle.l2_delta.proofs.NeighbourLaw.{neighbours_own, of_floating, of_port}
 use Rattle.l2_delta.proofs.NeighbourLaw.{before as neighbour_at, order as neighbour_total}
 use Rattle.l2_delta.proofs.NumberedSources.{at_numbers}
-use Rattle.l2_delta.proofs.UntouchedPorts.{alike, number_stays, of_row, option_stays, places}
+use Rattle.l2_delta.proofs.SeenPorts.{dhcp_seen, mac_seen, neighbours_seen}
+use Rattle.l2_delta.proofs.UntouchedPorts.{number_stays, of_row, option_stays, places}
 
 -- the orders of the keys, as the tables have them
 
@@ -79,7 +79,7 @@ module _ (rows now : RowLists) (items : List Item) (host : List ℕ) (old new : 
     pub has : RealisesTags now host new
     pub down : KeysDescend nat_lt ks
     pub stay : (k : ℕ) → among nat_lt k ks ≡ false → row_at nat_lt k (with_numbers 0 rows.ports) ≡ row_at nat_lt k ports_now
-    pub networks : (k : ℕ) (p : PortRow) → among nat_lt k ks ≡ false → row_at nat_lt k (with_numbers 0 rows.ports) ≡ Some p → StaysAlike rows now old new p.network
+    pub networks : (k : ℕ) (p : PortRow) → among nat_lt k ks ≡ false → row_at nat_lt k (with_numbers 0 rows.ports) ≡ Some p → SeesAlike rows now old new p
 
   pub record AreFloatingsTouched (js : List ℕ) : Type 0 where
     pub down : KeysDescend nat_lt js
@@ -88,7 +88,7 @@ module _ (rows now : RowLists) (items : List Item) (host : List ℕ) (old new : 
   pub ports_touched : (tags : List TagRow) (ports : Renumbered PortRow) → LeadsOn rows items now → RealisesTags rows host tags → old ≡ tags → new ≡ new_tags now host tags
       → ports ≡ record { rows = rows.ports; items = row_items Port port_of items } → (ks : List ℕ) → KeysDescend nat_lt ks
       → ((k : ℕ) → among nat_lt k ks ≡ false → at_before ports k ≡ at_after ports k)
-      → ((k : ℕ) (p : PortRow) → among nat_lt k ks ≡ false → at_before ports k ≡ Some p → StaysAlike rows now old new p.network)
+      → ((k : ℕ) (p : PortRow) → among nat_lt k ks ≡ false → at_before ports k ≡ Some p → SeesAlike rows now old new p)
       → ArePortsTouched ks
   ports_touched tags ports leads real had given numbered ks down named networks = record {
     leads = leads;
@@ -125,7 +125,7 @@ module _ (rows now : RowLists) (items : List Item) (host : List ℕ) (old new : 
         (neighbours_own rows host old touched.leads.consistent touched.had (with_numbers 0 rows.ports) (with_numbers 0 rows.floatings) (plain_numbered 0 rows.ports) (plain_numbered 0 rows.floatings))
         (neighbours_own now host new touched.leads.stays_consistent touched.has ports_now floatings_now are_now floatings_are_now)
         (λ k away. number_stays (of_port rows host old) (of_port now host new) (with_numbers 0 rows.ports) ports_now k (touched.stay k away)
-        (λ p at. neighbours_same rows now host old new p (alike rows now old new p.network (touched.networks k p away at))))
+        (λ p at. neighbours_seen rows now host old new p (touched.networks k p away at)))
         (λ k away. option_stays (floating_neighbour rows host old) (floating_neighbour now host new) (with_numbers 0 rows.floatings) floatings_now k (floating.stay k away)))
       where
         by_order : (λ (r s : NeighbourRow). neighbour_at (neighbour_key r) (neighbour_key s)) ≡ neighbour_before
@@ -169,9 +169,9 @@ module _ (rows now : RowLists) (items : List Item) (host : List ℕ) (old new : 
         (bridge_own rows host old touched.leads.consistent touched.had (with_numbers 0 rows.ports) (plain_numbered 0 rows.ports))
         (bridge_own now host new touched.leads.stays_consistent touched.has ports_now are_now)
         (λ k away. number_stays (of_mac rows host old) (of_mac now host new) (with_numbers 0 rows.ports) ports_now k (touched.stay k away)
-        (λ p at. let r = routed k p away at in ap as_list (mac_stays rows now host old new touched.leads.consistent touched.leads.stays_consistent p (alike rows now old new p.network (touched.networks k p away at)) r.0 r.1)))
+        (λ p at. let r = routed k p away at in ap as_list (mac_seen rows now host old new p (touched.networks k p away at) touched.leads.consistent touched.leads.stays_consistent r.0 r.1)))
         (λ k away. number_stays (of_dhcp rows host old) (of_dhcp now host new) (with_numbers 0 rows.ports) ports_now k (touched.stay k away)
-        (λ p at. let r = routed k p away at in ap as_list (dhcp_stays rows now host old new touched.leads.consistent touched.leads.stays_consistent p (alike rows now old new p.network (touched.networks k p away at)) r.0 r.1))))
+        (λ p at. let r = routed k p away at in ap as_list (dhcp_seen rows now host old new p (touched.networks k p away at) touched.leads.consistent touched.leads.stays_consistent r.0 r.1))))
       where
         by_order : (λ (r s : BridgeRow). bridge_at (bridge_key r) (bridge_key s)) ≡ bridge_before
         by_order = λ i r s. same_bridge_order i (bridge_key r) (bridge_key s)
@@ -191,7 +191,7 @@ module _ (rows now : RowLists) (items : List Item) (host : List ℕ) (old new : 
 -- ---- the same of what code has at hand
 
 module _ (rows now : RowLists) (items : List Item) (host : List ℕ) (old new tags : List TagRow) (ports : Renumbered PortRow) (leads : LeadsOn rows items now) (real : RealisesTags rows host tags) (had : old ≡ tags) (given : new ≡ new_tags now host tags) (numbered : ports ≡ record { rows = rows.ports; items = row_items Port port_of items }) (ks : List ℕ) (down : KeysDescend nat_lt ks)
-    (named : (k : ℕ) → among nat_lt k ks ≡ false → at_before ports k ≡ at_after ports k) (networks : (k : ℕ) (p : PortRow) → among nat_lt k ks ≡ false → at_before ports k ≡ Some p → StaysAlike rows now old new p.network) where
+    (named : (k : ℕ) → among nat_lt k ks ≡ false → at_before ports k ≡ at_after ports k) (networks : (k : ℕ) (p : PortRow) → among nat_lt k ks ≡ false → at_before ports k ≡ Some p → SeesAlike rows now old new p) where
   touched : ArePortsTouched rows now items host old new ks
   touched = ports_touched rows now items host old new tags ports leads real had given numbered ks down named networks
 

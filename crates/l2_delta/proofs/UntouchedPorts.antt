@@ -3,7 +3,10 @@
 use Rattle.std.proofs.Common.{◌≡◌, ◌∙◌, ℕ, ◌+◌, arith, List, [], ◌∷◌, Option, Some, None, Bool, true, false, refl, sym, ap, subst}
 use Rattle.std.specs.Prelude.{if◌then◌else◌, nat_lt, option_and_then, slice_get}
 use Rattle.std.specs.List.{filter_map}
+use Rattle.api_types.specs.Live.{is_live}
 use Rattle.api_types.specs.RowLists.{RowLists}
+use Rattle.api_types.specs.declared.port.PortRow.{PortRow}
+use Rattle.api_types.proofs.NameLemmas.{by_test}
 use Rattle.plane_laws.proofs.Facts.{AllOf}
 use Rattle.plane_types.specs.Keyed.{are_one, row_at}
 use Rattle.plane_types.specs.Numbered.{with_numbers}
@@ -13,6 +16,9 @@ use Rattle.plane_types.proofs.LocalLemmas.{IsAlike}
 use Rattle.table_edits.specs.ChunksSeen.{chunk_at}
 use Rattle.table_edits.specs.Untouched.{StaysAlike}
 use Rattle.table_edits.proofs.NumberSteps.{place_row}
+use Rattle.touched_rows.specs.SeesAlike.{SeesAlike}
+use Rattle.touched_rows.specs.TouchedNumbers.{can_live}
+use Rattle.touched_rows.proofs.SeesLemmas.{not_live}
 use Rattle.l2_delta.proofs.MapLaw.{as_list}
 use Rattle.l2_delta.proofs.NumberedSources.{at_numbers, of_number}
 
@@ -27,6 +33,17 @@ of_row {X} P (z ∷ xs) all k x h = go (are_one nat_lt k z.0) h (of_row P xs all
 
 pub alike : (before after : RowLists) (old new : List TagRow) (n : _) → StaysAlike before after old new n → IsAlike before after old new n
 alike before after old new n s = record { up = s.up; on = s.on; tag = s.tag }
+
+-- what a port that sees its network alike gives stays, if a port that isn't live gives the same
+pub seen : {X : Type 0} (before after : RowLists) (old new : List TagRow) (p : PortRow)
+    → SeesAlike before after old new p → (gave gives : X)
+    → (IsAlike before after old new p.network → gave ≡ gives)
+    → (is_live before p ≡ false → is_live after p ≡ false → gave ≡ gives)
+    → gave ≡ gives
+seen before after old new p sees gave gives live dead =
+    by_test (can_live p) (gave ≡ gives)
+    (λ can. live (alike before after old new p.network (sees can)))
+    (λ off. dead (not_live before p off) (not_live after p off))
 
 module _ {X R : Type 0} where
   pub number_stays : (gave gives : X → List R) (xs xs_now : List (ℕ × X)) (k : ℕ) → row_at nat_lt k xs ≡ row_at nat_lt k xs_now → ((x : X) → row_at nat_lt k xs ≡ Some x → gave x ≡ gives x) → of_number gave xs k ≡ of_number gives xs_now k

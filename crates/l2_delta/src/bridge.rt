@@ -13,7 +13,7 @@ ghost use Rattle.plane_types.specs.TableRows.{bridge_row as bridge_row_of, bridg
 ghost use Rattle.table_edits.specs.EditsAt.{KeysDescend, among};
 ghost use Rattle.table_edits.specs.NumbersSeen.{at_after, at_before};
 ghost use Rattle.table_edits.specs.Rewires.{Rewires};
-ghost use Rattle.table_edits.specs.Untouched.{StaysAlike};
+ghost use Rattle.touched_rows.specs.SeesAlike.{SeesAlike};
 
 use crate::touched::{rows_after, rows_before};
 use api_types::{PortRow, Rows, Segment};
@@ -232,8 +232,7 @@ pub(crate) fn bridge_edits(
         → at_before change.now.ports k ≡ at_after change.now.ports k }
     requires networks { (k : _) (p : ThePort) → among nat_lt k ports.now ≡ false
         → at_before change.now.ports k ≡ Some p
-        → StaysAlike change.now.before.now change.now.after.now change.now.old change.now.new
-        p.network }
+        → SeesAlike change.now.before.now change.now.after.now change.now.old change.now.new p }
     ensures { IfOk result
         (λ es. Rewires bridge_order
         (keyed_bridge (numbered_rows change.now.before.now) change.now.host.now change.now.old)

@@ -16,6 +16,7 @@ ghost use Rattle.table_edits.specs.EditsAt.{KeysDescend, among};
 ghost use Rattle.table_edits.specs.NumbersSeen.{at_after, at_before};
 ghost use Rattle.table_edits.specs.Rewires.{LeadsOn, Rewires};
 ghost use Rattle.table_edits.specs.Untouched.{StaysAlike};
+ghost use Rattle.touched_rows.specs.SeesAlike.{SeesAlike};
 
 use crate::bridge::bridge_edits;
 use crate::filters::filter_edits;
@@ -124,8 +125,7 @@ fn group_edits(alloc: Global, change: &Rewiring, ports: &[usize]) -> Result<Grou
         → at_before change.now.ports k ≡ at_after change.now.ports k }
     requires networks { (k : _) (p : ThePort) → among nat_lt k ports.now ≡ false
         → at_before change.now.ports k ≡ Some p
-        → StaysAlike change.now.before.now change.now.after.now change.now.old change.now.new
-        p.network }
+        → SeesAlike change.now.before.now change.now.after.now change.now.old change.now.new p }
     ensures filters { IfOk result
         (λ e. Rewires filter_order
         (keyed_filters (numbered_rows change.now.before.now) change.now.host.now)
@@ -161,8 +161,7 @@ fn edits_of_neighbours(
         → at_before change.now.ports k ≡ at_after change.now.ports k }
     requires networks { (k : _) (p : ThePort) → among nat_lt k ports.now ≡ false
         → at_before change.now.ports k ≡ Some p
-        → StaysAlike change.now.before.now change.now.after.now change.now.old change.now.new
-        p.network }
+        → SeesAlike change.now.before.now change.now.after.now change.now.old change.now.new p }
     ensures { IfOk result
         (λ es. Rewires neighbour_order
         (keyed_neighbours (numbered_rows change.now.before.now) change.now.host.now

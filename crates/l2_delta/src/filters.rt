@@ -15,7 +15,7 @@ ghost use Rattle.table_edits.specs.ChunksSeen.{chunk_at};
 ghost use Rattle.table_edits.specs.EditsAt.{KeysDescend, among};
 ghost use Rattle.table_edits.specs.NumbersSeen.{at_after, at_before};
 ghost use Rattle.table_edits.specs.Rewires.{Rewires};
-ghost use Rattle.table_edits.specs.Untouched.{StaysAlike};
+ghost use Rattle.touched_rows.specs.SeesAlike.{SeesAlike};
 ghost use Rattle.touched_rows.specs.TouchedNumbers.{numbers_from};
 ghost use Rattle.l2_delta.specs.Filtered.{filters_by_groups, is_filtered as is_filtered_by_rows, is_filtered_by, rule_filter, rule_filters};
 ghost use Rattle.l2_delta.specs.Gathered.{gathered};
@@ -424,8 +424,7 @@ pub(crate) fn filter_edits(
         → at_before change.now.ports k ≡ at_after change.now.ports k }
     requires networks { (k : _) (p : ThePort) → among nat_lt k touched.now ≡ false
         → at_before change.now.ports k ≡ Some p
-        → StaysAlike change.now.before.now change.now.after.now change.now.old change.now.new
-        p.network }
+        → SeesAlike change.now.before.now change.now.after.now change.now.old change.now.new p }
     ensures { IfOk result
         (λ es. Rewires filter_order
         (keyed_filters (numbered_rows change.now.before.now) change.now.host.now)

@@ -14,7 +14,7 @@ ghost use Rattle.plane_types.specs.TableRows.{floating_neighbour, neighbour_rows
 ghost use Rattle.table_edits.specs.EditsAt.{KeysDescend, among};
 ghost use Rattle.table_edits.specs.NumbersSeen.{at_after, at_before};
 ghost use Rattle.table_edits.specs.Rewires.{Rewires};
-ghost use Rattle.table_edits.specs.Untouched.{StaysAlike};
+ghost use Rattle.touched_rows.specs.SeesAlike.{SeesAlike};
 
 use crate::touched::{rows_after, rows_before};
 use api_types::{Fixed, FloatingRow, PortRow, Rows};
@@ -241,8 +241,7 @@ pub(crate) fn neighbour_edits(
         → at_before change.now.ports k ≡ at_after change.now.ports k }
     requires networks { (k : _) (p : ThePort) → among nat_lt k ports.now ≡ false
         → at_before change.now.ports k ≡ Some p
-        → StaysAlike change.now.before.now change.now.after.now change.now.old change.now.new
-        p.network }
+        → SeesAlike change.now.before.now change.now.after.now change.now.old change.now.new p }
     requires floatings_down { KeysDescend nat_lt floatings.now }
     requires floatings_stay { (k : _) → among nat_lt k floatings.now ≡ false
         → option_and_then

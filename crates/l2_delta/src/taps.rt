@@ -10,7 +10,7 @@ ghost use Rattle.plane_types.specs.TableRows.{allowed_of as allowed_by_rows, is_
 ghost use Rattle.table_edits.specs.EditsAt.{KeysDescend, among};
 ghost use Rattle.table_edits.specs.NumbersSeen.{at_after, at_before};
 ghost use Rattle.table_edits.specs.Rewires.{Rewires};
-ghost use Rattle.table_edits.specs.Untouched.{StaysAlike};
+ghost use Rattle.touched_rows.specs.SeesAlike.{SeesAlike};
 
 use api_types::{Fixed, Id, Pair, PortRow, Rows};
 use net_addr::{Mac, OutOfMemory, Seq, Text};
@@ -133,8 +133,7 @@ pub(crate) fn tap_edits(
         → at_before change.now.ports k ≡ at_after change.now.ports k }
     requires networks { (k : _) (p : ThePort) → among nat_lt k ports.now ≡ false
         → at_before change.now.ports k ≡ Some p
-        → StaysAlike change.now.before.now change.now.after.now change.now.old change.now.new
-        p.network }
+        → SeesAlike change.now.before.now change.now.after.now change.now.old change.now.new p }
     ensures { IfOk result
         (λ es. Rewires nat_lt
         (keyed_taps (numbered_rows change.now.before.now) change.now.host.now change.now.old)

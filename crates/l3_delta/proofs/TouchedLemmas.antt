@@ -3,16 +3,15 @@ use Rattle.std.proofs.Common.{◌≡◌, ◌∙◌, ℕ, List, Bool, true, false
 use Rattle.std.specs.Prelude.{◌&&◌, ◌||◌, Err, IfOk, Ok, Result, nat_lt}
 use Rattle.std.specs.List.{filter, list_any}
 use Rattle.api_types.specs.Consistent.{IsConsistent}
-use Rattle.api_types.specs.Consistent.Carried.{is_bound}
 use Rattle.api_types.specs.Consistent.Services.{is_gateway_of, is_named_gateway}
 use Rattle.api_types.specs.Holders.{gateway_port, gateway_port_of}
 use Rattle.api_types.specs.Lists.{Each, if_some}
-use Rattle.api_types.specs.Live.{is_live, network_up}
+use Rattle.api_types.specs.Live.{is_live}
 use Rattle.api_types.specs.Owners.{device_is, is_gateway, is_interface, is_port_of, is_router_port}
 use Rattle.api_types.specs.Parts.{port_of, router_of}
 use Rattle.api_types.specs.RouterRows.{is_leg_of, legs_of}
 use Rattle.api_types.specs.RowLists.{RowLists}
-use Rattle.api_types.specs.RowsWith.{network_with, port_with, subnet_with}
+use Rattle.api_types.specs.RowsWith.{port_with, subnet_with}
 use Rattle.api_types.specs.Table.{ident_eq}
 use Rattle.api_types.specs.declared.change.Item.{Item}
 use Rattle.api_types.specs.declared.kind.Kind.TheVariants.{Port, Router}
@@ -33,8 +32,10 @@ use Rattle.plane_laws.proofs.FactsHold.{frame-facts}
 use Rattle.table_edits.specs.EditsAt.{among}
 use Rattle.table_edits.specs.NumbersSeen.{Renumbered, at_after, at_before}
 use Rattle.table_edits.specs.Rewires.{LeadsOn}
-use Rattle.table_edits.specs.Untouched.{StaysAlike, SubnetStays}
+use Rattle.table_edits.specs.Untouched.{SubnetStays}
 use Rattle.table_edits.proofs.KindsAfter.{routers_after}
+use Rattle.touched_rows.specs.SeesAlike.{SeesAlike}
+use Rattle.touched_rows.proofs.SeesLemmas.{live_can, live_seen}
 use Rattle.kept_rows.proofs.FoundLemmas.{Carries, each_filtered, found_at, number_at, number_found, place_at, same_filtered, same_found}
 use Rattle.l3_delta.specs.RouterStays.{RouterStays, numbered_legs}
 
@@ -44,12 +45,6 @@ pub joined : {X E : Type 0} (res : Result X E) (P Q R S T : X → Type 0)
     → IfOk res P → IfOk res Q → IfOk res R → IfOk res S → IfOk res T
 joined (Ok x) P Q R S T h p q r s = h x p q r s
 joined (Err e) P Q R S T h p q r s = tt
-
-same_live : (before after : RowLists) (p : PortRow)
-    → network_up (network_with before p.network) ≡ network_up (network_with after p.network)
-    → is_live before p ≡ is_live after p
-unfolding is_live
-same_live before after p up = ap (λ b. p.up && is_bound p.vif && b) up
 
 -- the ports before a change and after it, and a router
 pub record Ports (before after : RowLists) (items : List Item) (ports : Renumbered PortRow)
@@ -63,7 +58,7 @@ pub record IsAway (before after : RowLists) (ports : Renumbered PortRow) (touche
     (old new : List TagRow) (r : RouterRow) : Type 0 where
   pub stay : (j : ℕ) → among nat_lt j touched ≡ false → at_before ports j ≡ at_after ports j
   pub alike : (j : ℕ) (p : PortRow) → among nat_lt j touched ≡ false → at_before ports j ≡ Some p
-      → StaysAlike before after old new p.network
+      → SeesAlike before after old new p
   pub of_before : (j : ℕ) (p : PortRow) → at_before ports j ≡ Some p
       → is_router_port p.owner ≡ true → device_is p.device r.id ≡ true
       → among nat_lt j touched ≡ false
@@ -132,7 +127,7 @@ module _ (before after : RowLists) (items : List Item) (ports : Renumbered PortR
   carried : (j : ℕ) (p : PortRow) → at_before ports j ≡ Some p → among nat_lt j touched ≡ false
       → (at_after ports j ≡ Some p) × (is_live before p ≡ is_live after p)
   carried j p there off =
-      (sym (away.stay j off) ∙ there, same_live before after p (away.alike j p off there).up)
+      (sym (away.stay j off) ∙ there, live_seen before after old new p (away.alike j p off there))
 
   leg_off : (j : ℕ) (p : PortRow) → at_before ports j ≡ Some p → is_leg_of before r p ≡ true
       → among nat_lt j touched ≡ false
@@ -171,7 +166,9 @@ module _ (before after : RowLists) (items : List Item) (ports : Renumbered PortR
       (plain_before before after items ports routers s)
       (each_filtered (λ (p : PortRow). tag_of old p.network ≡ tag_of new p.network) (is_leg_of before r)
       (with_numbers 0 ports.rows) (numbered_rises 0 ports.rows)
-      (λ j p there leg. (away.alike j p (leg_off j p there leg) there).tag))
+      (λ j p there leg.
+      let live = and_both (is_port_of r p) (is_live before p) leg in
+      (away.alike j p (leg_off j p there leg) there (live_can before p live.1)).tag))
 
   place_before : (i : ℕ) × (slice_get before.routers i ≡ Some r)
   place_before =

@@ -22,4 +22,5 @@ pub mod StayLemmas
 pub mod LocalLemmas
 pub mod RunEdits
 mod EditLemmas
+mod GapLemmas
 pub mod KeyedTablesLemmas

@@ -8,7 +8,6 @@ ghost use Rattle.plane_types.specs.Hosts.{bridge_before, neighbour_before};
 
 use crate::keyed::Keyed;
 use crate::lists::Tags;
-use crate::row_list::apply_edits;
 use crate::runs::Runs;
 use crate::spare_vec::SpareVec;
 use crate::steps::Steps;
@@ -31,6 +30,9 @@ pub struct Edit<T> {
 
 /// Edits of a list, one after the other.
 pub type Edits<T> = Seq<Edit<T>>;
+
+// What it costs to move a row aside and back, in moves within a list.
+const MOVES_ASIDE: usize = 4;
 
 /// Edits of the tables that ports give.
 #[derive(Drop)]
@@ -106,17 +108,34 @@ impl Delta {
             floats,
         } = l3;
         let LeaseDelta { leases } = dhcp;
-        apply_edits(&mut tables.tags, tag_edits, steps);
-        apply_edits(&mut tables.taps, taps, steps);
-        apply_edits(&mut tables.filters, filters, steps);
-        apply_edits(&mut tables.sets, sets, steps);
-        apply_edits(&mut tables.bridge, bridge, steps);
-        apply_edits(&mut tables.inward, inward, steps);
-        apply_edits(&mut tables.neighbours, neighbours, steps);
-        apply_edits(&mut tables.routers, routers, steps);
-        apply_edits(&mut tables.routes, routes, steps);
-        apply_edits(&mut tables.floats, floats, steps);
-        apply_edits(&mut tables.leases, leases, steps);
+        tables.tags.edit(tag_edits, steps);
+        tables.taps.edit(taps, steps);
+        tables.filters.edit(filters, steps);
+        tables.sets.edit(sets, steps);
+        tables.bridge.edit(bridge, steps);
+        tables.inward.edit(inward, steps);
+        tables.neighbours.edit(neighbours, steps);
+        tables.routers.edit(routers, steps);
+        tables.routes.edit(routes, steps);
+        tables.floats.edit(floats, steps);
+        tables.leases.edit(leases, steps);
+    }
+}
+
+// For how many rows room aside is wanted: all from the least place of an edit on, where so many
+// edits move rows one after the other that it costs less to move these aside and back once.
+fn rows_aside<R: Drop>(edits: &Edits<R>, len: usize) -> usize {
+    let mut least = len;
+    let mut moves: usize = 0;
+    for edit in edits.as_slice() {
+        least = least.min(edit.place);
+        moves = moves.saturating_add(len.saturating_sub(edit.place));
+    }
+    let tail = len.saturating_sub(least);
+    if moves > tail.saturating_mul(MOVES_ASIDE) {
+        tail.saturating_add(edits.len())
+    } else {
+        0
     }
 }
 
@@ -130,6 +149,7 @@ fn make_room_in<R: Keyed>(
     ensures items { rows.new.items ≡ rows.old.items }
     ensures spare { OnOk result (all_puts edits.now ≤ rows.new.spare) }
 {
+    rows.reserve_aside(rows_aside(edits, rows.len()))?;
     rows.make_room(alloc, edits.len())
 }
 
@@ -139,6 +159,7 @@ fn make_room_in_map<R: Drop>(rows: &mut SpareVec<R>, edits: &Edits<R>) -> Result
     ensures items { rows.new.items ≡ rows.old.items }
     ensures spare { OnOk result (all_puts edits.now ≤ rows.new.spare) }
 {
+    rows.reserve_aside(rows_aside(edits, rows.len()))?;
     rows.reserve(edits.len())
 }
 
@@ -215,7 +236,8 @@ impl HostTables {
 
     /// Puts the edits in. Each row that is taken out and each that is put in is a step. It
     /// allocates nothing. A place past the end of a list is its end. Its cost grows with the
-    /// edits, and with the rows after the place of each.
+    /// edits, and with the rows after the place of each; after `make_room` for the same edits, if
+    /// they come from the greatest place to the least, with the rows of the table at most.
     pub fn apply<L: Ledger>(&mut self, delta: Delta, steps: &mut Steps<L>)
         requires room { HasRoom self.old.room delta }
         requires bridge { IsSortedBy bridge_before

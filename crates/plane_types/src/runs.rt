@@ -1,19 +1,25 @@
 //! Rows in their order, with the part of the list in which the rows of a key stand.
 
-ghost use Rattle.std.specs.Prelude.{◌≡◌, ◌+◌, ◌-◌, ◌^◌, ◌<◌, ◌≤◌, ◌++◌, ◌∷◌, [], ℕ, IfOk, None, OnOk, Some, false, find, if◌then◌else◌, insert, length, option_copied, remove, slice_set};
+ghost use Rattle.std.specs.Prelude.{◌≡◌, ◌+◌, ◌-◌, ◌^◌, ◌<◌, ◌≤◌, ℕ, IfOk, None, OnOk, Some, false, find, if◌then◌else◌, length, option_copied};
 ghost use Rattle.std.specs.HashMap.{get, spare};
 ghost use Rattle.std.specs.List.{filter, list_any};
-ghost use Rattle.plane_types.specs.Runs.{IsOneMore, IsRunOf, run_with};
+ghost use Rattle.plane_types.specs.Edits.{all_puts, all_writes, with_edits};
+ghost use Rattle.plane_types.specs.Runs.{IsRunOf, run_with};
 
+use crate::delta::Edits;
 use crate::keyed::Keyed;
-use crate::row_list::RowList;
+use crate::open_runs::OpenRuns;
+use crate::row_list::apply_edits;
 use crate::run::Run;
 use crate::spare_vec::SpareVec;
+use crate::steps::Steps;
 use net_addr::OutOfMemory;
 use std::alloc::Global;
 use std::collections::HashMap;
 use std::hash::Hash;
 use std::marker::Model;
+use std::mem;
+use std::sync::ledger::Ledger;
 
 /// Rows in their order, of which those with a key are found by it. Contracts see the rows with
 /// their spare.
@@ -23,11 +29,11 @@ use std::marker::Model;
 /// each row that was put in moved a run's end by one at most, and each that was taken out its
 /// start: a run is read as wide as that.
 pub(crate) struct Runs<R: Keyed> {
-    rows: SpareVec<R>,
-    runs: HashMap<R::Key, Run>,
+    pub(crate) rows: SpareVec<R>,
+    pub(crate) runs: HashMap<R::Key, Run>,
     // how many rows were put in before the end, and taken out, since the runs were made
-    wide: usize,
-    lost: usize,
+    pub(crate) wide: usize,
+    pub(crate) lost: usize,
 }
 
 impl<R: Keyed> Model for Runs<R> {
@@ -104,7 +110,7 @@ fn reach<K: Eq + Hash + Copy>(runs: &mut HashMap<K, Run>, key: K, place: usize)
 }
 
 // Makes the run of a key, if there is one, reach over a place.
-fn take_in<K: Eq + Hash + Copy>(runs: &mut HashMap<K, Run>, key: Option<K>, place: usize)
+pub(crate) fn take_in<K: Eq + Hash + Copy>(runs: &mut HashMap<K, Run>, key: Option<K>, place: usize)
     requires room { 0 < spare runs.old }
     requires within { place < 2 ^ 64 - 1 }
     ensures found { (q : K)
@@ -147,13 +153,6 @@ fn part_of(run: Run, wide: usize, lost: usize, len: usize) -> Run
             end: len,
         }
     }
-}
-
-// One more, up to the greatest count.
-fn one_more(count: usize) -> usize
-    ensures { IsOneMore count result }
-{
-    count.saturating_add(1)
 }
 
 // The run of each key.
@@ -292,61 +291,44 @@ impl<R: Keyed> Runs<R> {
         self.reserve(more)
     }
 
-    // Adds a row at the end. Runs need not be read wider than before.
-    fn add(&mut self, row: R)
-        requires { 0 < self.old.spare }
-        ensures items { self.new.items ≡ self.old.items ++ row ∷ [] }
-        ensures spare { self.old.spare ≤ self.new.spare + 1 }
+    /// Makes room for that many rows aside, so that `edit` moves rows once.
+    pub(crate) fn reserve_aside(&mut self, count: usize) -> Result<(), OutOfMemory>
+        ensures { self.new ≡ self.old }
     {
-        let key = row.key();
-        let place = count(self.rows.as_slice());
-        self.rows.add(row);
-        let _len = count(self.rows.as_slice()); // for the proof: places are numbers of a word
-        take_in(&mut self.runs, key, place);
+        self.rows.reserve_aside(count)
     }
 
-    // Puts a row in at a place in the list.
-    fn put_within(&mut self, place: usize, row: R)
-        requires room { 0 < self.old.spare }
-        requires within { place ≤ length self.old.items }
-        ensures items { self.new.items ≡ insert self.old.items place row }
-        ensures spare { self.old.spare ≤ self.new.spare + 1 }
+    // Takes the rows and their runs out, so that edits can be put in.
+    fn open(&mut self) -> OpenRuns<R>
+        ensures items { result.items ≡ self.old.items }
+        ensures spare { self.old.spare ≤ result.spare }
     {
-        let key = row.key();
-        self.rows.put(place, row);
-        let _len = count(self.rows.as_slice()); // for the proof: places are numbers of a word
-        take_in(&mut self.runs, key, place);
-        self.wide = one_more(self.wide);
-    }
-}
-
-impl<R: Keyed> RowList for Runs<R> {
-    type Row = R;
-
-    ghost seen = { λ rows. rows };
-
-    fn len(&self) -> usize {
-        self.len()
-    }
-
-    fn take_out(&mut self, place: usize) {
-        self.rows.take_out(place);
-        self.lost = one_more(self.lost);
-    }
-
-    #[tactic(auto, using(crate::proofs::RunEdits::insert_last))]
-    fn put(&mut self, place: usize, row: R) {
-        if place < self.len() {
-            self.put_within(place, row);
-        } else {
-            self.add(row);
+        let alloc = self.rows.alloc();
+        let rows = self.rows.open();
+        let runs = mem::replace(&mut self.runs, HashMap::new(alloc));
+        OpenRuns {
+            rows,
+            runs,
+            wide: self.wide,
+            lost: self.lost,
         }
     }
 
-    fn set(&mut self, place: usize, row: R) {
-        let key = row.key();
-        let _len = count(self.rows.as_slice()); // for the proof: places are numbers of a word
-        self.rows.set(place, row);
-        take_in(&mut self.runs, key, place);
+    /// Puts edits in, one after the other. Each row that is taken out and each that is put in is a
+    /// step. It allocates nothing. Its cost grows with the edits, and with the rows after the least
+    /// place once, if room aside was made; with those after each place otherwise.
+    #[tactic(auto, using(crate::proofs::EditLemmas::no_edits, crate::proofs::EditLemmas::no_puts, crate::proofs::EditLemmas::no_writes))]
+    pub(crate) fn edit<L: Ledger>(&mut self, edits: Edits<R>, steps: &mut Steps<L>)
+        requires { all_puts edits ≤ self.old.spare }
+        ensures items { self.new.items ≡ with_edits self.old.items edits }
+        ensures spare { self.old.spare ≤ self.new.spare + all_puts edits }
+        ensures steps { steps.new ≡ steps.old + all_writes edits }
+    {
+        if edits.is_empty() {
+            return;
+        }
+        let mut open = self.open();
+        apply_edits(&mut open, edits, steps);
+        *self = open.close();
     }
 }

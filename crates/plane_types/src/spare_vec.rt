@@ -1,16 +1,24 @@
 //! A list that shows how much room it has.
 
-ghost use Rattle.std.specs.Prelude.{◌≡◌, ◌+◌, ◌<◌, ◌≤◌, [], ◌∷◌, ◌++◌, OnOk, insert, length, remove, slice_set};
+ghost use Rattle.std.specs.Prelude.{◌≡◌, ◌+◌, ◌^◌, ◌<◌, ◌≤◌, [], ◌∷◌, ◌++◌, OnOk, insert, length, option_to_list, remove, slice_set};
+ghost use Rattle.plane_types.specs.Edits.{all_puts, all_writes, with_edits};
 
-use crate::row_list::RowList;
+use crate::delta::Edits;
+use crate::gap_vec::GapVec;
+use crate::row_list::apply_edits;
+use crate::steps::Steps;
 use net_addr::OutOfMemory;
 use std::alloc::Global;
 use std::marker::Model;
+use std::mem;
+use std::sync::ledger::Ledger;
 
 /// Items in a row. Contracts see them with their spare: how many more are taken in without memory.
 #[derive(Drop)]
 pub struct SpareVec<T> {
     pub(crate) items: Vec<T>,
+    // memory in which items stand aside while many edits are put in
+    aside: Vec<T>,
 }
 
 impl<T> Model for SpareVec<T> {
@@ -30,6 +38,7 @@ impl<T> SpareVec<T> {
     {
         SpareVec {
             items: Vec::new(alloc),
+            aside: Vec::new(alloc),
         }
     }
 
@@ -37,7 +46,8 @@ impl<T> SpareVec<T> {
     pub fn from_vec(items: Vec<T>) -> SpareVec<T>
         ensures { result.items ≡ items.items }
     {
-        SpareVec { items }
+        let aside = Vec::new(*items.allocator());
+        SpareVec { items, aside }
     }
 
     /// Makes room for that many more.
@@ -90,7 +100,8 @@ impl<T> SpareVec<T> {
 
     /// How many items there are.
     pub(crate) fn len(&self) -> usize
-        ensures { result ≡ length self.now.items }
+        ensures len { result ≡ length self.now.items }
+        ensures fits { result < 2 ^ 63 }
     {
         self.items.len()
     }
@@ -121,26 +132,58 @@ impl<T: Drop> SpareVec<T> {
     {
         self.items[place] = item;
     }
-}
 
-impl<T: Drop> RowList for SpareVec<T> {
-    type Row = T;
-
-    ghost seen = { λ rows. rows };
-
-    fn len(&self) -> usize {
-        self.len()
+    /// Takes the last item.
+    pub(crate) fn pop(&mut self) -> Option<T>
+        ensures items { self.old.items ≡ self.new.items ++ option_to_list result }
+        ensures spare { self.new.spare ≡ self.old.spare + length (option_to_list result) }
+    {
+        self.items.pop()
     }
 
-    fn take_out(&mut self, place: usize) {
-        self.take_out(place);
+    /// Where its memory is from.
+    pub(crate) fn alloc(&self) -> Global {
+        *self.items.allocator()
     }
 
-    fn put(&mut self, place: usize, row: T) {
-        self.put(place, row);
+    /// Makes room aside for that many items, so that `open` can part the list without memory.
+    pub(crate) fn reserve_aside(&mut self, count: usize) -> Result<(), OutOfMemory>
+        ensures { self.new ≡ self.old }
+    {
+        self.aside.reserve(count)?;
+        Ok(())
     }
 
-    fn set(&mut self, place: usize, row: T) {
-        self.set(place, row);
+    /// Takes the items out, as a list with a gap. What stood aside stays there no longer.
+    pub(crate) fn open(&mut self) -> GapVec<T>
+        ensures items { result.items ≡ self.old.items }
+        ensures spare { self.old.spare ≤ result.spare }
+        ensures rest { self.new.items ≡ [] }
+    {
+        let alloc = self.alloc();
+        let items = mem::replace(&mut self.items, Vec::new(alloc));
+        let mut aside = mem::replace(&mut self.aside, Vec::new(alloc));
+        aside.clear();
+        let front = SpareVec {
+            items,
+            aside: Vec::new(alloc),
+        };
+        GapVec::of(front, aside)
+    }
+
+    /// Puts edits in, as `Runs::edit` does.
+    #[tactic(auto, using(crate::proofs::EditLemmas::no_edits, crate::proofs::EditLemmas::no_puts, crate::proofs::EditLemmas::no_writes))]
+    pub(crate) fn edit<L: Ledger>(&mut self, edits: Edits<T>, steps: &mut Steps<L>)
+        requires { all_puts edits ≤ self.old.spare }
+        ensures items { self.new.items ≡ with_edits self.old.items edits }
+        ensures spare { self.old.spare ≤ self.new.spare + all_puts edits }
+        ensures steps { steps.new ≡ steps.old + all_writes edits }
+    {
+        if edits.is_empty() {
+            return;
+        }
+        let mut open = self.open();
+        apply_edits(&mut open, edits, steps);
+        *self = open.close();
     }
 }

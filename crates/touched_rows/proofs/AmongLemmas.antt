@@ -11,10 +11,10 @@ use Rattle.api_types.specs.declared.port.Fixed.{Fixed}
 use Rattle.api_types.specs.declared.port.PortRow.{PortRow}
 use Rattle.api_types.specs.declared.router.RouterRow.{RouterRow}
 use Rattle.api_types.proofs.ListLemmas.{any-none, false_true, none_some, or_none, or_true, some_equal}
-use Rattle.api_types.proofs.NameLemmas.{by_test}
+use Rattle.api_types.proofs.NameLemmas.{and_fails, by_test}
 use Rattle.plane_types.specs.Keyed.{are_one}
 use Rattle.table_edits.specs.EditsAt.{among}
-use Rattle.touched_rows.specs.TouchedNumbers.{is_by, is_on, numbers_from, router_in, router_number}
+use Rattle.touched_rows.specs.TouchedNumbers.{can_live, can_live_on, is_by, numbers_from, router_in, router_number}
 
 one_itself : (k m : ℕ) → k ≡ m → are_one nat_lt k m ≡ true
 one_itself k m h = grind (arith, nat_tests, h)
@@ -122,8 +122,8 @@ none_kept f none (x ∷ xs) = ap (λ o. cons_option o (filter_map f xs)) (none x
 
 -- ---- by what is in no set
 
-pub on_none : (networks : Ident → Bool) → ((i : Ident) → networks i ≡ false) → (p : PortRow) → is_on networks p ≡ false
-on_none networks none p = none p.network
+pub on_none : (networks : Ident → Bool) → ((i : Ident) → networks i ≡ false) → (p : PortRow) → can_live_on networks p ≡ false
+on_none networks none p = and_fails (can_live p) (networks p.network) (none p.network)
 
 pub by_none : (routers : Ident → Bool) → ((i : Ident) → routers i ≡ false) → (f : FloatingRow) → is_by routers f ≡ false
 by_none routers none f = go f.target

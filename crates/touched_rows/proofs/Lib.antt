@@ -3,3 +3,4 @@ mod AmongLemmas
 mod DeviceLemmas
 mod RetagLemmas
 mod RouterLemmas
+pub mod SeesLemmas

@@ -1,6 +1,7 @@
 -- The numbers of rows that a change touches by other rows.
-use Rattle.std.specs.Prelude.{ℕ, ◌+◌, ◌||◌, Bool, false, List, [], ◌∷◌, Option, Some, None, option_and_then, slice_get, if◌then◌else◌}
+use Rattle.std.specs.Prelude.{ℕ, ◌+◌, ◌&&◌, ◌||◌, Bool, false, List, [], ◌∷◌, Option, Some, None, option_and_then, slice_get, if◌then◌else◌}
 use Rattle.std.specs.List.{cons_option, list_any}
+use Rattle.api_types.specs.Consistent.Carried.{is_bound}
 use Rattle.api_types.specs.Holders.{router_of}
 use Rattle.api_types.specs.Ident.{Ident}
 use Rattle.api_types.specs.Owners.{is_router_port}
@@ -19,9 +20,13 @@ module _ {R : Type 0} (test : R → Bool) where
   numbers_from n (r ∷ rs) =
       if test r then n ∷ numbers_from (n + 1) rs else numbers_from (n + 1) rs
 
--- whether a port is on one of some networks
-abbrev pub is_on : (Ident → Bool) → PortRow → Bool
-is_on networks p = networks p.network
+-- whether a port is up and Open vSwitch carries it: it is live where its network is up
+abbrev pub can_live : PortRow → Bool
+can_live p = p.up && is_bound p.vif
+
+-- whether a port can be live, and is on one of some networks
+abbrev pub can_live_on : (Ident → Bool) → PortRow → Bool
+can_live_on networks p = can_live p && networks p.network
 
 -- whether a port holds an address in one of some subnets
 abbrev pub holds_in_any : (Ident → Bool) → PortRow → Bool

@@ -12,6 +12,6 @@ lease_edits-requires-clause-stay c = λ k off.
     c.in_ok-ports.ensures.named k (ap (among nat_lt k) (sym c.as_slice.ensures.value) ∙ off)
 
 pub lease_edits-requires-clause-networks : goal.lease_edits-requires-clause-networks
-lease_edits-requires-clause-networks c = λ k p off at.
+lease_edits-requires-clause-networks c = λ k p off at can.
     c.in_ok-networks.ensures p.network
-    (c.in_ok-ports.ensures.networks k p (ap (among nat_lt k) (sym c.as_slice.ensures.value) ∙ off) at)
+    (c.in_ok-ports.ensures.networks k p (ap (among nat_lt k) (sym c.as_slice.ensures.value) ∙ off) at can)

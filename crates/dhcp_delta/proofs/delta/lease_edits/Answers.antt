@@ -5,13 +5,16 @@ use Rattle.plane_types.specs.NumberedRows.{numbered_rows, numbered_rows_after}
 use Rattle.plane_types.specs.TableRows.{lease_rows}
 use Rattle.table_edits.specs.Rewires.{Rewires}
 use Rattle.touched_rows.specs.declared.rewiring.Rewiring.{Rewiring}
+use Rattle.touched_rows.proofs.SeesLemmas.{live_seen}
 use Rattle.dhcp_delta.proofs.delta.lease_edits.Goals as goal
 
-pub of-requires-clause-up : goal.of-requires-clause-up
-of-requires-clause-up c k p away at = (c.requires.networks k p away at).up
+pub of-requires-clause-live : goal.of-requires-clause-live
+of-requires-clause-live c k p away at =
+    let change = c.args.change.now in
+    live_seen change.before.now change.after.now change.old change.new p (c.requires.networks k p away at)
 
 pub of-requires-clause-tag : goal.of-requires-clause-tag
-of-requires-clause-tag c k p away at = (c.requires.networks k p away at).tag
+of-requires-clause-tag c k p away at can = (c.requires.networks k p away at can).tag
 
 pub returns : goal.returns
 returns c =

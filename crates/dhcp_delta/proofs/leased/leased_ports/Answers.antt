@@ -20,7 +20,7 @@ returns-clause-untouched c =
     let led = numbers_from (is_led (is_served change.before.now change.after.now change.host.now) networks subnets) 0 change.ports.rows in
     let all : c.add_led.new.numbers.items ≡ touched ++ led = c.in_ok-add_led.ensures ∙ ap (λ (ns : List ℕ). ns ++ led) c.in_ok-numbers.ensures.items in
     let s : Stays change.before.now change.after.now change.items.now change.ports touched =
-    record { leads_on = change.leads_on; numbered = change.numbered; own_ids = c.rows-own_ids.ensures.own_ids; stay = servers.stay; up = servers.up } in
+    record { leads_on = change.leads_on; numbered = change.numbered; own_ids = c.rows-own_ids.ensures.own_ids; stay = servers.stay; live = servers.live } in
     IfOk-weaker c.descending.result _ _ (λ ks same k away.
     let neither = among_neither k touched led (ap (among nat_lt k) (sym all) ∙ sym (same k) ∙ away) in
     leases_stay change.before.now change.after.now change.items.now change.ports touched s change.host.now change.old change.new servers.tag networks subnets

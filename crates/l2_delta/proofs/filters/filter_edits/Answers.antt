@@ -1,8 +1,9 @@
-use Rattle.std.proofs.Common.{◌≡◌, ◌∙◌, None, Option, Some, ap, refl, subst, sym}
+use Rattle.std.proofs.Common.{◌≡◌, ◌∙◌, None, Option, Some, ap, refl, sym}
 use Rattle.std.specs.Prelude.{nat_lt, option_map}
 use Rattle.std.specs.HashSet.{contains}
 use Rattle.std.proofs.Math.Path.{transport}
 use Rattle.std.proofs.lemmas.Result.{IfOk-weaker}
+use Rattle.api_types.specs.Live.{is_live}
 use Rattle.api_types.specs.RowLists.{RowLists}
 use Rattle.api_types.specs.Table.{ident_eq}
 use Rattle.api_types.specs.declared.port.PortRow.{PortRow}
@@ -11,13 +12,12 @@ use Rattle.plane_types.specs.KeyedTables.{filter_order, port_filters}
 use Rattle.plane_types.specs.Numbered.{numbered_after, rows_after, with_numbers}
 use Rattle.plane_types.specs.NumberedRows.{numbered_rows, numbered_rows_after}
 use Rattle.plane_types.specs.TableRows.{filter_rows}
-use Rattle.plane_types.proofs.LocalLemmas.{IsAlike}
 use Rattle.table_edits.specs.ChunksSeen.{chunk_rows}
 use Rattle.table_edits.specs.EditsAt.{among}
 use Rattle.table_edits.specs.NumbersSeen.{Renumbered, at_before}
 use Rattle.table_edits.specs.Rewires.{Rewires}
+use Rattle.touched_rows.proofs.SeesLemmas.{live_seen}
 use Rattle.l2_delta.proofs.FilterLemmas.{left_alone, of_port, rises_after, rises_before, rows_are, rows_were}
-use Rattle.l2_delta.proofs.UntouchedPorts.{alike}
 use Rattle.l2_delta.proofs.filters.filter_edits.Goals as goal
 
 pub edits_by_chunk-requires-clause-rows : goal.edits_by_chunk-requires-clause-rows
@@ -52,8 +52,8 @@ edits_by_chunk-requires-clause-untouched c = λ k away.
     let gone = ap (among nat_lt k) (sym c.as_slice-2.ensures.value) ∙ away in
     let off = c.in_ok-ports.ensures.touched k gone in
     go came comes (at_before change.ports k) (λ p at.
-    left_alone before items host change.old change.new c.args.groups.now c.args.rules.now (contains ident_eq c.in_ok-named.named) c.requires.groups c.requires.rules c.in_ok-named.ensures.groups c.in_ok-named.ensures.rules p
-    (subst (λ (now : RowLists). IsAlike before now change.old change.new p.network) change.leads_on.leads (alike before change.after.now change.old change.new p.network (c.requires.networks k p off at)))
+    left_alone before items host c.args.groups.now c.args.rules.now (contains ident_eq c.in_ok-named.named) c.requires.groups c.requires.rules c.in_ok-named.ensures.groups c.in_ok-named.ensures.rules p
+    (live_seen before change.after.now change.old change.new p (c.requires.networks k p off at) ∙ ap (λ (now : RowLists). is_live now p) change.leads_on.leads)
     (c.in_ok-ports.ensures.others k p gone at))
     ∙ ap (option_map comes) (c.requires.stay k off)
   where

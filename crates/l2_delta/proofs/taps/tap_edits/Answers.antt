@@ -6,11 +6,10 @@ use Rattle.std.proofs.lemmas.Result.{IfOk-weaker}
 use Rattle.plane_types.specs.Keyed.{rows_by_key}
 use Rattle.plane_types.specs.Numbered.{numbered_after, rows_after, with_numbers}
 use Rattle.plane_types.specs.TableRows.{tap_row, tap_rows}
-use Rattle.plane_types.proofs.LocalLemmas.{tap_same}
 use Rattle.plane_types.proofs.StayLemmas.{ports_after}
 use Rattle.table_edits.specs.Rewires.{Rewires}
 use Rattle.table_edits.proofs.NumberedLaw.{untouched_rows}
-use Rattle.l2_delta.proofs.UntouchedPorts.{alike}
+use Rattle.l2_delta.proofs.SeenPorts.{tap_seen}
 use Rattle.l2_delta.proofs.taps.tap_edits.Goals as goal
 
 pub edits_by_row-requires-clause-rows : goal.edits_by_row-requires-clause-rows
@@ -27,7 +26,7 @@ edits_by_row-requires-clause-untouched c = λ k away.
     let now = change.after.now in
     let host = change.host.now in
     untouched_rows change.ports.rows change.ports.items (tap_row before host change.old) (tap_row now host change.new) c.args.ports.now c.requires.stay
-    (λ k p away at. tap_same before now host change.old change.new p (alike before now change.old change.new p.network (c.requires.networks k p away at))) k away
+    (λ k p away at. tap_seen before now host change.old change.new p (c.requires.networks k p away at)) k away
 
 pub returns : goal.returns
 unfolding tap_rows

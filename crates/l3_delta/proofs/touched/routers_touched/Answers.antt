@@ -17,7 +17,7 @@ returns-clause-stay c =
     router_stays change.before.now change.after.now change.items.now change.ports routers s ports change.old change.new k r at (sym (named k away) ∙ at)
     (record {
       stay = λ j off. c.in_ok-ports.ensures.named j (ap (among nat_lt j) (sym c.as_slice-2.ensures.value) ∙ off);
-      alike = λ j p off there. c.in_ok-networks.ensures p.network (c.in_ok-ports.ensures.networks j p (ap (among nat_lt j) (sym c.as_slice-2.ensures.value) ∙ off) there);
+      alike = λ j p off there can. c.in_ok-networks.ensures p.network (c.in_ok-ports.ensures.networks j p (ap (among nat_lt j) (sym c.as_slice-2.ensures.value) ∙ off) there can);
       of_before = λ j p there port is. ports_before k j r p away at there port is;
       of_after = λ j p there port is. ports_after k j r p away (sym (named k away) ∙ at) there port is;
     })

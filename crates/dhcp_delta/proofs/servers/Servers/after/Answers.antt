@@ -12,7 +12,7 @@ returns-in-Some c =
     let change = self.change.now in
     let n = c.args.network in
     let s : Stays change.before.now change.after.now change.items.now change.ports self.touched.now =
-    record { leads_on = change.leads_on; numbered = change.numbered; own_ids = c.rows-own_ids.ensures.own_ids; stay = self.stay; up = self.up } in
+    record { leads_on = change.leads_on; numbered = change.numbered; own_ids = c.rows-own_ids.ensures.own_ids; stay = self.stay; live = self.live } in
     let k = c.in-Some.number.now in
     let found : find (λ k. serves_any change.after.now change.host.now n (at_after change.ports k)) self.touched.now ≡ Some k =
     sym (self.listed n) ∙ sym c.get.ensures.value ∙ ap option_copied c.in-Some.is in
@@ -26,7 +26,7 @@ returns-in_err-number c =
     let change = self.change.now in
     let n = c.args.network in
     let s : Stays change.before.now change.after.now change.items.now change.ports self.touched.now =
-    record { leads_on = change.leads_on; numbered = change.numbered; own_ids = c.rows-own_ids.ensures.own_ids; stay = self.stay; up = self.up } in
+    record { leads_on = change.leads_on; numbered = change.numbered; own_ids = c.rows-own_ids.ensures.own_ids; stay = self.stay; live = self.live } in
     let none : find (λ k. serves_any change.after.now change.host.now n (at_after change.ports k)) self.touched.now ≡ None =
     sym (self.listed n) ∙ sym c.get.ensures.value ∙ ap option_copied c.in_default.is in
     let gone : c.number_before.result ≡ None = search rules in
@@ -39,7 +39,7 @@ returns-then-is_among c =
     let change = self.change.now in
     let n = c.args.network in
     let s : Stays change.before.now change.after.now change.items.now change.ports self.touched.now =
-    record { leads_on = change.leads_on; numbered = change.numbered; own_ids = c.rows-own_ids.ensures.own_ids; stay = self.stay; up = self.up } in
+    record { leads_on = change.leads_on; numbered = change.numbered; own_ids = c.rows-own_ids.ensures.own_ids; stay = self.stay; live = self.live } in
     let none : find (λ k. serves_any change.after.now change.host.now n (at_after change.ports k)) self.touched.now ≡ None =
     sym (self.listed n) ∙ sym c.get.ensures.value ∙ ap option_copied c.in_default.is in
     let got : c.number_before.result ≡ Some c.in_ok-number.number = search rules in
@@ -52,7 +52,7 @@ returns c =
     let change = self.change.now in
     let n = c.args.network in
     let s : Stays change.before.now change.after.now change.items.now change.ports self.touched.now =
-    record { leads_on = change.leads_on; numbered = change.numbered; own_ids = c.rows-own_ids.ensures.own_ids; stay = self.stay; up = self.up } in
+    record { leads_on = change.leads_on; numbered = change.numbered; own_ids = c.rows-own_ids.ensures.own_ids; stay = self.stay; live = self.live } in
     let got : c.number_before.result ≡ Some c.in_ok-number.number = search rules in
     c.row.ensures
     ∙ stays_serving change.before.now change.after.now change.items.now change.ports self.touched.now s change.host.now n c.in_ok-number.number

@@ -14,7 +14,7 @@ returns-else-is_some c =
     let change = self.change.now in
     let n = c.args.network in
     let s : Stays change.before.now change.after.now change.items.now change.ports self.touched.now =
-    record { leads_on = change.leads_on; numbered = change.numbered; own_ids = c.rows-own_ids.ensures.own_ids; stay = self.stay; up = self.up } in
+    record { leads_on = change.leads_on; numbered = change.numbered; own_ids = c.rows-own_ids.ensures.own_ids; stay = self.stay; live = self.live } in
     let none : is_some (dhcp_here change.before.now change.host.now n) ≡ false =
     sym (numbered_server change.before.now change.after.now change.items.now change.ports self.touched.now s change.host.now n)
     ∙ ap is_some (sym c.number_before.ensures) ∙ sym c.is_some.ensures ∙ c.if-is_some.false in

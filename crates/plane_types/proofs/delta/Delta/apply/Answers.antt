@@ -14,6 +14,6 @@ invariant_of-tables g c =
     let neighbours = subst
     (λ (t : Tables). IsSortedBy neighbour_before (with_edits t.lists.neighbours l2.neighbours))
     (sym c.tables.view_is) c.requires.neighbours in (
-      subst (IsSortedBy bridge_before) (sym c.apply_edits-5.ensures.items) bridge,
-      subst (IsSortedBy neighbour_before) (sym c.apply_edits-7.ensures.items) neighbours,
+      subst (IsSortedBy bridge_before) (sym c.edit-5.ensures.items) bridge,
+      subst (IsSortedBy neighbour_before) (sym c.edit-7.ensures.items) neighbours,
     )

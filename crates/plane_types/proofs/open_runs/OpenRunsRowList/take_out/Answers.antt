@@ -2,7 +2,7 @@ use Rattle.std.proofs.Common.{List, sym, subst}
 use Rattle.std.specs.HashMap.{get}
 use Rattle.plane_types.specs.Runs.{IsRunOf}
 use Rattle.plane_types.proofs.RunEdits.{run_out}
-use Rattle.plane_types.proofs.runs.RunsRowList.take_out.Goals as goal
+use Rattle.plane_types.proofs.open_runs.OpenRunsRowList.take_out.Goals as goal
 
 pub invariant_of-self : goal.invariant_of-self
 invariant_of-self g c = λ k.

@@ -4,7 +4,7 @@ use Rattle.std.specs.HashMap.{get}
 use Rattle.plane_types.specs.Spare.{WithSpare}
 use Rattle.plane_types.specs.Runs.{IsRunOf, run_with}
 use Rattle.plane_types.proofs.RunEdits.{set_run}
-use Rattle.plane_types.proofs.runs.RunsRowList.set.Goals as goal
+use Rattle.plane_types.proofs.open_runs.OpenRunsRowList.set.Goals as goal
 
 pub invariant_of-self : goal.invariant_of-self
 invariant_of-self g c = λ k.
@@ -16,8 +16,7 @@ invariant_of-self g c = λ k.
     subst (λ (v : WithSpare g.row.R.Denot). c.args.place < length v.items)
     (sym c.self.view_is) c.requires.within in
     let fits : length rows < 2 ^ 64 =
-    subst (λ (xs : List g.row.R.Denot). length xs < 2 ^ 64) c.as_slice.ensures
-    c.count-len.ensures.fits in
+    subst (λ n. n < 2 ^ 64) c.len-len.ensures c.len-len.type_inv in
     let found : now ≡ (if test c.args.row then Some (run_with c.args.place was) else was) =
     c.take_in.ensures.found k
     ∙ ap (λ b. if b then Some (run_with c.args.place was)
