@@ -6,7 +6,7 @@ use Rattle.std.specs.Prelude.{◌&&◌, ◌||◌, count_by, filter, find, option
 use Rattle.std.specs.List.{list_any}
 use Rattle.std.specs.Str.{bytes_eq}
 use Rattle.api_policy.specs.Permits.{admin_only, network_owner, owner_only}
-use Rattle.api_policy.specs.Quotas.{limit_of, over_limit, over_quota, owned_count, used_of}
+use Rattle.api_policy.specs.Quotas.{limit_of, over_limit, over_quota, used_of}
 use Rattle.api_policy.specs.Seen.{own_rows}
 use Rattle.api_policy.specs.Uses.{used_by_port}
 use Rattle.api_policy.specs.Visibility.{is_own, owns_network, seen_networks, seen_ports, sees_network, sees_port, sees_row, sees_subnet}
@@ -19,7 +19,7 @@ use Rattle.api_types.specs.Lists.{Each}
 use Rattle.api_types.specs.Outcome.{Outcome}
 use Rattle.api_types.specs.Registration.{Drawing}
 use Rattle.api_types.specs.RowLists.{RowLists}
-use Rattle.api_types.specs.Table.{ident_eq}
+use Rattle.api_types.specs.Table.{ident_eq, owned_count}
 use Rattle.api_types.specs.declared.call.Caller.{Caller}
 use Rattle.api_types.specs.declared.kind.Kind.TheVariants.{Project as ProjectKind, Network as NetworkKind, Subnet as SubnetKind, Port as PortKind, Group as GroupKind, Rule as RuleKind, Router as RouterKind, Floating as FloatingKind, Policy as PolicyKind}
 use Rattle.api_types.specs.declared.kind.Kind.{Kind}

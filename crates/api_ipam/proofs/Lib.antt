@@ -4,4 +4,5 @@ pub mod DefaultLemmas
 pub mod EuiLemmas
 pub mod FreeLemmas
 pub mod LeastLemmas
+pub mod OrderLemmas
 pub mod PlaceLemmas

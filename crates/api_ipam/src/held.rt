@@ -1,6 +1,6 @@
 //! The addresses that are held on a network.
 
-ghost use Rattle.std.specs.Prelude.{◌≡◌, ◌&&◌, ◌||◌, not, IfOk, OnOk};
+ghost use Rattle.std.specs.Prelude.{◌≡◌, ◌&&◌, ◌||◌, [], not, IfOk, OnOk};
 ghost use Rattle.std.specs.List.{list_any};
 ghost use Rattle.net_addr.specs.Addresses.{addr_eq};
 ghost use Rattle.net_addr.specs.declared.address.Addr.{Addr as Address};
@@ -68,6 +68,15 @@ impl HeldAddresses {
         HeldAddresses::but(alloc, ports, port.network, port.fixed.as_slice())
     }
 
+    /// No addresses, with room for that many.
+    pub(crate) fn with_room(alloc: Global, many: usize) -> Result<HeldAddresses, OutOfMemory>
+        ensures { IfOk result (λ held. held ≡ []) }
+    {
+        Ok(HeldAddresses {
+            addresses: Vec::with_capacity(alloc, many)?,
+        })
+    }
+
     // The addresses that the network's ports hold, but those of a list.
     fn but(
         alloc: Global,
@@ -81,9 +90,7 @@ impl HeldAddresses {
             ≡ (is_address_held ports.now network x
             && not (list_any (λ (f : TheFixed). addr_eq f.address x) left.now))) }
     {
-        let mut held = HeldAddresses {
-            addresses: Vec::with_capacity(alloc, ports.len())?,
-        };
+        let mut held = HeldAddresses::with_room(alloc, ports.len())?;
         for port in ports {
             held.take_port(network, left, port)?;
         }
@@ -163,8 +170,13 @@ impl HeldAddresses {
         Ok(())
     }
 
-    // Adds the addresses of a port that aren't of a list, where it is on the network.
-    fn take_port(&mut self, network: Id, left: &[Fixed], port: &PortRow) -> Result<(), OutOfMemory>
+    /// Adds the addresses of a port that aren't of a list, where it is on the network.
+    pub(crate) fn take_port(
+        &mut self,
+        network: Id,
+        left: &[Fixed],
+        port: &PortRow,
+    ) -> Result<(), OutOfMemory>
         ensures { OnOk result
             ((x : Address)
             → fixed_choice.is_in self.new x

@@ -1,7 +1,8 @@
 //! The least address that isn't held.
 
-ghost use Rattle.std.specs.Prelude.{◌≡◌, ◌+◌, ◌<◌, ◌||◌, ◌^◌, ℕ, IfSome, None, Some, false, if◌then◌else◌, length, nat_le, not, slice_index_or, true};
+ghost use Rattle.std.specs.Prelude.{◌≡◌, ◌+◌, ◌<◌, ◌≤◌, ◌||◌, ◌^◌, ℕ, IfSome, None, Some, false, if◌then◌else◌, length, nat_le, not, slice_index_or, true};
 ghost use Rattle.net_addr.specs.Addresses.{addr_eq, number, width, with_number};
+ghost use Rattle.net_addr.specs.declared.address.Addr.TheVariants.{V4 as FourOf};
 ghost use Rattle.api_ipam.specs.Addresses as addresses;
 ghost use Rattle.api_ipam.specs.FixedChoice.{is_in};
 
@@ -57,8 +58,74 @@ fn mark_all(marks: &mut [bool], first: &Addr, held: &[Addr])
     }
 }
 
-// How many addresses from the first on are held, one after the other, before one that isn't. It
-// makes a mark for each held address, and one more. It doesn't tell if there is no memory for them.
+// The number after this one, if it is that of the address; otherwise this one.
+fn after_four(address: &Addr, next: u64) -> u64
+    requires { next ≤ 2 ^ 32 }
+    ensures moved { result ≡ (if addr_eq address.now (FourOf next) then next + 1 else next) }
+    ensures to { result ≤ 2 ^ 32 }
+{
+    match address {
+        Addr::V4(address) => {
+            if u64::from(address.0) == next {
+                next + 1
+            } else {
+                next
+            }
+        }
+        Addr::V6(_) => next,
+    }
+}
+
+// The greater of this number and that of an address of version 4.
+fn greatest_four(address: &Addr, greatest: u64) -> u64
+    ensures most { greatest ≤ result }
+    ensures passed { (m : ℕ) → result < m → addr_eq address.now (FourOf m) ≡ false }
+{
+    match address {
+        Addr::V4(address) => greatest.max(u64::from(address.0)),
+        Addr::V6(_) => greatest,
+    }
+}
+
+// The number after the addresses of version 4 that are held from the first on, if they stand in
+// their order, and the greatest that is held.
+fn behind_fours(held: &[Addr], first: u32) -> (u64, u64)
+    ensures from { first ≤ result.0 }
+    ensures to { result.0 ≤ 2 ^ 32 }
+    ensures held { (k : ℕ) → first + k < result.0 → is_in held.now (FourOf (first + k)) ≡ true }
+    ensures greatest { (m : ℕ) → result.1 < m → is_in held.now (FourOf m) ≡ false }
+{
+    let mut next = u64::from(first);
+    let mut greatest = 0;
+    for address in held {
+        next = after_four(address, next);
+        greatest = greatest_four(address, greatest);
+    }
+    (next, greatest)
+}
+
+// How many addresses of version 4 from the first on are held, one after the other, before one that
+// isn't, if they stand in their order and none is after them.
+fn count_ordered(held: &[Addr], first: &Addr) -> Option<usize>
+    ensures held { IfSome result
+        (λ n. (k : ℕ) → k < n
+        → is_in held.now (with_number first.now (number first.now + k)) ≡ true) }
+    ensures free { IfSome result
+        (λ n. is_in held.now (with_number first.now (number first.now + n)) ≡ false) }
+{
+    let Addr::V4(first) = first else {
+        return None;
+    };
+    let (next, greatest) = behind_fours(held, first.0);
+    if greatest < next {
+        return Some((next - u64::from(first.0)) as usize);
+    }
+    None
+}
+
+// How many addresses from the first on are held, one after the other, before one that isn't. Unless
+// they stand in their order it makes a mark for each held address, and one more. It doesn't tell if
+// there is no memory for them.
 fn count_held(held: &HeldAddresses, first: &Addr) -> Option<usize>
     ensures held { IfSome result
         (λ n. (k : ℕ) → k < n
@@ -67,6 +134,9 @@ fn count_held(held: &HeldAddresses, first: &Addr) -> Option<usize>
         (λ n. is_in held.now (with_number first.now (number first.now + n)) ≡ false) }
 {
     let addresses = held.as_slice();
+    if let Some(many) = count_ordered(addresses, first) {
+        return Some(many);
+    }
     let Ok(mut marks) = vec![in held.alloc(); false; addresses.len() + 1] else {
         return None;
     };
@@ -130,8 +200,9 @@ fn lesser(one: Option<Addr>, other: Option<Addr>) -> Option<Addr>
 }
 
 /// The least address of the pools that isn't held, where one isn't. Its cost grows with the pools,
-/// of which a subnet has 20 at most, times the held addresses, and not with the pools' size. For the
-/// time of a pass it has a mark for each held address; where there is no memory for them, it passes
+/// of which a subnet has 20 at most, times the held addresses, and not with the pools' size. Unless
+/// the held addresses of version 4 stand in their order, and none is after those of the pool, it has
+/// a mark for each held address for the time of a pass; where there is no memory for them, it passes
 /// over the held addresses once for each one that stands first in a pool.
 pub fn least_free_address(held: &HeldAddresses, pools: &[Span]) -> Option<Addr>
     ensures { result ≡ addresses.least_free_address (λ x. not (is_in held.now x)) pools.now }

@@ -6,8 +6,9 @@
 //! `are_placed`, `first_known` and `next_known` come before the held addresses are looked at,
 //! `first_held` tells one that is held, and `first_addresses`, `next_addresses`,
 //! `gateway_addresses` and `floating_address` choose. `HeldAddresses` are gathered once, in one
-//! pass over the ports, as a list; from then on a look-up passes over the list once, and a choice
-//! marks its addresses once. Nothing grows with a pool's size.
+//! pass over the ports, as a list, by `survey_ports` together with a MAC address; from then on a look-up
+//! passes over the list once, and so does a choice, which marks its addresses once more if they
+//! don't stand in their order. Nothing grows with a pool's size.
 #![tactic(auto)]
 
 mod asked;
@@ -22,6 +23,7 @@ mod macs;
 mod marks;
 mod places;
 mod pools;
+mod survey;
 
 pub use asked::{
     addresses_of, first_addresses, first_known, next_addresses, next_known, old_renewed,
@@ -36,3 +38,4 @@ pub use least::least_free_address;
 pub use macs::choose_mac;
 pub use places::{Place, are_placed, asked_places, known_addresses, subnets_on};
 pub use pools::are_pools;
+pub use survey::{Survey, survey_ports};

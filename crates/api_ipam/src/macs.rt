@@ -12,7 +12,7 @@ use api_types::{Id, PortRow, Shared};
 use net_addr::Mac;
 
 /// The first generated MAC address, fa:16:3e:00:00:00 (Neutron's `base_mac`).
-const FIRST: u64 = 0xfa16_3e00_0000;
+pub(crate) const FIRST: u64 = 0xfa16_3e00_0000;
 
 /// The number after the last generated one, fa:16:3e:ff:ff:ff.
 const END: u64 = 0xfa16_3f00_0000;
@@ -27,8 +27,8 @@ fn has_mac(port: &PortRow, network: Id, mac: u64) -> bool
     network == port.network && port.mac == Mac(mac)
 }
 
-// The number after this one, if it is a generated one that the port has; otherwise this one.
-fn after_held(port: &PortRow, network: Id, mac: u64) -> u64
+/// The number after this one, if it is a generated one that the port has; otherwise this one.
+pub(crate) fn after_held(port: &PortRow, network: Id, mac: u64) -> u64
     requires { mac ≤ first_mac + 2 ^ 24 }
     ensures moved { result
         ≡ (if nat_lt mac (first_mac + 2 ^ 24) && held_once.has_mac network mac port.now
@@ -41,8 +41,8 @@ fn after_held(port: &PortRow, network: Id, mac: u64) -> u64
     mac
 }
 
-// The greater of this MAC address and that of a port of the network.
-fn greatest_of(port: &PortRow, network: Id, greatest: u64) -> u64
+/// The greater of this MAC address and that of a port of the network.
+pub(crate) fn greatest_of(port: &PortRow, network: Id, greatest: u64) -> u64
     ensures { result
         ≡ (if ident_eq network port.now.network && nat_lt greatest port.now.mac
         then port.now.mac else greatest) }
@@ -118,14 +118,22 @@ fn generated(mac: u64) -> Option<Mac>
     None
 }
 
-/// The least generated MAC address that no port of the network has; there is none where all are
-/// held. It allocates nothing. Its cost is that of one pass over the ports if they took the
-/// generated MAC addresses in their order and none went since, and otherwise of one more for each
-/// 1,024 ports.
-pub fn choose_mac(ports: &[Shared<PortRow>], network: Id) -> Option<Mac>
+/// The least generated MAC address that no port of the network has, by the number after those that
+/// ports have in turn, and by the greatest MAC address that one has.
+pub(crate) fn mac_after(
+    ports: &[Shared<PortRow>],
+    network: Id,
+    next: u64,
+    greatest: u64,
+) -> Option<Mac>
+    requires to { next ≤ first_mac + 2 ^ 24 }
+    requires sought { least_from (λ m. not (is_mac_held ports.now network m)) next
+        (first_mac + 2 ^ 24 - next)
+        ≡ least_from (λ m. not (is_mac_held ports.now network m)) first_mac
+        (first_mac + 2 ^ 24 - first_mac) }
+    requires greatest { (m : ℕ) → greatest < m → is_mac_held ports.now network m ≡ false }
     ensures { result ≡ free_mac ports.now network }
 {
-    let (next, greatest) = behind_held(ports, network);
     if greatest < next {
         return generated(next);
     }
@@ -138,4 +146,15 @@ pub fn choose_mac(ports: &[Shared<PortRow>], network: Id) -> Option<Mac>
         }
     }
     None
+}
+
+/// The least generated MAC address that no port of the network has; there is none where all are
+/// held. It allocates nothing. Its cost is that of one pass over the ports if they took the
+/// generated MAC addresses in their order and none went since, and otherwise of one more for each
+/// 1,024 ports.
+pub fn choose_mac(ports: &[Shared<PortRow>], network: Id) -> Option<Mac>
+    ensures { result ≡ free_mac ports.now network }
+{
+    let (next, greatest) = behind_held(ports, network);
+    mac_after(ports, network, next, greatest)
 }

@@ -1,8 +1,8 @@
 -- Quotas: how many rows of a kind a project may have. Rows that come along with others count as
 -- used.
 use Rattle.api_types.specs.Refusing.{when}
-use Rattle.api_types.specs.Parts.{project_of}
 use Rattle.api_types.specs.RowLists.{RowLists}
+use Rattle.api_types.specs.Table.{owned_count}
 use Rattle.api_types.specs.declared.kind.Kind.TheVariants.{Project, Network, Subnet, Port, Group, Rule, Router, Floating, Policy}
 use Rattle.api_types.specs.declared.kind.Kind.{Kind}
 use Rattle.api_types.specs.declared.refusal.Refusal.TheVariants.{OverQuota}
@@ -11,7 +11,7 @@ use Rattle.net_settings.specs.Settings.{SettingsParts}
 use Rattle.net_settings.specs.declared.settings.Limit.TheVariants.{AtMost, Unlimited}
 use Rattle.net_settings.specs.declared.settings.Limit.{Limit}
 use Rattle.net_settings.specs.declared.settings.Quotas.{Quotas}
-use Rattle.std.specs.Prelude.{List, None, Option, bytes_eq, count_by, nat_lt, ℕ, ◌+◌}
+use Rattle.std.specs.Prelude.{None, Option, nat_lt, ℕ, ◌+◌}
 use Rattle.net_addr.specs.Words.{Text}
 
 abbrev pub limit_of : Quotas → Kind → Limit
@@ -24,10 +24,6 @@ limit_of quotas Rule = quotas.security_group_rule
 limit_of quotas Router = quotas.router
 limit_of quotas Floating = quotas.floatingip
 limit_of quotas Policy = quotas.rbac_policy
-
--- how many rows the project owns
-abbrev pub owned_count : {R : Type 0} → (R → Text) → Text → List R → ℕ
-owned_count project_of project rows = count_by (λ r. bytes_eq (project_of r) project) rows
 
 abbrev pub used_of : RowLists → Text → Kind → ℕ
 used_of rows project Project = 0

@@ -1,14 +1,11 @@
 //! How many rows of a kind a project may have.
 
-ghost use Rattle.std.specs.Prelude.{◌≡◌, None, Some, IfErr, List, ℕ, OnOk};
+ghost use Rattle.std.specs.Prelude.{◌≡◌, None, Some, IfErr, OnOk};
 ghost use Rattle.api_types.specs.declared.refusal.Refusal.TheVariants.{OverQuota as OverQuotaBy};
 ghost use Rattle.api_policy.specs.Checks.{IsAnswerOf};
 ghost use Rattle.api_policy.specs.Quotas as quotas_specs;
 
-use api_types::{
-    FloatingRow, GroupRow, Keyed, Kind, NetworkRow, PolicyRow, PortRow, Refusal, RouterRow, Rows,
-    RuleRow, Shared, SubnetRow,
-};
+use api_types::{Kind, Refusal, Rows};
 use net_addr::Text;
 use net_settings::{Limit, Quotas, Settings};
 
@@ -34,100 +31,20 @@ impl From<OverQuota> for Refusal {
     }
 }
 
-// A row that a project owns.
-trait Owned: Keyed {
-    ghost project_of: { Self → List ℕ };
-
-    fn project(&self) -> &Text
-        ensures { result.now ≡ project_of self.now };
-}
-
-impl Owned for NetworkRow {
-    ghost project_of = { λ r. r.project };
-
-    fn project(&self) -> &Text {
-        &self.project
-    }
-}
-
-impl Owned for SubnetRow {
-    ghost project_of = { λ r. r.project };
-
-    fn project(&self) -> &Text {
-        &self.project
-    }
-}
-
-impl Owned for PortRow {
-    ghost project_of = { λ r. r.project };
-
-    fn project(&self) -> &Text {
-        &self.project
-    }
-}
-
-impl Owned for GroupRow {
-    ghost project_of = { λ r. r.project };
-
-    fn project(&self) -> &Text {
-        &self.project
-    }
-}
-
-impl Owned for RuleRow {
-    ghost project_of = { λ r. r.project };
-
-    fn project(&self) -> &Text {
-        &self.project
-    }
-}
-
-impl Owned for RouterRow {
-    ghost project_of = { λ r. r.project };
-
-    fn project(&self) -> &Text {
-        &self.project
-    }
-}
-
-impl Owned for FloatingRow {
-    ghost project_of = { λ r. r.project };
-
-    fn project(&self) -> &Text {
-        &self.project
-    }
-}
-
-impl Owned for PolicyRow {
-    ghost project_of = { λ r. r.project };
-
-    fn project(&self) -> &Text {
-        &self.project
-    }
-}
-
-fn owned_count<R: Owned>(project: &Text, rows: &[Shared<R>]) -> usize
-    ensures { result ≡ quotas_specs.owned_count R.project_of project.now rows.now }
-{
-    rows.iter()
-        .filter(|row| row.get().project() == project)
-        .count()
-}
-
 // How many rows of the kind the project has.
 fn used_of(rows: &Rows, project: &Text, kind: Kind) -> usize
     ensures { result ≡ quotas_specs.used_of rows.now project.now kind }
 {
     match kind {
         Kind::Project => 0,
-        Kind::Network => owned_count(project, rows.networks().rows()),
-        Kind::Subnet => owned_count(project, rows.subnets().rows()),
-        Kind::Port => owned_count(project, rows.ports().rows()),
-        Kind::Group => owned_count(project, rows.groups().rows()),
-        Kind::Rule => owned_count(project, rows.rules().rows()),
-        Kind::Router => owned_count(project, rows.routers().rows()),
-        Kind::Floating => owned_count(project, rows.floatings().rows()),
-        Kind::Policy => owned_count(project, rows.policies().rows()),
+        Kind::Network => rows.networks().owned_count(project),
+        Kind::Subnet => rows.subnets().owned_count(project),
+        Kind::Port => rows.ports().owned_count(project),
+        Kind::Group => rows.groups().owned_count(project),
+        Kind::Rule => rows.rules().owned_count(project),
+        Kind::Router => rows.routers().owned_count(project),
+        Kind::Floating => rows.floatings().owned_count(project),
+        Kind::Policy => rows.policies().owned_count(project),
     }
 }
 
@@ -148,7 +65,7 @@ fn limit_of(quotas: &Quotas, kind: Kind) -> Limit
 }
 
 /// Whether the project may have one row more of the kind, by the quotas of the settings. Its cost
-/// grows with the rows of the kind.
+/// doesn't grow with the rows.
 pub fn within_quota(
     rows: &Rows,
     settings: &Settings,

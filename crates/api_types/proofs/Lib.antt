@@ -3,6 +3,7 @@ pub mod TableLemmas
 pub mod PlaceLemmas
 pub mod EditLemmas
 pub mod ChangeLemmas
+pub mod CountLemmas
 pub mod ListLemmas
 pub mod NameLemmas
 pub mod IdTexts

@@ -1,6 +1,6 @@
 -- A map that has each row at its id, seen as the list of its rows.
 use Rattle.std.proofs.Common.{◌≡◌, ℕ, ◌<◌, zero, suc, List, [], ◌∷◌, ◌++◌, Bool, false, cond, None, Some, length, map, take, drop, slice_get, slice_set, insert, remove, refl, ap, sym, ◌∙◌, arith}
-use Rattle.std.specs.Prelude.{find, ◌==◌, ◌&&◌, is_some, Option, option_and_then, IfSome}
+use Rattle.std.specs.Prelude.{find, ◌==◌, ◌&&◌, is_some, Option, option_and_then, option_map, IfSome}
 use Rattle.std.proofs.lemmas.Option.{slice_get_within}
 use Rattle.std.proofs.lemmas.Bool.Decides.{nat_tests}
 use Rattle.std.proofs.lemmas.List.{map-append, take-map, drop-map}
@@ -50,6 +50,11 @@ module _ {R : Type 0} (id_of : R → Ident) where
   set-entries_of (x ∷ rows) zero w lt same = λ j. (sym (same x refl) j, w) ∷ entries_of id_of rows
   set-entries_of (x ∷ rows) (suc i) w lt same = ap (λ es. (id_of x, x) ∷ es) (set-entries_of rows i w (omega arith) (λ r h. same r (slice_get-cons x rows i ∙ h)))
 
+  pub row_at_place : (rows : List R) (i : ℕ) (e : Ident × R) → slice_get (entries_of id_of rows) i ≡ Some e → slice_get rows i ≡ Some e.1
+  row_at_place [] i e at = cc
+  row_at_place (x ∷ rows) zero e at = ap (option_map (λ e. e.1)) at
+  row_at_place (x ∷ rows) (suc i) e at = row_at_place rows i e at
+
   -- a map whose entries are those of the rows keeps the invariant, and is seen as the rows
   pub kept : (es : List (Ident × R)) (rows : List R) → es ≡ entries_of id_of rows → es ≡ entries_of id_of (values_of es)
   kept es rows e = e ∙ ap (entries_of id_of) (sym (values-entries_of rows) ∙ ap values_of (sym e))
@@ -70,6 +75,12 @@ module _ {R : Type 0} (id_of : R → Ident) where
   new_here (suc i) r (x ∷ rows) own at =
       let apart : ident_eq (id_of r) (id_of x) ≡ false = ident_eq-sym (id_of r) (id_of x) ∙ differs i r (id_of x) rows own.0 at in
       ap (λ b. cond b (Some x) (row_of id_of (id_of r) (take i rows))) apart ∙ new_here i r rows own.1 at
+
+-- a value that is put where it stands changes nothing
+pub set_same : {R : Type 0} (es : List (Ident × R)) (i : ℕ) (w : R) → slice_get (values_of es) i ≡ Some w → set_value_at es i w ≡ es
+set_same [] i w at = refl
+set_same (e ∷ es) zero w at = let same : e.1 ≡ w = cc in λ j. (e.0, sym same j) ∷ es
+set_same (e ∷ es) (suc i) w at = ap (λ es. e ∷ es) (set_same es i w at)
 
 -- the row at a place that is found
 pub row_found : {R : Type 0} (rows : List R) (place : Option ℕ) (row : Option R) → is_some place ≡ is_some row → IfSome place (λ k. slice_get rows k ≡ row) → option_and_then (slice_get rows) place ≡ row

@@ -32,8 +32,7 @@ pub(crate) fn edit<R: RowKind>(
     };
     let row = Shared::new(alloc, row.copy(alloc)?)?;
     if item.before.is_some() {
-        table.replace(item.place, row);
-        return Ok(());
+        return table.replace(item.place, row);
     }
     table.push(row)
 }
@@ -58,8 +57,7 @@ pub(crate) fn unedit<R: RowKind>(
     };
     let row = Shared::new(alloc, row.copy(alloc)?)?;
     if item.after.is_some() {
-        table.replace(item.place, row);
-        return Ok(());
+        return table.replace(item.place, row);
     }
     table.insert(item.place, row)
 }

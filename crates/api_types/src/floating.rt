@@ -68,7 +68,13 @@ impl Same for FloatingRow {
 impl Keyed for FloatingRow {
     ghost id_of = { λ r. r.id };
 
+    ghost project_of = { λ r. r.project };
+
     fn id(&self) -> Id {
         self.id
+    }
+
+    fn project(&self) -> &Text {
+        &self.project
     }
 }

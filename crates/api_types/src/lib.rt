@@ -10,6 +10,7 @@
 mod answer;
 mod call;
 mod change;
+mod counts;
 mod edit;
 mod fits;
 mod floating;

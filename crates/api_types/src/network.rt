@@ -100,7 +100,13 @@ impl Same for NetworkRow {
 impl Keyed for NetworkRow {
     ghost id_of = { λ r. r.id };
 
+    ghost project_of = { λ r. r.project };
+
     fn id(&self) -> Id {
         self.id
+    }
+
+    fn project(&self) -> &Text {
+        &self.project
     }
 }

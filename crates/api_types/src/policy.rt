@@ -54,7 +54,13 @@ impl Same for PolicyRow {
 impl Keyed for PolicyRow {
     ghost id_of = { λ r. r.id };
 
+    ghost project_of = { λ r. r.project };
+
     fn id(&self) -> Id {
         self.id
+    }
+
+    fn project(&self) -> &Text {
+        &self.project
     }
 }

@@ -38,7 +38,13 @@ impl Same for ProjectRow {
 impl Keyed for ProjectRow {
     ghost id_of = { λ r. record { ordinal = r.ordinal; count = 0 } };
 
+    ghost project_of = { λ r. r.name };
+
     fn id(&self) -> Id {
         Id::make(self.ordinal, 0)
+    }
+
+    fn project(&self) -> &Text {
+        &self.name
     }
 }

@@ -73,7 +73,13 @@ impl Same for RouterRow {
 impl Keyed for RouterRow {
     ghost id_of = { λ r. r.id };
 
+    ghost project_of = { λ r. r.project };
+
     fn id(&self) -> Id {
         self.id
+    }
+
+    fn project(&self) -> &Text {
+        &self.project
     }
 }

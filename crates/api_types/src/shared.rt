@@ -4,7 +4,7 @@ ghost use Rattle.std.specs.Prelude.{◌≡◌, IfOk, IfSome};
 
 use crate::id::Id;
 use crate::table::Keyed;
-use net_addr::{Copies, OutOfMemory, Same};
+use net_addr::{Copies, OutOfMemory, Same, Text};
 use std::alloc::{AllocError, Global};
 use std::marker::Model;
 use std::ops::Deref;
@@ -93,7 +93,13 @@ impl<T: Drop + Same> Same for Shared<T> {
 impl<R: Keyed> Keyed for Shared<R> {
     ghost id_of = { R.id_of };
 
+    ghost project_of = { R.project_of };
+
     fn id(&self) -> Id {
         self.get().id()
+    }
+
+    fn project(&self) -> &Text {
+        self.get().project()
     }
 }

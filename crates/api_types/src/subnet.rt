@@ -107,7 +107,13 @@ impl Same for SubnetRow {
 impl Keyed for SubnetRow {
     ghost id_of = { λ r. r.id };
 
+    ghost project_of = { λ r. r.project };
+
     fn id(&self) -> Id {
         self.id
+    }
+
+    fn project(&self) -> &Text {
+        &self.project
     }
 }

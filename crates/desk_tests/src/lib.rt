@@ -11,3 +11,5 @@ mod listed;
 mod memory;
 #[cfg(test)]
 mod sessions;
+#[cfg(test)]
+mod undone;

@@ -144,8 +144,8 @@ fn serves(
 ) -> Result<bool, OutOfMemory>
     requires { 0 < piece }
 {
-    let mut keeper = SureKeeper::make(Rows::empty(alloc)?);
     let mut source = SureSource::make(text(alloc, input)?, piece);
+    let mut keeper = SureKeeper::make(Rows::empty(alloc)?);
     let mut sink = SureSink::make(alloc);
     let ended = session::<Echo, _, _, _>(
         alloc,
@@ -158,13 +158,9 @@ fn serves(
     Ok(ended == end && sink.as_slice() == wanted)
 }
 
-/// The same in pieces of 1, 7 and many bytes, without a limit.
-fn serves_all(
-    alloc: Global,
-    input: &[u8],
-    wanted: &[u8],
-    end: SessionEnd,
-) -> Result<bool, OutOfMemory> {
+/// The same in pieces of 1, 7 and many bytes, of a session without a limit that is done.
+fn serves_all(alloc: Global, input: &[u8], wanted: &[u8]) -> Result<bool, OutOfMemory> {
+    let end = SessionEnd::Done;
     Ok(
         serves(alloc, input, 1, u64::MAX, wanted, end)?
             && serves(alloc, input, 7, u64::MAX, wanted, end)?
@@ -173,84 +169,110 @@ fn serves_all(
 }
 
 // Whole requests, refusals of heads, and inputs that end anywhere.
+const STREAMS: [(&[u8], &[u8]); 12] = [
+    (b"", b""),
+    (b"GET / HTTP/1.1\r\n\r\n", b"0;"),
+    (
+        b"POST /a HTTP/1.1\r\nContent-Length: 3\r\n\r\nabc\
+            GET / HTTP/1.1\r\n\r\nPUT / HTTP/1.1\nContent-Length: 1\n\nd",
+        b"0abc;1;2d;",
+    ),
+    (b"\r\n\nGET / HTTP/1.1\r\n\r\n", b"0;"),
+    (b"GET / HTTP/1.1\r\n", b"refused 1;"),
+    (b"GET / HTTP/1.1\r\n\r\nGET", b"0;refused 1;"),
+    (
+        b"POST / HTTP/1.1\r\nContent-Length: 3\r\n\r\nab",
+        b"refused 1;",
+    ),
+    (b"GET / HTTP/1.0\r\n\r\nGET / HTTP/1.1\r\n\r\n", b"0;"),
+    (
+        b"GET / HTTP/1.1\r\nConnection: close\r\n\r\nGET / HTTP/1.1\r\n\r\n",
+        b"0;",
+    ),
+    (
+        b"POST / HTTP/1.1\r\n\r\nGET / HTTP/1.1\r\n\r\n",
+        b"refused 4;",
+    ),
+    (
+        b"PUT / HTTP/1.1\r\nContent-Length: 65537\r\n\r\nGET / HTTP/1.1\r\n\r\n",
+        b"refused 3;",
+    ),
+    (
+        b"GET / HTTP/1.1\r\n\r\nGET  / HTTP/1.1\r\n\r\nGET / HTTP/1.1\r\n\r\n",
+        b"0;refused 1;",
+    ),
+];
+
 #[test]
 fn streams(rt: HostRuntime) -> Result<(), Fail> {
     let alloc = rt.alloc();
-    let cases: [(&[u8], &[u8]); 12] = [
-        (b"", b""),
-        (b"GET / HTTP/1.1\r\n\r\n", b"0;"),
-        (
-            b"POST /a HTTP/1.1\r\nContent-Length: 3\r\n\r\nabcGET / HTTP/1.1\r\n\r\nPUT / HTTP/1.1\nContent-Length: 1\n\nd",
-            b"0abc;1;2d;",
-        ),
-        (b"\r\n\nGET / HTTP/1.1\r\n\r\n", b"0;"),
-        (b"GET / HTTP/1.1\r\n", b"refused 1;"),
-        (b"GET / HTTP/1.1\r\n\r\nGET", b"0;refused 1;"),
-        (
-            b"POST / HTTP/1.1\r\nContent-Length: 3\r\n\r\nab",
-            b"refused 1;",
-        ),
-        (b"GET / HTTP/1.0\r\n\r\nGET / HTTP/1.1\r\n\r\n", b"0;"),
-        (
-            b"GET / HTTP/1.1\r\nConnection: close\r\n\r\nGET / HTTP/1.1\r\n\r\n",
-            b"0;",
-        ),
-        (
-            b"POST / HTTP/1.1\r\n\r\nGET / HTTP/1.1\r\n\r\n",
-            b"refused 4;",
-        ),
-        (
-            b"PUT / HTTP/1.1\r\nContent-Length: 65537\r\n\r\nGET / HTTP/1.1\r\n\r\n",
-            b"refused 3;",
-        ),
-        (
-            b"GET / HTTP/1.1\r\n\r\nGET  / HTTP/1.1\r\n\r\nGET / HTTP/1.1\r\n\r\n",
-            b"0;refused 1;",
-        ),
-    ];
-    for (input, wanted) in cases {
-        let served = serves_all(alloc, input, wanted, SessionEnd::Done)?;
-        assert!(rt; served);
+    for (input, wanted) in STREAMS {
+        assert!(rt; serves_all(alloc, input, wanted)?);
     }
     Ok(())
 }
 
+const TWICE: &[u8] = b"GET / HTTP/1.1\r\n\r\nGET / HTTP/1.1\r\n\r\n";
+
 // The limit counts where more would have to be read.
+const BUDGETS: [(u64, &[u8], SessionEnd); 6] = [
+    (0, b"", SessionEnd::Budget),
+    (17, b"", SessionEnd::Budget),
+    (18, b"0;", SessionEnd::Budget),
+    (35, b"0;", SessionEnd::Budget),
+    (36, b"0;1;", SessionEnd::Budget),
+    (37, b"0;1;", SessionEnd::Done),
+];
+
 #[test]
 fn budgets(rt: HostRuntime) -> Result<(), Fail> {
     let alloc = rt.alloc();
-    let input = b"GET / HTTP/1.1\r\n\r\nGET / HTTP/1.1\r\n\r\n";
-    let cases: [(u64, &[u8], SessionEnd); 6] = [
-        (0, b"", SessionEnd::Budget),
-        (17, b"", SessionEnd::Budget),
-        (18, b"0;", SessionEnd::Budget),
-        (35, b"0;", SessionEnd::Budget),
-        (36, b"0;1;", SessionEnd::Budget),
-        (37, b"0;1;", SessionEnd::Done),
-    ];
-    for (limit, wanted, end) in cases {
-        let by_one = serves(alloc, input, 1, limit, wanted, end)?;
-        let whole = serves(alloc, input, 100, limit, wanted, end)?;
-        assert!(rt; by_one && whole);
+    for (limit, wanted, end) in BUDGETS {
+        assert!(rt; serves(alloc, TWICE, 1, limit, wanted, end)?);
+        assert!(rt; serves(alloc, TWICE, 100, limit, wanted, end)?);
     }
     Ok(())
 }
 
-/// How a session over two requests ends, and what it writes, where these reads, these writes and
-/// flushes and these calls of the keeper fail.
-fn fails(
-    alloc: Global,
-    reads: &[u64],
-    writes: &[u64],
-    loads: &[u64],
-    wanted: &[u8],
-    end: SessionEnd,
-) -> Result<bool, OutOfMemory> {
-    let input = b"GET / HTTP/1.1\r\n\r\nPUT / HTTP/1.1\r\nContent-Length: 3\r\n\r\nabc";
-    let rows = Rows::empty(alloc)?;
-    let mut keeper = MemoryKeeper::make(alloc, rows, numbers(alloc, loads)?)?;
-    let mut source = MemorySource::make(text(alloc, input)?, 18, numbers(alloc, reads)?);
+// Two requests, of which one read gives the first.
+const TWO: &[u8] = b"GET / HTTP/1.1\r\n\r\nPUT / HTTP/1.1\r\nContent-Length: 3\r\n\r\nabc";
+
+/// The reads, the writes and flushes, and the calls of the keeper that fail in a session over two
+/// requests, what it writes, and how it ends.
+type Failure = (
+    &'static [u64],
+    &'static [u64],
+    &'static [u64],
+    &'static [u8],
+    SessionEnd,
+);
+
+// Reads, writes, flushes and the keeper failing in mid-stream.
+const FAILURES: [Failure; 9] = [
+    (&[], &[], &[], b"0;1abc;", SessionEnd::Done),
+    (&[1], &[], &[], b"", SessionEnd::ReadFault),
+    (&[2], &[], &[], b"0;", SessionEnd::ReadFault),
+    (&[3], &[], &[], b"0;", SessionEnd::ReadFault),
+    (&[], &[1], &[], b"", SessionEnd::WriteFault),
+    (&[], &[2], &[], b"0;", SessionEnd::WriteFault),
+    (&[], &[3], &[], b"0;", SessionEnd::WriteFault),
+    (&[], &[], &[1], b"store failed;0abc;", SessionEnd::Done),
+    (
+        &[],
+        &[],
+        &[1, 2],
+        b"store failed;store failed;",
+        SessionEnd::Done,
+    ),
+];
+
+fn fails(alloc: Global, failure: &Failure) -> Result<bool, OutOfMemory> {
+    let (reads, writes, loads, wanted, end) = *failure;
     let mut sink = MemorySink::make(alloc, numbers(alloc, writes)?);
+    let reads = numbers(alloc, reads)?;
+    let mut source = MemorySource::make(text(alloc, TWO)?, 18, reads);
+    let loads = numbers(alloc, loads)?;
+    let mut keeper = MemoryKeeper::make(alloc, Rows::empty(alloc)?, loads)?;
     let ended = session::<Echo, _, _, _>(
         alloc,
         &mut Echo::make(),
@@ -262,85 +284,58 @@ fn fails(
     Ok(ended == end && sink.as_slice() == wanted)
 }
 
-// Reads, writes, flushes and the keeper failing in mid-stream.
 #[test]
 fn failures(rt: HostRuntime) -> Result<(), Fail> {
     let alloc = rt.alloc();
-    let cases: [(&[u64], &[u64], &[u64], &[u8], SessionEnd); 9] = [
-        (&[], &[], &[], b"0;1abc;", SessionEnd::Done),
-        (&[1], &[], &[], b"", SessionEnd::ReadFault),
-        (&[2], &[], &[], b"0;", SessionEnd::ReadFault),
-        (&[3], &[], &[], b"0;", SessionEnd::ReadFault),
-        (&[], &[1], &[], b"", SessionEnd::WriteFault),
-        (&[], &[2], &[], b"0;", SessionEnd::WriteFault),
-        (&[], &[3], &[], b"0;", SessionEnd::WriteFault),
-        (&[], &[], &[1], b"store failed;0abc;", SessionEnd::Done),
-        (
-            &[],
-            &[],
-            &[1, 2],
-            b"store failed;store failed;",
-            SessionEnd::Done,
-        ),
-    ];
-    for (reads, writes, loads, wanted, end) in cases {
-        let failed = fails(alloc, reads, writes, loads, wanted, end)?;
-        assert!(rt; failed);
+    for failure in &FAILURES {
+        assert!(rt; fails(alloc, failure)?);
     }
     Ok(())
+}
+
+const GET: &[u8] = b"GET / HTTP/1.1\r\n\r\n";
+
+/// These bytes so many times.
+fn repeated(alloc: Global, part: &[u8], count: usize) -> Result<Vec<u8>, OutOfMemory> {
+    let mut bytes = Vec::new(alloc);
+    for _ in 0..count {
+        bytes.extend_from_slice(part)?;
+    }
+    Ok(bytes)
 }
 
 // More requests than the buffer has room for.
 #[test]
 fn long_streams(rt: HostRuntime) -> Result<(), Fail> {
     let alloc = rt.alloc();
-    let mut input = Vec::new(alloc);
-    let mut wanted = Vec::new(alloc);
-    for _ in 0..600u16 {
-        for digit in b'0'..=b'9' {
-            input.extend_from_slice(b"GET / HTTP/1.1\r\n\r\n")?;
-            wanted.push(digit)?;
-            wanted.push(b';')?;
-        }
-    }
-    let input = input.as_slice();
-    let wanted = wanted.as_slice();
-    let served = serves_all(alloc, input, wanted, SessionEnd::Done)?;
-    assert!(rt; served);
+    let input = repeated(alloc, GET, 6_000)?;
+    let wanted = repeated(alloc, b"0;1;2;3;4;5;6;7;8;9;", 600)?;
+    assert!(rt; serves_all(alloc, input.as_slice(), wanted.as_slice())?);
     Ok(())
 }
 
-/// This many empty lines with this end, and this after them.
-fn with_empty(alloc: Global, count: usize, end: &[u8], last: &[u8]) -> Result<Vec<u8>, Fail> {
-    let mut bytes = Vec::new(alloc);
-    for _ in 0..count {
-        bytes.extend_from_slice(end)?;
-    }
-    bytes.extend_from_slice(last)?;
-    Ok(bytes)
-}
+// How many empty lines with this end stand before these bytes, and what is written.
+const EMPTY_LINES: [(usize, &[u8], &[u8], &[u8]); 10] = [
+    (16_000, b"\n", GET, b"0;"),
+    (8_000, b"\r\n", GET, b"0;"),
+    (16_366, b"\n", GET, b"0;"),
+    (16_367, b"\n", GET, b"refused 2;"),
+    (16_383, b"\n", b"", b"refused 1;"),
+    (16_384, b"\n", b"", b"refused 2;"),
+    (8_191, b"\r\n", b"\r\n", b"refused 2;"),
+    (2, b"\r\n", b"\n\r", b"refused 1;"),
+    (2, b"\n", b"\r\r\nGET / HTTP/1.1\r\n\r\n", b"refused 1;"),
+    (2, b"\r\n", b"\rGET / HTTP/1.1\r\n\r\n", b"refused 1;"),
+];
 
 // Empty lines before a request, in pieces of 1, 7 and many bytes.
 #[test]
 fn empty_lines_first(rt: HostRuntime) -> Result<(), Fail> {
     let alloc = rt.alloc();
-    let request = b"GET / HTTP/1.1\r\n\r\n".as_slice();
-    let cases: [(usize, &[u8], &[u8], &[u8]); 10] = [
-        (16_000, b"\n", request, b"0;"),
-        (8_000, b"\r\n", request, b"0;"),
-        (16_366, b"\n", request, b"0;"),
-        (16_367, b"\n", request, b"refused 2;"),
-        (16_383, b"\n", b"", b"refused 1;"),
-        (16_384, b"\n", b"", b"refused 2;"),
-        (8_191, b"\r\n", b"\r\n", b"refused 2;"),
-        (2, b"\r\n", b"\n\r", b"refused 1;"),
-        (2, b"\n", b"\r\r\nGET / HTTP/1.1\r\n\r\n", b"refused 1;"),
-        (2, b"\r\n", b"\rGET / HTTP/1.1\r\n\r\n", b"refused 1;"),
-    ];
-    for (count, end, last, wanted) in cases {
-        let input = with_empty(alloc, count, end, last)?;
-        let served = serves_all(alloc, input.as_slice(), wanted, SessionEnd::Done)?;
-        assert!(rt; served);
+    for (count, end, last, wanted) in EMPTY_LINES {
+        let mut input = repeated(alloc, end, count)?;
+        input.extend_from_slice(last)?;
+        assert!(rt; serves_all(alloc, input.as_slice(), wanted)?);
     }
     Ok(())
 }

@@ -18,7 +18,8 @@ use Rattle.plane_types.specs.declared.table.TagRow.{TagRow}
 use Rattle.table_edits.specs.EditsAt.{among}
 use Rattle.table_edits.specs.NumbersSeen.{Renumbered, at_after, at_before}
 use Rattle.table_edits.specs.Untouched.{SubnetStays}
-use Rattle.touched_rows.specs.TouchedNumbers.{can_live, holds_in_any, numbers_from}
+use Rattle.touched_rows.specs.CanLive.{can_live}
+use Rattle.touched_rows.specs.TouchedNumbers.{holds_in_any, numbers_from}
 use Rattle.kept_rows.proofs.FoundLemmas.{place_of_number}
 use Rattle.kept_rows.proofs.NumberLists.{none_any}
 use Rattle.dhcp_delta.specs.Serving.{dhcp_here, is_dhcp_on, is_led, is_served, serves_any}

@@ -20,7 +20,8 @@ use Rattle.plane_types.specs.TableRows.{lease_row, lease_row_by, tag_of}
 use Rattle.plane_types.specs.declared.table.LeaseRow.{LeaseRow}
 use Rattle.plane_types.specs.declared.table.TagRow.{TagRow}
 use Rattle.table_edits.specs.Untouched.{SubnetStays}
-use Rattle.touched_rows.specs.TouchedNumbers.{can_live, holds_in_any}
+use Rattle.touched_rows.specs.CanLive.{can_live}
+use Rattle.touched_rows.specs.TouchedNumbers.{holds_in_any}
 use Rattle.touched_rows.proofs.SeesLemmas.{not_live}
 use Rattle.dhcp_delta.specs.Serving.{dhcp_here, if_at, served_row}
 

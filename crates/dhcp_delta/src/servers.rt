@@ -10,7 +10,7 @@ ghost use Rattle.api_types.specs.declared.port.PortRow.{PortRow as ThePort};
 ghost use Rattle.plane_types.specs.TableRows.{tag_of};
 ghost use Rattle.table_edits.specs.EditsAt.{KeysDescend, among};
 ghost use Rattle.table_edits.specs.NumbersSeen.{at_after, at_before};
-ghost use Rattle.touched_rows.specs.TouchedNumbers.{can_live};
+ghost use Rattle.touched_rows.specs.CanLive.{can_live};
 ghost use Rattle.dhcp_delta.specs.DescendProp.{KeysDescend-prop};
 ghost use Rattle.dhcp_delta.specs.Serving.{dhcp_here, is_served as is_served_by_rows, serves_any, tap_port};
 

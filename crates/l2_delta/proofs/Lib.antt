@@ -12,6 +12,7 @@ pub mod CoverLemmas
 pub mod FilterLemmas
 pub mod CoveredFilters
 pub mod ChangedGroups
+pub mod GapListLemmas
 pub mod SetRows
 pub mod SetPorts
 pub mod SetChanges

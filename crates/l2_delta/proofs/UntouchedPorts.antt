@@ -16,8 +16,8 @@ use Rattle.plane_types.proofs.LocalLemmas.{IsAlike}
 use Rattle.table_edits.specs.ChunksSeen.{chunk_at}
 use Rattle.table_edits.specs.Untouched.{StaysAlike}
 use Rattle.table_edits.proofs.NumberSteps.{place_row}
+use Rattle.touched_rows.specs.CanLive.{can_live}
 use Rattle.touched_rows.specs.SeesAlike.{SeesAlike}
-use Rattle.touched_rows.specs.TouchedNumbers.{can_live}
 use Rattle.touched_rows.proofs.SeesLemmas.{not_live}
 use Rattle.l2_delta.proofs.MapLaw.{as_list}
 use Rattle.l2_delta.proofs.NumberedSources.{at_numbers, of_number}

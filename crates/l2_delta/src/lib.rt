@@ -4,6 +4,7 @@
 mod bridge;
 mod delta;
 mod filters;
+mod gap_list;
 mod named_sets;
 mod neighbours;
 mod retag;

@@ -9,6 +9,7 @@ ghost use Rattle.table_edits.specs.EditsAt.{among};
 ghost use Rattle.l2_delta.specs.SetKeys.{group_number, is_kept as is_kept_by, is_named as is_named_by, is_remote as is_remote_by, named_by, with_remote, with_remotes};
 ghost use Rattle.l2_delta.specs.TouchedSets.{AreNamedAlike, AreTouched, AreTouchedSets, set_at};
 
+use crate::gap_list::GapList;
 use api_types::{GroupRow, Id, PortRow};
 use net_addr::OutOfMemory;
 use plane_types::{Edit, FilterRow};
@@ -108,76 +109,60 @@ fn remotes_of(alloc: Global, filters: &[FilterRow]) -> Result<Vec<Option<Id>>, O
 
 // Takes out the remote group at a place, and adds its number.
 fn take_out(
-    remotes: &mut Vec<Option<Id>>,
+    remotes: &mut GapList<Option<Id>>,
     numbers: &mut Vec<usize>,
     groups: &Numbers<GroupRow>,
     place: usize,
 ) -> Result<(), OutOfMemory>
-    ensures remotes { OnOk result (remotes.new.items ≡ remove remotes.old.items place) }
+    ensures remotes { OnOk result (remotes.new ≡ remove remotes.old place) }
     ensures fewer { OnOk result
         ((n : _) → among nat_lt n numbers.new.items ≡ false
         → among nat_lt n numbers.old.items ≡ false) }
     ensures alike { OnOk result
-        (AreNamedAlike groups.now.rows numbers.new.items (is_remote_by remotes.old.items)
-        (is_remote_by remotes.new.items)) }
+        (AreNamedAlike groups.now.rows numbers.new.items (is_remote_by remotes.old)
+        (is_remote_by remotes.new)) }
 {
-    if place < remotes.len() {
-        let gone = remotes.remove(place);
-        add_remote(numbers, groups, &gone)?;
+    match remotes.take_out(place)? {
+        Some(gone) => add_remote(numbers, groups, &gone),
+        None => Ok(()),
     }
-    Ok(())
 }
 
 // Puts in a remote group at a place, or at the end where the place is past it, and adds its number.
 fn put_in(
-    remotes: &mut Vec<Option<Id>>,
+    remotes: &mut GapList<Option<Id>>,
     numbers: &mut Vec<usize>,
     groups: &Numbers<GroupRow>,
     place: usize,
     remote: &Option<Id>,
 ) -> Result<(), OutOfMemory>
     ensures remotes { OnOk result
-        (remotes.new.items ≡ insert remotes.old.items place remote.now) }
+        (remotes.new ≡ insert remotes.old place remote.now) }
     ensures fewer { OnOk result
         ((n : _) → among nat_lt n numbers.new.items ≡ false
         → among nat_lt n numbers.old.items ≡ false) }
     ensures alike { OnOk result
-        (AreNamedAlike groups.now.rows numbers.new.items (is_remote_by remotes.old.items)
-        (is_remote_by remotes.new.items)) }
+        (AreNamedAlike groups.now.rows numbers.new.items (is_remote_by remotes.old)
+        (is_remote_by remotes.new)) }
 {
     add_remote(numbers, groups, remote)?;
-    put_at(remotes, place, remote)
-}
-
-fn put_at(
-    remotes: &mut Vec<Option<Id>>,
-    place: usize,
-    remote: &Option<Id>,
-) -> Result<(), OutOfMemory>
-    ensures { OnOk result (remotes.new.items ≡ insert remotes.old.items place remote.now) }
-{
-    if place < remotes.len() {
-        remotes.insert(place, *remote)?;
-    } else {
-        remotes.push(*remote)?;
-    }
-    Ok(())
+    remotes.put(place, *remote)
 }
 
 // Puts an edit of filters into their remote groups, and adds the numbers of those that it names.
 fn put_edit(
-    remotes: &mut Vec<Option<Id>>,
+    remotes: &mut GapList<Option<Id>>,
     numbers: &mut Vec<usize>,
     groups: &Numbers<GroupRow>,
     edit: &Edit<FilterRow>,
 ) -> Result<(), OutOfMemory>
-    ensures remotes { OnOk result (remotes.new.items ≡ with_remote remotes.old.items edit.now) }
+    ensures remotes { OnOk result (remotes.new ≡ with_remote remotes.old edit.now) }
     ensures fewer { OnOk result
         ((n : _) → among nat_lt n numbers.new.items ≡ false
         → among nat_lt n numbers.old.items ≡ false) }
     ensures alike { OnOk result
-        (AreNamedAlike groups.now.rows numbers.new.items (is_remote_by remotes.old.items)
-        (is_remote_by remotes.new.items)) }
+        (AreNamedAlike groups.now.rows numbers.new.items (is_remote_by remotes.old)
+        (is_remote_by remotes.new)) }
 {
     if edit.out {
         take_out(remotes, numbers, groups, edit.place)?;
@@ -190,18 +175,18 @@ fn put_edit(
 
 // Puts edits of filters in, one after the other.
 fn put_edits(
-    remotes: &mut Vec<Option<Id>>,
+    remotes: &mut GapList<Option<Id>>,
     numbers: &mut Vec<usize>,
     groups: &Numbers<GroupRow>,
     edits: &[Edit<FilterRow>],
 ) -> Result<(), OutOfMemory>
-    ensures remotes { OnOk result (remotes.new.items ≡ with_remotes remotes.old.items edits.now) }
+    ensures remotes { OnOk result (remotes.new ≡ with_remotes remotes.old edits.now) }
     ensures fewer { OnOk result
         ((n : _) → among nat_lt n numbers.new.items ≡ false
         → among nat_lt n numbers.old.items ≡ false) }
     ensures alike { OnOk result
-        (AreNamedAlike groups.now.rows numbers.new.items (is_remote_by remotes.old.items)
-        (is_remote_by remotes.new.items)) }
+        (AreNamedAlike groups.now.rows numbers.new.items (is_remote_by remotes.old)
+        (is_remote_by remotes.new)) }
 {
     for edit in edits {
         put_edit(remotes, numbers, groups, edit)?;
@@ -216,13 +201,13 @@ fn touched_numbers(
     groups: &Numbers<GroupRow>,
     were: &[&PortRow],
     are: &[&PortRow],
-    remotes: &mut Vec<Option<Id>>,
+    remotes: &mut GapList<Option<Id>>,
     edits: &[Edit<FilterRow>],
 ) -> Result<Vec<usize>, OutOfMemory>
-    ensures remotes { OnOk result (remotes.new.items ≡ with_remotes remotes.old.items edits.now) }
+    ensures remotes { OnOk result (remotes.new ≡ with_remotes remotes.old edits.now) }
     ensures touched { IfOk result
         (λ v. AreTouched groups.now (map (λ p. p.now) were.now) (map (λ p. p.now) are.now)
-        remotes.old.items remotes.new.items v.items) }
+        remotes.old remotes.new v.items) }
 {
     let mut numbers = Vec::new(alloc);
     add_numbers(&mut numbers, groups.named())?;
@@ -348,8 +333,9 @@ pub(crate) fn touched_sets(
     if is_elsewhere(groups.named(), edits, were, are) {
         return Ok(Vec::new(alloc));
     }
-    let mut remotes = remotes_of(alloc, filters)?;
+    let mut remotes = GapList::of(alloc, remotes_of(alloc, filters)?);
     let numbers = touched_numbers(alloc, groups, were, are, &mut remotes, edits)?;
+    let remotes = remotes.close()?;
     sets_at(
         alloc,
         groups,

@@ -3,7 +3,7 @@
 ghost use Rattle.std.specs.Prelude.{◌≡◌, ◌++◌, IfOk, OnOk, map, not};
 ghost use Rattle.std.proofs.lemmas.Map.Keys.{IsDistinct-prop};
 ghost use Rattle.api_types.specs.Parts.{group_of};
-ghost use Rattle.api_types.specs.Table.{HaveOwnIds, ident_eq};
+ghost use Rattle.api_types.specs.Table.{HaveOwnIds, ident_eq, place_of};
 ghost use Rattle.api_types.specs.declared.group.GroupRow.{GroupRow as TheGroup};
 ghost use Rattle.api_types.specs.declared.kind.Kind.TheVariants.{Group as GroupKind};
 ghost use Rattle.plane_types.specs.Edits.{with_edits};
@@ -20,7 +20,7 @@ ghost use Rattle.l2_delta.specs.TouchedSets.{AreSetEdits, going_keys, standing_k
 use crate::named_sets::{NumberedSet, touched_sets};
 use crate::set_keys::{keys_going, keys_standing};
 use crate::touched::{rows_after, rows_before};
-use api_types::{GroupRow, PortRow};
+use api_types::{GroupRow, Id, PortRow};
 use net_addr::{OutOfMemory, Prefix};
 use plane_types::{Edits, FilterRow, SetRow};
 use std::alloc::Global;
@@ -55,10 +55,24 @@ struct SetTable<'t, 'r> {
 }
 
 impl<'t, 'r> SetTable<'t, 'r> {
-    fn key(&self, row: &SetRow) -> Option<(usize, Prefix)>
+    // The number of a group, which may be this one.
+    fn number(&self, group: Id, near: usize) -> Option<usize>
+        ensures { result
+            ≡ place_of (λ (g : TheGroup). g.id) group self.now.groups.now.rows }
+    {
+        if let Some(row) = self.groups.row(near) {
+            if row.id == group {
+                return Some(near);
+            }
+        }
+        self.groups.number(group)
+    }
+
+    // A row's key, the number of which may be this one.
+    fn key(&self, row: &SetRow, near: usize) -> Option<(usize, Prefix)>
         ensures { result ≡ set_key self.now.groups.now.rows row.now }
     {
-        let number = self.groups.number(row.group)?;
+        let number = self.number(row.group, near)?;
         Some((number, row.prefix))
     }
 
@@ -67,7 +81,7 @@ impl<'t, 'r> SetTable<'t, 'r> {
         ensures { result
             ≡ passes (λ k. set_order k key.now) (set_key self.now.groups.now.rows row.now) }
     {
-        match self.key(row) {
+        match self.key(row, key.0) {
             Some(own) => own.is_before(key),
             None => false,
         }
@@ -78,7 +92,7 @@ impl<'t, 'r> SetTable<'t, 'r> {
         ensures { result
             ≡ passes (λ k. not (set_order key.now k)) (set_key self.now.groups.now.rows row.now) }
     {
-        match self.key(row) {
+        match self.key(row, key.0) {
             Some(own) => !key.is_before(&own),
             None => false,
         }

@@ -5,7 +5,8 @@ ghost use Rattle.std.specs.Prelude.{◌≡◌, ◌↔◌, [], IfOk, IsTrue, stri
 use crate::equal::{Copies, Same};
 use crate::memory::OutOfMemory;
 use arrayvec::ArrayString;
-use std::alloc::Global;
+use std::alloc::{AllocError, Global};
+use std::hash::{Hash, Hasher};
 use std::marker::Model;
 
 // Texts of at most this many bytes take no memory of their own: ids, addresses, names of members.
@@ -127,6 +128,32 @@ impl Eq for Text {
     ghost use Rattle.std.proofs.Common.{rules};
 
     ghost laws = { Prim.search (comparing, rules) };
+}
+
+impl Hash for Text {
+    ghost use Rattle.std.specs.Cmp.Rules.{hashing};
+    ghost use Rattle.std.specs.Hash as fed;
+    ghost use Rattle.std.proofs.Common.{rules};
+
+    ghost hash_input = { fed.str };
+
+    ghost respects_eq = { Prim.search (hashing, rules) };
+
+    fn hash<H: Hasher>(&self, state: &mut H) {
+        self.as_str().hash(state);
+    }
+}
+
+impl Clone for Text {
+    ghost is_clone = { λ text copied. copied ≡ text };
+
+    fn clone(&self) -> Result<Text, AllocError> {
+        let place = match &self.place {
+            Place::Inline(text) => Place::Inline(text.clone()?),
+            Place::Apart(text) => Place::Apart(text.clone()?),
+        };
+        Ok(Text { place })
+    }
 }
 
 /// Bytes. Contracts see them as a list.

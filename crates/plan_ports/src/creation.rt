@@ -18,7 +18,7 @@ ghost use Rattle.plan_ports.specs.PortCalls.{port_created, port_made, port_shown
 
 use crate::checks::{ensure_body_valid, ensure_creatable};
 use crate::row::{Chosen, Placed, new_port};
-use crate::supply::{Supply, expected_mac, first_supply, mac_for};
+use crate::supply::{FirstSupply, Supply, first_supply};
 use api_ipam::first_addresses;
 use api_policy::network_seen;
 use api_types::{FixedList, Kind, NetworkRow, PortForm, PortRow, Refusal};
@@ -67,8 +67,8 @@ fn choose(
         owner.now)) }
 {
     let rows = asking.rows();
-    let mac = mac_for(rows.ports().rows(), network.id, &form.mac_address);
-    let supply = first_supply(alloc, rows, network.id, expected_mac(&mac))?;
+    let first = first_supply(alloc, rows, network.id, &form.mac_address)?;
+    let FirstSupply { mac, supply } = first;
     ensure_creatable(alloc, asking, form, network, owner, &supply)?;
     let fixed = addresses_at_first(alloc, supply, form, network)?;
     match &mac {

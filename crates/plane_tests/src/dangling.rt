@@ -4,20 +4,57 @@ use fabric_run::send;
 use net_addr::{Addr4, OutOfMemory, Seq, Text};
 use plane_types::{
     Ascending, BridgeKey, BridgeRow, BridgeTo, DropCause, Ends, Event, Frame, KeyPart, Outcome,
-    TableLists, TagRow, TapRow,
+    TableLists, TagRow, Tags, TapRow,
 };
 use std::alloc::Global;
 use std::test::Fail;
 use test_rows::{id, mac};
 
-// Tables without rows.
-fn empty(alloc: Global) -> TableLists {
+fn tags(alloc: Global) -> Result<Tags, OutOfMemory> {
+    let mut tags = Seq::new(alloc);
+    tags.push(TagRow {
+        network: id(10),
+        tag: 1,
+        wire: None,
+    })?;
+    Ok(tags)
+}
+
+fn taps(alloc: Global) -> Result<Seq<TapRow>, OutOfMemory> {
+    let mut taps = Seq::new(alloc);
+    taps.push(TapRow {
+        port: id(5),
+        tag: 1,
+        mac: mac(5),
+        secured: false,
+        allowed: Seq::new(alloc),
+    })?;
+    Ok(taps)
+}
+
+fn bridge(alloc: Global, to: BridgeTo) -> Result<Ascending<BridgeRow>, OutOfMemory> {
+    let mut bridge = Ascending::new(alloc);
+    bridge.insert(BridgeRow {
+        tag: 1,
+        key: BridgeKey::Mac(mac(6)),
+        to,
+    })?;
+    Ok(bridge)
+}
+
+// These tables, and no rows in the others.
+fn tables(
+    alloc: Global,
+    tags: Tags,
+    taps: Seq<TapRow>,
+    bridge: Ascending<BridgeRow>,
+) -> TableLists {
     TableLists {
-        tags: Seq::new(alloc),
-        taps: Seq::new(alloc),
+        tags,
+        taps,
         filters: Seq::new(alloc),
         sets: Seq::new(alloc),
-        bridge: Ascending::new(alloc),
+        bridge,
         inward: Seq::new(alloc),
         neighbours: Ascending::new(alloc),
         routers: Seq::new(alloc),
@@ -27,27 +64,22 @@ fn empty(alloc: Global) -> TableLists {
     }
 }
 
+// Tables without rows.
+fn empty(alloc: Global) -> TableLists {
+    tables(
+        alloc,
+        Seq::new(alloc),
+        Seq::new(alloc),
+        Ascending::new(alloc),
+    )
+}
+
 // An instance that isn't filtered, on a network where one more MAC leads to this.
 fn host(alloc: Global, to: BridgeTo) -> Result<TableLists, OutOfMemory> {
-    let mut tables = empty(alloc);
-    tables.bridge.insert(BridgeRow {
-        tag: 1,
-        key: BridgeKey::Mac(mac(6)),
-        to,
-    })?;
-    tables.tags.push(TagRow {
-        network: id(10),
-        tag: 1,
-        wire: None,
-    })?;
-    tables.taps.push(TapRow {
-        port: id(5),
-        tag: 1,
-        mac: mac(5),
-        secured: false,
-        allowed: Seq::new(alloc),
-    })?;
-    Ok(tables)
+    let bridge = bridge(alloc, to)?;
+    let tags = tags(alloc)?;
+    let taps = taps(alloc)?;
+    Ok(tables(alloc, tags, taps, bridge))
 }
 
 // Whether a packet to that MAC is dropped since nobody has it.
@@ -69,9 +101,11 @@ fn is_unknown(alloc: Global, lab: &Lab) -> Result<bool, OutOfMemory> {
     })
 }
 
-fn lab(alloc: Global, to: BridgeTo) -> Result<Lab, Fail> {
+fn leads_nowhere(alloc: Global, to: BridgeTo) -> Result<bool, Fail> {
+    let second = Node::make(alloc, "c3", empty(alloc))?;
     let first = Node::make(alloc, "c1", host(alloc, to)?)?;
-    Lab::make(first, Node::make(alloc, "c3", empty(alloc))?)
+    let lab = Lab::make(first, second)?;
+    Ok(is_unknown(alloc, &lab)?)
 }
 
 #[test]
@@ -81,11 +115,11 @@ fn dangling_rows_lead_nowhere(rt: HostRuntime) -> Result<(), Fail> {
         host: Text::of(alloc, "c2")?,
         number: 1,
     };
-    assert!(rt; is_unknown(alloc, &lab(alloc, tunnel)?)?);
+    assert!(rt; leads_nowhere(alloc, tunnel)?);
     let router = BridgeTo::Router {
         router: id(50),
         port: id(52),
     };
-    assert!(rt; is_unknown(alloc, &lab(alloc, router)?)?);
+    assert!(rt; leads_nowhere(alloc, router)?);
     Ok(())
 }

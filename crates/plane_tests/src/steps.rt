@@ -3,9 +3,7 @@
 use crate::wired::{INNER, add_vxlan};
 use agent_node::{AgentNode, Rewire};
 use api_check::first_broken;
-use api_types::{
-    Change, Direction, Ethertype, FitsRows, Item, Kind, NetworkRow, PortRow, Row, Rows, RuleRow,
-};
+use api_types::{Change, Direction, Ethertype, FitsRows, Item, Kind, PortRow, Row, Rows, RuleRow};
 use net_addr::{Copies, OutOfMemory, Seq, Text};
 use net_settings::default_settings;
 use plane_types::{Delta, Edits};
@@ -63,7 +61,11 @@ fn three_members(alloc: Global) -> Result<Rows, OutOfMemory> {
     Ok(rows)
 }
 
-// How many of these edits take a row out, and how many put one in.
+// How many edits of each table take a row out, and how many put one in, in the order of the rows of
+// `TableLists`.
+type Counts = [(usize, usize); 11];
+
+// The same of one table.
 fn count<T>(edits: &Edits<T>) -> (usize, usize) {
     let out = edits.as_slice().iter().filter(|edit| edit.out).count();
     let put = edits
@@ -74,8 +76,7 @@ fn count<T>(edits: &Edits<T>) -> (usize, usize) {
     (out, put)
 }
 
-// The same for each table, in the order of the rows of `TableLists`.
-fn count_all(delta: &Delta) -> [(usize, usize); 11] {
+fn count_all(delta: &Delta) -> Counts {
     let l2 = &delta.l2;
     let l3 = &delta.l3;
     [
@@ -129,46 +130,41 @@ fn fourth_member(alloc: Global) -> Result<Change, OutOfMemory> {
     Ok(change)
 }
 
-// At its host the port is written once in the taps, the sets, the bridge and the neighbours, and for
-// each rule in the filters. Another host has no port of the network, and writes nothing.
+// What a change writes in each table of a host with the three ports.
+fn written(alloc: Global, host: &str, change: &Change) -> Result<Counts, Fail> {
+    let mut node = node_of(alloc, host)?;
+    let rewire = prepare(alloc, &mut node, change)?;
+    Ok(count_all(&rewire.delta))
+}
+
+const NONE: (usize, usize) = (0, 0);
+
+const ONE: (usize, usize) = (0, 1);
+
+const FOUR: (usize, usize) = (0, 4);
+
+// The port in the taps, the sets, the bridge and the neighbours, and each rule of it in the
+// filters.
+const PORT_MORE: Counts = [NONE, ONE, FOUR, ONE, ONE, NONE, ONE, NONE, NONE, NONE, NONE];
+
+// Another host has no port of the network, and writes nothing.
 #[test]
 fn port_more(rt: HostRuntime) -> Result<(), Fail> {
     let alloc = rt.alloc();
     let change = fourth_member(alloc)?;
-    let mut here = node_of(alloc, "c1")?;
-    let rewire = prepare(alloc, &mut here, &change)?;
-    let none = (0, 0);
-    let one = (0, 1);
-    let written = [
-        none,
-        one,
-        (0, 4),
-        one,
-        one,
-        none,
-        one,
-        none,
-        none,
-        none,
-        none,
-    ];
-    assert!(rt; count_all(&rewire.delta) == written);
-    let mut there = node_of(alloc, "c2")?;
-    let rewire = prepare(alloc, &mut there, &change)?;
-    assert!(rt; count_all(&rewire.delta) == [none; 11]);
+    assert!(rt; written(alloc, "c1", &change)? == PORT_MORE);
+    assert!(rt; written(alloc, "c2", &change)? == [NONE; 11]);
     Ok(())
 }
 
 // The network with another name.
-fn renaming(alloc: Global, rows: &Rows) -> Result<Change, Fail> {
+fn renaming(alloc: Global) -> Result<Change, Fail> {
+    let rows = three_members(alloc)?;
     let Some(old) = rows.networks().get(id(10)) else {
         return Err(Fail::new("a network"));
     };
-    let name = Text::of(alloc, "other")?;
-    let new = NetworkRow {
-        name,
-        ..old.copy(alloc)?
-    };
+    let mut new = old.copy(alloc)?;
+    new.name = Text::of(alloc, "other")?;
     let mut change = Seq::new(alloc);
     change.push(Item {
         kind: Kind::Network,
@@ -183,9 +179,7 @@ fn renaming(alloc: Global, rows: &Rows) -> Result<Change, Fail> {
 #[test]
 fn network_renamed(rt: HostRuntime) -> Result<(), Fail> {
     let alloc = rt.alloc();
-    let mut here = node_of(alloc, "c1")?;
-    let change = renaming(alloc, here.rows())?;
-    let rewire = prepare(alloc, &mut here, &change)?;
-    assert!(rt; count_all(&rewire.delta) == [(0, 0); 11]);
+    let change = renaming(alloc)?;
+    assert!(rt; written(alloc, "c1", &change)? == [NONE; 11]);
     Ok(())
 }

@@ -1,12 +1,12 @@
-//! Tags that a host gave before: the last one, which more networks would take than there may be, and
-//! none for a network with a live port.
+//! Tags that a host gave before: the last one, which more networks would take than there may be,
+//! and none for a network with a live port.
 use crate::wired::{INNER, add_vxlan, tags};
 use api_types::{Row, Rows};
 use dhcp_agent::wire_leases;
 use l2_agent::wire_ports;
-use l3_agent::wire_routers;
+use l3_agent::{L3Tables, wire_routers};
 use net_addr::{OutOfMemory, Text};
-use plane_types::TagRow;
+use plane_types::{TagRow, Tags};
 use std::alloc::Global;
 use std::test::Fail;
 use test_rows::{add, bound_port, held, id, prefix, router, service_port, subnet};
@@ -24,8 +24,23 @@ fn two_networks(alloc: Global) -> Result<Rows, OutOfMemory> {
     Ok(rows)
 }
 
+// The tags that c1 gives networks, whose tags were these.
+fn tags_at(alloc: Global, rows: &Rows, given: &[(u8, u16)]) -> Result<Tags, OutOfMemory> {
+    let host = Text::of(alloc, "c1")?;
+    let given = tags(alloc, given)?;
+    Ok(wire_ports(alloc, rows, &host, &given)?.tags)
+}
+
 fn is_tag(row: &TagRow, network: u8, tag: u16) -> bool {
     row.network == id(network) && row.tag == tag
+}
+
+// Whether the first network has the first tag, and the other the last one.
+fn are_first_and_last(tags: &Tags) -> bool {
+    match tags.as_slice() {
+        [first, last] => is_tag(first, 10, 1) && is_tag(last, 13, 4094),
+        _ => false,
+    }
 }
 
 // A network keeps the last tag, and a new one takes the first.
@@ -33,12 +48,8 @@ fn is_tag(row: &TagRow, network: u8, tag: u16) -> bool {
 fn the_last_tag(rt: HostRuntime) -> Result<(), Fail> {
     let alloc = rt.alloc();
     let rows = two_networks(alloc)?;
-    let host = Text::of(alloc, "c1")?;
-    let tables = wire_ports(alloc, &rows, &host, &tags(alloc, &[(13, 4094)])?)?;
-    let [first, last] = tables.tags.as_slice() else {
-        return Err(Fail::new("two tags"));
-    };
-    assert!(rt; is_tag(first, 10, 1) && is_tag(last, 13, 4094));
+    let tags = tags_at(alloc, &rows, &[(13, 4094)])?;
+    assert!(rt; are_first_and_last(&tags));
     Ok(())
 }
 
@@ -55,16 +66,19 @@ fn leased(alloc: Global) -> Result<Rows, OutOfMemory> {
     Ok(rows)
 }
 
+fn count_leases(alloc: Global, rows: &Rows, given: &[(u8, u16)]) -> Result<usize, OutOfMemory> {
+    let host = Text::of(alloc, "c1")?;
+    let given = tags(alloc, given)?;
+    Ok(wire_leases(alloc, rows, &host, &given)?.len())
+}
+
 // A network without a tag has no leases, though its DHCP port is there.
 #[test]
 fn untagged_leases(rt: HostRuntime) -> Result<(), Fail> {
     let alloc = rt.alloc();
     let rows = leased(alloc)?;
-    let host = Text::of(alloc, "c1")?;
-    let leases = wire_leases(alloc, &rows, &host, &tags(alloc, &[(11, 2)])?)?;
-    assert!(rt; leases.is_empty());
-    let leases = wire_leases(alloc, &rows, &host, &tags(alloc, &[(10, 1)])?)?;
-    assert!(rt; leases.len() == 2);
+    assert_eq!(rt; count_leases(alloc, &rows, &[(11, 2)])?, 0);
+    assert_eq!(rt; count_leases(alloc, &rows, &[(10, 1)])?, 2);
     Ok(())
 }
 
@@ -82,21 +96,31 @@ fn routed(alloc: Global) -> Result<Rows, OutOfMemory> {
     Ok(rows)
 }
 
+// How many ports and routes the one router has.
+fn count_router(tables: &L3Tables) -> Option<(usize, usize)> {
+    match tables.routers.as_slice() {
+        [row] => Some((row.ports.len(), tables.routes.len())),
+        _ => None,
+    }
+}
+
+fn router_at(
+    alloc: Global,
+    rows: &Rows,
+    given: &[(u8, u16)],
+) -> Result<Option<(usize, usize)>, OutOfMemory> {
+    let host = Text::of(alloc, "c1")?;
+    let given = tags(alloc, given)?;
+    let tables = wire_routers(alloc, rows, &host, &given)?;
+    Ok(count_router(&tables))
+}
+
 // A router's port without a tag has no row, and its routes have.
 #[test]
 fn untagged_router(rt: HostRuntime) -> Result<(), Fail> {
     let alloc = rt.alloc();
     let rows = routed(alloc)?;
-    let host = Text::of(alloc, "c1")?;
-    let tables = wire_routers(alloc, &rows, &host, &tags(alloc, &[(11, 2)])?)?;
-    let [row] = tables.routers.as_slice() else {
-        return Err(Fail::new("one router"));
-    };
-    assert!(rt; row.ports.is_empty() && tables.routes.len() == 1);
-    let tables = wire_routers(alloc, &rows, &host, &tags(alloc, &[(10, 1)])?)?;
-    let [row] = tables.routers.as_slice() else {
-        return Err(Fail::new("one router"));
-    };
-    assert!(rt; row.ports.len() == 1 && tables.routes.len() == 1);
+    assert!(rt; router_at(alloc, &rows, &[(11, 2)])? == Some((0, 1)));
+    assert!(rt; router_at(alloc, &rows, &[(10, 1)])? == Some((1, 1)));
     Ok(())
 }

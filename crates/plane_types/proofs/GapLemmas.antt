@@ -29,14 +29,14 @@ module _ {X : Type 0} where
   set_front (x ∷ xs) ys (suc place) y h =
       ap (λ l. x ∷ l) (set_front xs ys place y (omega (arith, h)))
 
-  -- with nothing behind the first part
+  -- with nothing after the first part
   alone : (f : List X → List X) (xs back : List X) → back ≡ []
       → f xs ++ reverse back ≡ f (xs ++ reverse back)
   alone f xs back none =
       (λ j. f xs ++ reverse (none j)) ∙ append-nil (f xs) ∙ ap f (sym (append-nil xs))
       ∙ (λ j. f (xs ++ reverse (sym none j)))
 
-  -- the edits, where the first part reaches over the place or nothing is behind it
+  -- the edits, where the first part reaches over the place or nothing is after it
   pub inserted : (xs back all : List X) (place : ℕ) (y : X)
       → (length xs < place → back ≡ []) → xs ++ reverse back ≡ all
       → insert xs place y ++ reverse back ≡ insert all place y

@@ -122,18 +122,26 @@ impl Delta {
     }
 }
 
-// For how many rows room aside is wanted: all from the least place of an edit on, where so many
-// edits move rows one after the other that it costs less to move these aside and back once.
+// For how many rows room aside is wanted: all from the least place of an edit on, and those that
+// edits put in, where so many edits move rows one after the other that it costs less to move these
+// aside and back once.
 fn rows_aside<R: Drop>(edits: &Edits<R>, len: usize) -> usize {
+    let mut rows = len;
     let mut least = len;
     let mut moves: usize = 0;
     for edit in edits.as_slice() {
         least = least.min(edit.place);
-        moves = moves.saturating_add(len.saturating_sub(edit.place));
+        moves = moves.saturating_add(rows.saturating_sub(edit.place));
+        if edit.out {
+            rows = rows.saturating_sub(1);
+        }
+        if edit.put.is_some() {
+            rows = rows.saturating_add(1);
+        }
     }
-    let tail = len.saturating_sub(least);
-    if moves > tail.saturating_mul(MOVES_ASIDE) {
-        tail.saturating_add(edits.len())
+    let aside = len.saturating_sub(least).saturating_add(edits.len());
+    if moves > aside.saturating_mul(MOVES_ASIDE) {
+        aside
     } else {
         0
     }

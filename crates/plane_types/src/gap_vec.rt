@@ -76,7 +76,7 @@ fn wind<T: Drop>(front: &mut SpareVec<T>, back: &mut Vec<T>)
     }
 }
 
-// Moves the gap behind so many items, if there is room aside. No item before the gap is lost.
+// Moves the gap after so many items, if there is room aside. No item before the gap is lost.
 fn move_gap<T: Drop>(front: &mut SpareVec<T>, back: &mut Vec<T>, least: usize)
     requires { length back.old.items ≤ front.old.spare }
     ensures items { front.new.items ++ reverse back.new.items

@@ -1,85 +1,43 @@
-//! A run over a desk in memory, and what it comes to. One function owns the desk and both ends of
-//! the input and the output, since each that does is long to prove.
-ghost use Rattle.std.specs.Prelude.{◌<◌, IfOk, IsTrue};
-ghost use Rattle.keeper_core.specs.Desk.{IsNoneOut, failing_told, fresh_ends};
+//! A run over a desk in memory, and what it comes to. What a function owns is dropped at each of
+//! its exits, which is long to prove. So all that a run needs is made in one function, the desk
+//! last, and then owned as one value.
+ghost use Rattle.std.specs.Prelude.{◌<◌, IfOk};
+ghost use Rattle.keeper_core.specs.Desk.{IsNoneOut, failing_told};
 
-use keeper_core::{
-    DeskAsk, EndsList, MemoryDesk, MemorySink, MemorySource, Named, NamedBytes, Source,
-};
-use net_addr::{Bytes, Numbers, OutOfMemory, Seq, Text};
+use crate::desk::{Connection, bytes, make_desk, numbers};
+use crate::requests::joined;
+use keeper_core::{DeskAsk, MemoryDesk, MemorySink, MemorySource, Source};
+use net_addr::{OutOfMemory, Text};
 use neutron_serve::run;
 use std::alloc::Global;
 
-fn texts(alloc: Global, words: &[&str]) -> Result<Vec<Text>, OutOfMemory> {
-    let mut texts = Vec::new(alloc);
-    for word in words {
-        texts.push(Text::of(alloc, word)?)?;
+/// The numbers of the calls that fail, counted from 1: of the desk, of its stores, reads, and
+/// writes and flushes.
+pub(crate) type Failing = [&'static [u64]; 4];
+
+/// No call fails.
+pub(crate) const NOTHING: Failing = [&[], &[], &[], &[]];
+
+// What a run needs.
+struct Outside {
+    words: Vec<Text>,
+    input: MemorySource,
+    output: MemorySink,
+    desk: MemoryDesk,
+}
+
+impl Drop for Outside {
+    fn drop(self) {
+        let Outside {
+            words: _,
+            input: _,
+            output: _,
+            desk: _,
+        } = self;
     }
-    Ok(texts)
-}
-
-fn bytes(alloc: Global, bytes: &[u8]) -> Result<Bytes, OutOfMemory> {
-    Ok(Bytes::from_vec(Vec::from_slice(alloc, bytes)?))
-}
-
-fn numbers(alloc: Global, list: &[u64]) -> Result<Numbers, OutOfMemory> {
-    let mut numbers = Seq::new(alloc);
-    for number in list {
-        numbers.push(*number)?;
-    }
-    Ok(numbers)
-}
-
-fn files(alloc: Global) -> Result<NamedBytes, OutOfMemory> {
-    let mut files = Seq::new(alloc);
-    for (name, text) in [("good", "vxlan_first = 7\n"), ("bad", "vxlan_first = 0\n")] {
-        files.push(Named {
-            name: Text::of(alloc, name)?,
-            value: bytes(alloc, text.as_bytes())?,
-        })?;
-    }
-    Ok(files)
-}
-
-// A desk with two files of settings, and these connections to come, which fails in these calls, and
-// whose stores fail in those.
-fn desk(
-    alloc: Global,
-    ends: EndsList,
-    failing: &[u64],
-    store_failing: &[u64],
-) -> Result<MemoryDesk, OutOfMemory>
-    requires { IsTrue (fresh_ends ends) }
-    ensures { IfOk result (λ desk. IsNoneOut (failing_told desk)) }
-{
-    let files = files(alloc)?;
-    let failing = numbers(alloc, failing)?;
-    let store_failing = numbers(alloc, store_failing)?;
-    MemoryDesk::make(alloc, files, Seq::new(alloc), ends, failing, store_failing)
-}
-
-/// Three connections with these requests, of which one read gives seven bytes. These reads of the
-/// first fail.
-pub(crate) fn connections(
-    alloc: Global,
-    requests: [&[u8]; 3],
-    cut: &[u64],
-) -> Result<EndsList, OutOfMemory>
-    ensures { IfOk result (λ ends. IsTrue (fresh_ends ends)) }
-{
-    let [first, second, third] = requests;
-    let mut ends = Seq::new(alloc);
-    let first = MemorySource::make(bytes(alloc, first)?, 7, numbers(alloc, cut)?);
-    ends.push((first, MemorySink::make(alloc, Seq::new(alloc))))?;
-    let second = MemorySource::make(bytes(alloc, second)?, 7, Seq::new(alloc));
-    ends.push((second, MemorySink::make(alloc, Seq::new(alloc))))?;
-    let third = MemorySource::make(bytes(alloc, third)?, 7, Seq::new(alloc));
-    ends.push((third, MemorySink::make(alloc, Seq::new(alloc))))?;
-    Ok(ends)
 }
 
 /// What a run comes to.
-#[derive(Drop)]
 pub(crate) struct Outcome {
     pub(crate) status: u8,
     pub(crate) written: Vec<u8>,
@@ -89,6 +47,52 @@ pub(crate) struct Outcome {
     pub(crate) left: usize,
     /// What was written to each connection that was handed back.
     pub(crate) replies: Vec<Vec<u8>>,
+}
+
+impl Drop for Outcome {
+    fn drop(self) {
+        let Outcome {
+            status: _,
+            written: _,
+            asks: _,
+            left: _,
+            replies: _,
+        } = self;
+    }
+}
+
+fn texts(alloc: Global, words: &[&str]) -> Result<Vec<Text>, OutOfMemory> {
+    let mut texts = Vec::new(alloc);
+    for word in words {
+        texts.push(Text::of(alloc, word)?)?;
+    }
+    Ok(texts)
+}
+
+// What a run with these arguments needs, over requests of which one read gives this many bytes.
+fn set_up(
+    alloc: Global,
+    words: &[&str],
+    failing: Failing,
+    connections: &[Connection],
+    requests: &[u8],
+    piece: usize,
+) -> Result<Outside, OutOfMemory>
+    requires { 0 < piece }
+    ensures { IfOk result (λ outside. IsNoneOut (failing_told outside.desk)) }
+{
+    let [calls, stores, reads, writes] = failing;
+    let words = texts(alloc, words)?;
+    let output = MemorySink::make(alloc, numbers(alloc, writes)?);
+    let reads = numbers(alloc, reads)?;
+    let input = MemorySource::make(bytes(alloc, requests)?, piece, reads);
+    let desk = make_desk(alloc, connections, calls, stores)?;
+    Ok(Outside {
+        words,
+        input,
+        output,
+        desk,
+    })
 }
 
 fn name_of(ask: &DeskAsk) -> &'static str {
@@ -131,20 +135,18 @@ fn replies_of(
     Ok(replies)
 }
 
-fn outcome_of(
-    alloc: Global,
-    status: u8,
-    desk: &MemoryDesk,
-    input: &mut MemorySource,
-    output: &MemorySink,
-) -> Result<Outcome, OutOfMemory> {
-    let left = left(input);
-    let written = Vec::from_slice(alloc, output.as_slice())?;
-    let asks = names_of(alloc, desk.asks())?;
-    let replies = match desk.ended() {
-        Some(ended) => replies_of(alloc, ended)?,
-        None => Vec::new(alloc),
-    };
+fn replies_at(alloc: Global, desk: &MemoryDesk) -> Result<Vec<Vec<u8>>, OutOfMemory> {
+    match desk.ended() {
+        Some(ended) => replies_of(alloc, ended),
+        None => Ok(Vec::new(alloc)),
+    }
+}
+
+fn outcome_of(alloc: Global, status: u8, outside: &mut Outside) -> Result<Outcome, OutOfMemory> {
+    let left = left(&mut outside.input);
+    let written = Vec::from_slice(alloc, outside.output.as_slice())?;
+    let asks = names_of(alloc, outside.desk.asks())?;
+    let replies = replies_at(alloc, &outside.desk)?;
     Ok(Outcome {
         status,
         written,
@@ -155,37 +157,55 @@ fn outcome_of(
 }
 
 /// A run with these arguments over requests of which one read gives this many bytes, at a desk with
-/// these connections to come. These calls fail: of the desk, of its stores, reads, and writes and
-/// flushes.
+/// these connections to come.
 pub(crate) fn run_over(
     alloc: Global,
     words: &[&str],
-    failing: [&[u64]; 4],
-    ends: EndsList,
+    failing: Failing,
+    connections: &[Connection],
     requests: &[u8],
     piece: usize,
 ) -> Result<Outcome, OutOfMemory>
-    requires piece { 0 < piece }
-    requires ends { IsTrue (fresh_ends ends) }
+    requires { 0 < piece }
 {
-    let [calls, store, reads, writes] = failing;
-    let mut desk = desk(alloc, ends, calls, store)?;
-    let words = texts(alloc, words)?;
-    let mut input = MemorySource::make(bytes(alloc, requests)?, piece, numbers(alloc, reads)?);
-    let mut output = MemorySink::make(alloc, numbers(alloc, writes)?);
-    let status = run(alloc, words.as_slice(), &mut desk, &mut input, &mut output);
-    outcome_of(alloc, status, &desk, &mut input, &output)
+    let mut outside = set_up(alloc, words, failing, connections, requests, piece)?;
+    let status = run(
+        alloc,
+        outside.words.as_slice(),
+        &mut outside.desk,
+        &mut outside.input,
+        &mut outside.output,
+    );
+    outcome_of(alloc, status, &mut outside)
 }
 
 /// The same at a desk without connections.
 pub(crate) fn run_alone(
     alloc: Global,
     words: &[&str],
-    failing: [&[u64]; 4],
+    failing: Failing,
     requests: &[u8],
     piece: usize,
 ) -> Result<Outcome, OutOfMemory>
     requires { 0 < piece }
 {
-    run_over(alloc, words, failing, Seq::new(alloc), requests, piece)
+    run_over(alloc, words, failing, &[], requests, piece)
+}
+
+/// Whether such a run has this status, and writes these replies.
+pub(crate) fn comes_to(
+    alloc: Global,
+    words: &[&str],
+    failing: Failing,
+    requests: &[&[u8]],
+    piece: usize,
+    status: u8,
+    replies: &[&[u8]],
+) -> Result<bool, OutOfMemory>
+    requires { 0 < piece }
+{
+    let requests = joined(alloc, requests)?;
+    let replies = joined(alloc, replies)?;
+    let outcome = run_alone(alloc, words, failing, requests.as_slice(), piece)?;
+    Ok(outcome.status == status && outcome.written.as_slice() == replies.as_slice())
 }

@@ -1,8 +1,8 @@
 //! Runs that serve connections.
-ghost use Rattle.std.specs.Prelude.{◌<◌};
 
-use crate::fails::{MADE, MAKE};
-use crate::outcome::{Outcome, connections, run_alone, run_over};
+use crate::desk::Connection;
+use crate::outcome::{NOTHING, Outcome, run_over};
+use crate::requests::{MADE, MAKE};
 use net_addr::OutOfMemory;
 use std::alloc::Global;
 use std::test::Fail;
@@ -18,72 +18,71 @@ const SHOWN: &[u8] =
         \"router:external\":false,\"shared\":false,\"status\":\"ACTIVE\",\"subnets\":[],\
         \"tenant_id\":\"a\"}}";
 
-// Arguments, the reads of the first connection that fail, what the desk is asked for, and what is
-// written to the connections. The first makes a network, and two more show it.
-type Case = (
-    &'static [&'static str],
-    &'static [u64],
-    &'static str,
-    &'static [&'static [u8]],
-);
+// Arguments, the connections to come, what the desk is asked for, and what is written to the
+// connections.
+struct Case {
+    name: &'static str,
+    words: &'static [&'static str],
+    connections: &'static [Connection],
+    asks: &'static str,
+    replies: &'static [&'static [u8]],
+}
 
-const CASES: [Case; 3] = [
-    // Two connections, one after the other, over one world. The third isn't asked for.
-    (
-        &["serve", "--listen", "x", "--connections", "2"],
-        &[],
-        "rows listen next next",
-        &[MADE, SHOWN],
-    ),
-    // None is left: that is asked, and told.
-    (
-        &["serve", "--listen", "x", "--connections", "9"],
-        &[],
-        "rows listen next next next next",
-        &[MADE, SHOWN, SHOWN],
-    ),
-    // A failing read ends its connection alone: the request before it, which 14 reads of 7 bytes
-    // give, is answered, and the next connection is served over what it made.
-    (
-        &["serve", "--listen=x", "--connections=2"],
-        &[15],
-        "rows listen next next",
-        &[MADE, SHOWN],
-    ),
+const CASES: [Case; 4] = [
+    Case {
+        name: "two connections over one world; the third isn't asked for",
+        words: &["serve", "--listen", "x", "--connections", "2"],
+        connections: &[(MAKE, &[]), (SHOW, &[]), (SHOW, &[])],
+        asks: "rows listen next next",
+        replies: &[MADE, SHOWN],
+    },
+    Case {
+        name: "none is left: that is asked, and told",
+        words: &["serve", "--listen", "x", "--connections", "9"],
+        connections: &[(MAKE, &[]), (SHOW, &[]), (SHOW, &[])],
+        asks: "rows listen next next next next",
+        replies: &[MADE, SHOWN, SHOWN],
+    },
+    // The request before it, which 14 reads of 7 bytes give, is answered, and the next connection
+    // is served over what it made.
+    Case {
+        name: "a failing read ends its connection alone",
+        words: &["serve", "--listen=x", "--connections=2"],
+        connections: &[(MAKE, &[15]), (SHOW, &[]), (SHOW, &[])],
+        asks: "rows listen next next",
+        replies: &[MADE, SHOWN],
+    },
+    Case {
+        name: "no connection; listening comes after the store",
+        words: &["serve", "--listen=x", "--connections=1"],
+        connections: &[],
+        asks: "rows listen next",
+        replies: &[],
+    },
 ];
 
-// Whether this was written to the connections, and neither the input was read nor the output
-// written.
-fn are_served(outcome: &Outcome, asks: &str, wanted: &[&[u8]]) -> bool {
+// Whether the connections were served as the case says, and neither was the input read nor the
+// output written.
+fn is_served(outcome: &Outcome, case: &Case) -> bool {
     let replies = outcome.replies.iter().map(|reply| reply.as_slice());
     outcome.status == 0
-        && outcome.asks.as_str() == asks
-        && replies.eq(wanted.iter().copied())
+        && outcome.asks.as_str() == case.asks
+        && replies.eq(case.replies.iter().copied())
         && outcome.written.is_empty()
         && outcome.left == MAKE.len()
 }
 
-fn is_as_wanted(alloc: Global, case: &Case) -> Result<bool, OutOfMemory> {
-    let (words, cut, asks, wanted) = *case;
-    let ends = connections(alloc, [MAKE, SHOW, SHOW], cut)?;
-    let outcome = run_over(alloc, words, [&[], &[], &[], &[]], ends, MAKE, 100_000)?;
-    Ok(are_served(&outcome, asks, wanted))
+fn serves(alloc: Global, case: &Case) -> Result<bool, OutOfMemory> {
+    let connections = case.connections;
+    let outcome = run_over(alloc, case.words, NOTHING, connections, MAKE, 100_000)?;
+    Ok(is_served(&outcome, case))
 }
 
 #[test]
-fn serves(rt: HostRuntime) -> Result<(), Fail> {
+fn connections_are_served(rt: HostRuntime) -> Result<(), Fail> {
     let alloc = rt.alloc();
     for case in &CASES {
-        let wanted = is_as_wanted(alloc, case)?;
-        assert!(rt; wanted);
+        assert!(rt; serves(alloc, case)?, "{}", case.name);
     }
-    Ok(())
-}
-
-#[test]
-fn listens_after_the_store(rt: HostRuntime) -> Result<(), Fail> {
-    let words = ["serve", "--listen=x", "--connections=1"];
-    let outcome = run_alone(rt.alloc(), &words, [&[], &[], &[], &[]], MAKE, 100_000)?;
-    assert!(rt; are_served(&outcome, "rows listen next", &[]));
     Ok(())
 }

@@ -1,6 +1,6 @@
 //! A change that the store fails to keep leaves rows, version, tables and entries as they were.
-use crate::fails::{NOT_KEPT, joined};
-use crate::outcome::{Outcome, run_alone};
+use crate::outcome::{Failing, Outcome, run_alone};
+use crate::requests::{NOT_KEPT, joined};
 use net_addr::OutOfMemory;
 use std::alloc::Global;
 use std::test::Fail;
@@ -60,40 +60,39 @@ const SEEN: &[&[u8]] = &[MAKES, SEND, LOOK, SEND];
 
 const SEEN_AGAIN: &[&[u8]] = &[MAKES, SEND, LOOK, SEND, DELETE, LOOK, SEND];
 
-// What a session over these requests writes where the store fails in its fifth call, which is that
-// of the fourth change.
-fn replies(alloc: Global, requests: &[&[u8]]) -> Result<Vec<u8>, OutOfMemory> {
+// A session over these requests where the store fails in its fifth call, which is that of the
+// fourth change.
+fn run_session(alloc: Global, requests: &[&[u8]]) -> Result<Outcome, OutOfMemory> {
     let requests = joined(alloc, requests)?;
-    let failing: [&[u64]; 4] = [&[], &[5], &[], &[]];
-    let outcome = run_alone(alloc, &["session"], failing, requests.as_slice(), 100_000)?;
-    let Outcome { written, .. } = outcome;
-    Ok(written)
+    let failing: Failing = [&[], &[5], &[], &[]];
+    run_alone(alloc, &["session"], failing, requests.as_slice(), 100_000)
 }
 
 // Whether what is seen after the first replies is as wanted, and is seen again after a change that
 // isn't kept.
 fn is_unchanged(
     alloc: Global,
-    first: &[u8],
-    seen: &[u8],
-    again: &[u8],
+    first: &Outcome,
+    seen: &Outcome,
+    again: &Outcome,
 ) -> Result<bool, OutOfMemory> {
-    let Some(look) = seen.strip_prefix(first) else {
+    let seen = seen.written.as_slice();
+    let Some(look) = seen.strip_prefix(first.written.as_slice()) else {
         return Ok(false);
     };
     let wanted = joined(alloc, &[seen, NOT_KEPT, look])?;
-    Ok(look.starts_with(HELD) && look.ends_with(SENT) && again == wanted.as_slice())
+    let is_seen = look.starts_with(HELD) && look.ends_with(SENT);
+    Ok(is_seen && again.written.as_slice() == wanted.as_slice())
 }
 
 #[test]
 fn a_change_that_is_not_kept(rt: HostRuntime) -> Result<(), Fail> {
     let alloc = rt.alloc();
-    let first = replies(alloc, FIRST)?;
-    let seen = replies(alloc, SEEN)?;
-    let again = replies(alloc, SEEN_AGAIN)?;
+    let first = run_session(alloc, FIRST)?;
     // the first frame made an entry
-    assert!(rt; !first.as_slice().ends_with(SENT));
-    let unchanged = is_unchanged(alloc, first.as_slice(), seen.as_slice(), again.as_slice())?;
-    assert!(rt; unchanged);
+    assert!(rt; !first.written.as_slice().ends_with(SENT));
+    let seen = run_session(alloc, SEEN)?;
+    let again = run_session(alloc, SEEN_AGAIN)?;
+    assert!(rt; is_unchanged(alloc, &first, &seen, &again)?);
     Ok(())
 }

@@ -247,6 +247,16 @@ module _ {J R : Type 0} (second : J → J → Bool) where
       let both = or_false (among second q (map (λ (x : J × R). x.0) old)) (among second q (map (λ (x : J × R). x.0) new)) (sym (among_append second q (map (λ (x : J × R). x.0) old) (map (λ (x : J × R). x.0) new)) ∙ h) in
       absent q old both.0 ∙ sym (absent q new both.1)
 
+-- what is made of no items is none, and so is what no items are made of
+pub none_made : {X Y : Type 0} (f : X → Y) (xs : List X) (ys : List Y) → map f xs ≡ ys → length xs ≡ 0 → ys ≡ []
+none_made f [] ys made none = sym made
+none_made f (x ∷ xs) ys made none = absurd (omega (arith, none))
+
+pub none_mapped : {X Y : Type 0} (f : X → Y) (xs : List X) (ys : List Y) → ys ≡ map f xs → length ys ≡ 0 → xs ≡ []
+none_mapped f [] ys made none = refl
+none_mapped f (x ∷ xs) [] made none = absurd (omega (arith, ap length made))
+none_mapped f (x ∷ xs) (y ∷ ys) made none = absurd (omega (arith, none))
+
 pub keys_only : {W J R : Type 0} (key : W → J) (row : W → R) (ws : List W) → map key ws ≡ map (λ (x : J × R). x.0) (map (λ (w : W). (key w, row w)) ws)
 keys_only key row [] = refl
 keys_only key row (w ∷ ws) = ap (λ l. key w ∷ l) (keys_only key row ws)

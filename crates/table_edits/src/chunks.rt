@@ -241,26 +241,33 @@ impl<'t, T: ByChunk> Chunked<'t, T> {
         }
     }
 
-    // The chunk of the source with a number.
-    fn chunk_of(&self, alloc: Global, number: usize) -> Result<Chunk<'t, T>, OutOfMemory>
-        ensures table { IfOk result (λ c. c.table.now ≡ self.now.table.now) }
-        ensures old { IfOk result (λ c. option_copied c.old ≡ at_before self.now.numbers.now number) }
-        ensures new { IfOk result (λ c. option_copied c.new ≡ at_after self.now.numbers.now number) }
-        ensures start { IfOk result
-            (λ c. c.start
-            ≡ chunk_start (T.came self.now.table.now) self.now.numbers.now.rows number) }
+    // The chunk of the source with a number, in which these are the keys and the rows to be.
+    fn chunk_of(
+        &self,
+        number: usize,
+        keys: Vec<T::Key>,
+        after: Vec<KeyedRow<T::Key, T::Row>>,
+    ) -> Chunk<'t, T>
+        requires keyed { keys.items
+            ≡ map (λ x. x.0)
+            (chunk_at (T.came self.now.table.now) (at_before self.now.numbers.now number)) }
+        requires comes { map (λ r. (r.key, r.row)) after.items
+            ≡ chunk_at (T.comes self.now.table.now) (at_after self.now.numbers.now number) }
+        ensures table { result.table.now ≡ self.now.table.now }
+        ensures old { option_copied result.old ≡ at_before self.now.numbers.now number }
+        ensures new { option_copied result.new ≡ at_after self.now.numbers.now number }
+        ensures start { result.start
+            ≡ chunk_start (T.came self.now.table.now) self.now.numbers.now.rows number }
     {
-        let old = self.numbers.row(number);
-        let new = self.numbers.row_after(number);
-        Ok(Chunk {
+        Chunk {
             table: self.table,
-            old,
-            new,
+            old: self.numbers.row(number),
+            new: self.numbers.row_after(number),
             rows: self.rows,
             start: self.start_of(number),
-            keys: self.keys_before(alloc, old)?,
-            after: self.rows_after(alloc, new)?,
-        })
+            keys,
+            after,
+        }
     }
 }
 
@@ -297,7 +304,12 @@ fn add_chunk<T: ByChunk>(
         (chunk_start (T.came table.now.table.now) table.now.numbers.now.rows number) edits.old
         edits.new) }
 {
-    let chunk = table.chunk_of(alloc, number)?;
+    let before = table.keys_before(alloc, table.numbers.row(number))?;
+    let after = table.rows_after(alloc, table.numbers.row_after(number))?;
+    if before.is_empty() && after.is_empty() {
+        return Ok(());
+    }
+    let chunk = table.chunk_of(number, before, after);
     let keys = keys_of(alloc, &chunk)?;
     let found = edits_of(alloc, &chunk, keys.as_slice())?;
     add_edits(edits, found, chunk.start)

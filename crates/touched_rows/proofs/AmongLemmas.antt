@@ -14,7 +14,8 @@ use Rattle.api_types.proofs.ListLemmas.{any-none, false_true, none_some, or_none
 use Rattle.api_types.proofs.NameLemmas.{and_fails, by_test}
 use Rattle.plane_types.specs.Keyed.{are_one}
 use Rattle.table_edits.specs.EditsAt.{among}
-use Rattle.touched_rows.specs.TouchedNumbers.{can_live, can_live_on, is_by, numbers_from, router_in, router_number}
+use Rattle.touched_rows.specs.CanLive.{can_live}
+use Rattle.touched_rows.specs.TouchedNumbers.{can_live_on, is_by, numbers_from, router_in, router_number}
 
 one_itself : (k m : ℕ) → k ≡ m → are_one nat_lt k m ≡ true
 one_itself k m h = grind (arith, nat_tests, h)

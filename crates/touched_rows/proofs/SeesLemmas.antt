@@ -9,8 +9,8 @@ use Rattle.api_types.specs.declared.port.PortRow.{PortRow}
 use Rattle.api_types.proofs.ListLemmas.{false_true}
 use Rattle.api_types.proofs.NameLemmas.{by_test}
 use Rattle.plane_types.specs.declared.table.TagRow.{TagRow}
+use Rattle.touched_rows.specs.CanLive.{can_live}
 use Rattle.touched_rows.specs.SeesAlike.{SeesAlike}
-use Rattle.touched_rows.specs.TouchedNumbers.{can_live}
 
 pub not_live : (rows : RowLists) (p : PortRow) → can_live p ≡ false → is_live rows p ≡ false
 unfolding is_live

@@ -1,5 +1,6 @@
 pub mod RowStays
 pub mod Retagged
+pub mod CanLive
 pub mod TouchedNumbers
 pub mod LeadsProp
 pub mod SeesAlike

@@ -1,7 +1,6 @@
 -- The numbers of rows that a change touches by other rows.
 use Rattle.std.specs.Prelude.{ℕ, ◌+◌, ◌&&◌, ◌||◌, Bool, false, List, [], ◌∷◌, Option, Some, None, option_and_then, slice_get, if◌then◌else◌}
 use Rattle.std.specs.List.{cons_option, list_any}
-use Rattle.api_types.specs.Consistent.Carried.{is_bound}
 use Rattle.api_types.specs.Holders.{router_of}
 use Rattle.api_types.specs.Ident.{Ident}
 use Rattle.api_types.specs.Owners.{is_router_port}
@@ -12,6 +11,7 @@ use Rattle.api_types.specs.declared.port.Fixed.{Fixed}
 use Rattle.api_types.specs.declared.port.PortRow.{PortRow}
 use Rattle.api_types.specs.declared.router.RouterRow.{RouterRow}
 use Rattle.table_edits.specs.NumbersSeen.{Renumbered, at_after}
+use Rattle.touched_rows.specs.CanLive.{can_live}
 
 -- the numbers of the rows that pass a test, of which the first has this one
 module _ {R : Type 0} (test : R → Bool) where
@@ -19,10 +19,6 @@ module _ {R : Type 0} (test : R → Bool) where
   numbers_from n [] = []
   numbers_from n (r ∷ rs) =
       if test r then n ∷ numbers_from (n + 1) rs else numbers_from (n + 1) rs
-
--- whether a port is up and Open vSwitch carries it: it is live where its network is up
-abbrev pub can_live : PortRow → Bool
-can_live p = p.up && is_bound p.vif
 
 -- whether a port can be live, and is on one of some networks
 abbrev pub can_live_on : (Ident → Bool) → PortRow → Bool

@@ -6,7 +6,8 @@ ghost use Rattle.api_types.specs.Table.{ident_eq};
 ghost use Rattle.api_types.specs.declared.port.PortRow.{PortRow as ThePort};
 ghost use Rattle.table_edits.specs.EditsAt.{KeysDescend, among};
 ghost use Rattle.table_edits.specs.NumbersSeen.{at_after, at_before};
-ghost use Rattle.touched_rows.specs.TouchedNumbers.{can_live, can_live_on, numbers_from};
+ghost use Rattle.touched_rows.specs.CanLive.{can_live};
+ghost use Rattle.touched_rows.specs.TouchedNumbers.{can_live_on, numbers_from};
 
 use api_types::{Id, PortRow, Shared, Vif};
 use net_addr::OutOfMemory;

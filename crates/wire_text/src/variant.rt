@@ -31,17 +31,26 @@ fn kind_name(value: Kind) -> &'static str
 fn find_kind(name: &str) -> Option<Kind>
     ensures { result ≡ variants.kind_named name.now }
 {
-    match name {
-        "Project" => Some(Kind::Project),
-        "Network" => Some(Kind::Network),
-        "Subnet" => Some(Kind::Subnet),
-        "Port" => Some(Kind::Port),
-        "Group" => Some(Kind::Group),
-        "Rule" => Some(Kind::Rule),
-        "Router" => Some(Kind::Router),
-        "Floating" => Some(Kind::Floating),
-        "Policy" => Some(Kind::Policy),
-        _ => None,
+    if name == "Project" {
+        Some(Kind::Project)
+    } else if name == "Network" {
+        Some(Kind::Network)
+    } else if name == "Subnet" {
+        Some(Kind::Subnet)
+    } else if name == "Port" {
+        Some(Kind::Port)
+    } else if name == "Group" {
+        Some(Kind::Group)
+    } else if name == "Rule" {
+        Some(Kind::Rule)
+    } else if name == "Router" {
+        Some(Kind::Router)
+    } else if name == "Floating" {
+        Some(Kind::Floating)
+    } else if name == "Policy" {
+        Some(Kind::Policy)
+    } else {
+        None
     }
 }
 
@@ -77,11 +86,14 @@ fn mode_name(value: Ipv6Mode) -> &'static str
 fn find_mode(name: &str) -> Option<Ipv6Mode>
     ensures { result ≡ variants.mode_named name.now }
 {
-    match name {
-        "Slaac" => Some(Ipv6Mode::Slaac),
-        "Stateful" => Some(Ipv6Mode::Stateful),
-        "Stateless" => Some(Ipv6Mode::Stateless),
-        _ => None,
+    if name == "Slaac" {
+        Some(Ipv6Mode::Slaac)
+    } else if name == "Stateful" {
+        Some(Ipv6Mode::Stateful)
+    } else if name == "Stateless" {
+        Some(Ipv6Mode::Stateless)
+    } else {
+        None
     }
 }
 
@@ -121,11 +133,14 @@ fn vif_name(value: Vif) -> &'static str
 fn find_vif(name: &str) -> Option<Vif>
     ensures { result ≡ variants.vif_named name.now }
 {
-    match name {
-        "Unbound" => Some(Vif::Unbound),
-        "Failed" => Some(Vif::Failed),
-        "Ovs" => Some(Vif::Ovs),
-        _ => None,
+    if name == "Unbound" {
+        Some(Vif::Unbound)
+    } else if name == "Failed" {
+        Some(Vif::Failed)
+    } else if name == "Ovs" {
+        Some(Vif::Ovs)
+    } else {
+        None
     }
 }
 
@@ -160,10 +175,12 @@ fn direction_name(value: Direction) -> &'static str
 fn find_direction(name: &str) -> Option<Direction>
     ensures { result ≡ variants.direction_named name.now }
 {
-    match name {
-        "Ingress" => Some(Direction::Ingress),
-        "Egress" => Some(Direction::Egress),
-        _ => None,
+    if name == "Ingress" {
+        Some(Direction::Ingress)
+    } else if name == "Egress" {
+        Some(Direction::Egress)
+    } else {
+        None
     }
 }
 
@@ -198,10 +215,12 @@ fn ethertype_name(value: Ethertype) -> &'static str
 fn find_ethertype(name: &str) -> Option<Ethertype>
     ensures { result ≡ variants.ethertype_named name.now }
 {
-    match name {
-        "Ipv4" => Some(Ethertype::Ipv4),
-        "Ipv6" => Some(Ethertype::Ipv6),
-        _ => None,
+    if name == "Ipv4" {
+        Some(Ethertype::Ipv4)
+    } else if name == "Ipv6" {
+        Some(Ethertype::Ipv6)
+    } else {
+        None
     }
 }
 
@@ -236,10 +255,12 @@ fn action_name(value: Action) -> &'static str
 fn find_action(name: &str) -> Option<Action>
     ensures { result ≡ variants.action_named name.now }
 {
-    match name {
-        "Shared" => Some(Action::Shared),
-        "External" => Some(Action::External),
-        _ => None,
+    if name == "Shared" {
+        Some(Action::Shared)
+    } else if name == "External" {
+        Some(Action::External)
+    } else {
+        None
     }
 }
 

@@ -9,7 +9,7 @@ use Rattle.l2_delta.proofs.named_sets.put_edits.Given as goal
 -- named as before
 abbrev pub invariant-loop-edit : goal.invariant-loop-edit
 invariant-loop-edit l = record {
-  remotes : with_remotes l.remotes.items (drop l.edit-index l.edits) ≡ with_remotes l.fn.remotes.items l.edits;
+  remotes : with_remotes l.remotes (drop l.edit-index l.edits) ≡ with_remotes l.fn.remotes l.edits;
   fewer : (n : ℕ) → among nat_lt n l.numbers.items ≡ false → among nat_lt n l.fn.numbers.items ≡ false;
-  alike : AreNamedAlike l.groups.rows l.numbers.items (is_remote l.fn.remotes.items) (is_remote l.remotes.items);
+  alike : AreNamedAlike l.groups.rows l.numbers.items (is_remote l.fn.remotes) (is_remote l.remotes);
 }

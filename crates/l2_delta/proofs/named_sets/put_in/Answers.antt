@@ -9,17 +9,17 @@ use Rattle.l2_delta.proofs.named_sets.put_in.Goals as goal
 
 pub returns-clause-fewer : goal.returns-clause-fewer
 returns-clause-fewer c =
-    on_ok_weaker c.put_at.result
+    on_ok_weaker c.put.result
     (λ put n away.
     let more = cons_option (option_and_then (group_number c.args.groups.now.rows) c.args.remote.now) [] in
     among_fewer n c.args.numbers.now.items more (ap (among nat_lt n) (sym c.in_ok-add_remote.ensures) ∙ away))
-    c.put_at.ensures
+    c.put.ensures
 
 pub returns-clause-alike : goal.returns-clause-alike
 returns-clause-alike c =
-    on_ok_weaker c.put_at.result
+    on_ok_weaker c.put.result
     (λ put n g away at.
-    still_with c.args.remotes.now.items c.args.place c.args.remote.now g
+    still_with c.args.remotes.now c.args.place c.args.remote.now g
     (not_added c.args.groups.now.rows c.args.numbers.now.items c.args.remote.now n g (ap (among nat_lt n) (sym c.in_ok-add_remote.ensures) ∙ away) at)
     ∙ ap (λ rs. is_remote rs g) (sym put))
-    c.put_at.ensures
+    c.put.ensures

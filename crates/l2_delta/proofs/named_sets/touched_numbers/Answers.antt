@@ -16,6 +16,6 @@ returns-clause-touched c =
     (c.in_ok-add_named.ensures ∙ ap (λ l. l ++ numbers_named groups.rows were) (c.in_ok-add_numbers.ensures ∙ ap (λ l. l ++ named) c.new-numbers.ensures.items)) in
     IfOk-weaker c.descending.result _ _
     (λ v same.
-    touched groups named c.named.ensures were are c.args.remotes.now.items c.put_edits.new.remotes.items c.add_named-2.new.numbers.items c.put_edits.new.numbers.items v.items first
+    touched groups named c.named.ensures were are c.args.remotes.now c.put_edits.new.remotes c.add_named-2.new.numbers.items c.put_edits.new.numbers.items v.items first
     c.in_ok-put_edits.ensures.fewer c.in_ok-put_edits.ensures.alike same)
     c.descending.ensures.same

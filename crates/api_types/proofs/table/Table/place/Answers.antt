@@ -10,7 +10,7 @@ use Rattle.api_types.proofs.table.Table.place.Goals as goal
 -- the row that the map has at the id
 row_is : (g : _) (c : goal.After-get_index_of g) → get_by (ident_eq c.args.id) c.self.inside.by_id ≡ row_of g.R.Keyed.id_of c.args.id c.args.self.now
 row_is g c =
-    ap (lookup (ident_eq c.args.id)) c.self.invariant ∙ lookup-entries_of g.R.Keyed.id_of (ident_eq c.args.id) _ ∙ ap (row_of g.R.Keyed.id_of c.args.id) c.self.view_is
+    ap (lookup (ident_eq c.args.id)) c.self.invariant.by_id ∙ lookup-entries_of g.R.Keyed.id_of (ident_eq c.args.id) _ ∙ ap (row_of g.R.Keyed.id_of c.args.id) c.self.view_is
 
 found : (g : _) (c : goal.After-get_index_of g) → is_some c.get_index_of.result ≡ is_some (row_of g.R.Keyed.id_of c.args.id c.args.self.now)
 found g c = c.get_index_of.ensures.found ∙ ap is_some (row_is g c)
@@ -22,7 +22,7 @@ stands g c =
 
 pub returns-clause-place : goal.returns-clause-place
 returns-clause-place g c =
-    c.get_index_of.ensures.index ∙ ap (λ es. position (ident_eq c.args.id) (keys_of es)) (c.self.invariant ∙ ap (entries_of g.R.Keyed.id_of) c.self.view_is)
+    c.get_index_of.ensures.index ∙ ap (λ es. position (ident_eq c.args.id) (keys_of es)) (c.self.invariant.by_id ∙ ap (entries_of g.R.Keyed.id_of) c.self.view_is)
     ∙ ap (position (ident_eq c.args.id)) (keys-entries_of g.R.Keyed.id_of c.args.self.now)
 
 pub returns-clause-row : goal.returns-clause-row
