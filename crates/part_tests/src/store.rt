@@ -1,4 +1,5 @@
-use crate::rows::{default_group, external};
+//! A consistent store, row by row.
+use crate::store_rows::{default_group, external};
 use api_types::{Direction, Gateway, Row, Rows, Segment, Target};
 use net_addr::{Addr4, OutOfMemory, Text};
 use std::alloc::Global;
@@ -15,9 +16,9 @@ const OUTER: u32 = 0xcb00_7100;
 /// The printed id of the router, 40.
 const ROUTER: &str = "00000001-0000-8000-8000-000000000028";
 
-fn add_projects(alloc: Global, rows: &mut Rows, drawn: u64) -> Result<(), OutOfMemory> {
+fn add_projects(alloc: Global, rows: &mut Rows) -> Result<(), OutOfMemory> {
     let mut first = project(alloc, 1, "a")?;
-    first.count = drawn;
+    first.count = 99;
     add(alloc, rows, Row::Project(first))?;
     add(alloc, rows, Row::Project(project(alloc, 2, "b")?))?;
     add(alloc, rows, Row::Group(default_group(alloc, 1, "a")?))?;
@@ -100,13 +101,8 @@ fn add_floating(alloc: Global, rows: &mut Rows) -> Result<(), OutOfMemory> {
 /// A consistent store: two projects, of which a has a network with DHCP, an instance, a router to
 /// an external network, and a floating address that leads to the instance.
 pub(crate) fn store(alloc: Global) -> Result<Rows, OutOfMemory> {
-    store_with(alloc, 99)
-}
-
-/// This store, whose project a drew so many ids.
-pub(crate) fn store_with(alloc: Global, drawn: u64) -> Result<Rows, OutOfMemory> {
     let mut rows = Rows::empty(alloc)?;
-    add_projects(alloc, &mut rows, drawn)?;
+    add_projects(alloc, &mut rows)?;
     add_networks(alloc, &mut rows)?;
     add_inner_ports(alloc, &mut rows)?;
     add_router_ports(alloc, &mut rows)?;

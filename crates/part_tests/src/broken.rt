@@ -1,5 +1,7 @@
-use crate::rows::take_port;
+//! Stores that break a clause, and what is named of them: the first clause that they break, and the
+//! first row that breaks it.
 use crate::store::store;
+use crate::store_rows::take_port;
 use api_check::{Inconsistent, first_broken};
 use api_types::{Kind, Row, Rows, Segment};
 use net_addr::{OutOfMemory, Text};

@@ -1,6 +1,6 @@
 //! Texts of changes and of rows, read and written again.
 
-use crate::rows::{RENAMING, SEVEN_ROWS};
+use crate::text_rows::{RENAMING, SEVEN_ROWS};
 use net_addr::OutOfMemory;
 use std::alloc::Global;
 use std::test::Fail;

@@ -1,3 +1,4 @@
+//! Rows of stores: the default group, a policy of an external network, and a port that goes.
 use api_types::{Action, GroupRow, Item, Kind, PolicyRow, Row, Rows};
 use net_addr::{Copies, OutOfMemory, Seq, Text};
 use std::alloc::Global;

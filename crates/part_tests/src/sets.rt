@@ -2,7 +2,7 @@
 ghost use Rattle.std.specs.Prelude.{◌≡◌, is_some};
 ghost use Rattle.api_types.specs.RowsWith.{port_with};
 
-use crate::rows::{CLIENT, Inward, NET, RANGE_OF_ANY, SERVER, SHELL_AND_WEB, rows_with};
+use crate::reach_rows::{CLIENT, Inward, NET, RANGE_OF_ANY, SERVER, SHELL_AND_WEB, rows_with};
 use api_check::first_broken;
 use api_types::{Id, Rows};
 use net_settings::default_settings;
