@@ -57,14 +57,23 @@ module _ (ports : List PortRow) (network : Ident) (end : ℕ) where
       ap (λ many. least_from (λ m. not (is_mac_held ports network m)) (mac + 1) many) (omega arith)
       ∙ sym (least-past (λ m. not (is_mac_held ports network m)) mac (end - mac) (omega arith) (ap not held))
 
-  -- one that the next port has is passed by, if it is before the end; another one stays
-  pub past_next : (mac k : ℕ) (p : PortRow) → slice_get ports k ≡ Some p → sought (if nat_lt mac end && has_mac network mac p then mac + 1 else mac) ≡ sought mac
-  past_next mac k p at = by (nat_lt mac end) (has_mac network mac p) refl refl
+  -- at the end none is left, nor after it
+  past_end : (mac : ℕ) → end ≤ mac → sought (mac + 1) ≡ sought mac
+  past_end mac h =
+      let test = λ (m : ℕ). not (is_mac_held ports network m) in
+      least-none test (mac + 1) (end - (mac + 1)) (omega (arith, h)) ∙ sym (least-none test mac (end - mac) (omega (arith, h)))
+
+  -- one that the next port has is passed by; another one stays
+  pub past_next : (mac k : ℕ) (p : PortRow) → slice_get ports k ≡ Some p → sought (if has_mac network mac p then mac + 1 else mac) ≡ sought mac
+  past_next mac k p at = by (has_mac network mac p) refl
     where
-      by : (less has : Bool) → nat_lt mac end ≡ less → has_mac network mac p ≡ has → sought (if less && has then mac + 1 else mac) ≡ sought mac
-      by true true e h = past_held mac k p (grind (arith, nat_tests)) at h
-      by true false e h = refl
-      by false has e h = refl
+      there : (less : Bool) → nat_lt mac end ≡ less → has_mac network mac p ≡ true → sought (mac + 1) ≡ sought mac
+      there true e h = past_held mac k p (grind (arith, nat_tests)) at h
+      there false e h = past_end mac (grind (arith, nat_tests))
+
+      by : (has : Bool) → has_mac network mac p ≡ has → sought (if has then mac + 1 else mac) ≡ sought mac
+      by true h = there (nat_lt mac end) refl h
+      by false h = refl
 
   -- one that no port has is the least
   pub here_free : (mac : ℕ) → mac < end → is_mac_held ports network mac ≡ false → sought mac ≡ Some mac

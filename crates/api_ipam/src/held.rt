@@ -51,7 +51,11 @@ impl HeldAddresses {
             (λ held. (x : Address)
             → fixed_choice.is_in held x ≡ is_address_held ports.now network x) }
     {
-        HeldAddresses::but(alloc, ports, network, &[])
+        let mut held = HeldAddresses::with_room(alloc, ports.len())?;
+        for port in ports {
+            held.take_port(network, port)?;
+        }
+        Ok(held)
     }
 
     /// The addresses that other ports of the port's network hold. Its cost and memory grow as those
@@ -92,7 +96,7 @@ impl HeldAddresses {
     {
         let mut held = HeldAddresses::with_room(alloc, ports.len())?;
         for port in ports {
-            held.take_port(network, left, port)?;
+            held.take_port_but(network, left, port)?;
         }
         Ok(held)
     }
@@ -170,8 +174,8 @@ impl HeldAddresses {
         Ok(())
     }
 
-    /// Adds the addresses of a port that aren't of a list, where it is on the network.
-    pub(crate) fn take_port(
+    // Adds the addresses of a port that aren't of a list, where it is on the network.
+    fn take_port_but(
         &mut self,
         network: Id,
         left: &[Fixed],
@@ -184,8 +188,51 @@ impl HeldAddresses {
             || (holds_address network x port.now
             && not (list_any (λ (f : TheFixed). addr_eq f.address x) left.now)))) }
     {
+        if port.network != network {
+            return Ok(());
+        }
+        self.take_all(left, port.fixed.as_slice())
+    }
+
+    // Adds the addresses of a port's list. It is no part of the loops over ports, so that they keep
+    // what they need in registers.
+    #[inline(never)]
+    fn take_each(&mut self, fixed: &[Fixed]) -> Result<(), OutOfMemory>
+        ensures { OnOk result
+            ((x : Address)
+            → fixed_choice.is_in self.new x
+            ≡ (fixed_choice.is_in self.old x
+            || list_any (λ (f : TheFixed). addr_eq f.address x) fixed.now)) }
+    {
+        for one in fixed {
+            self.take(&one.address)?;
+        }
+        Ok(())
+    }
+
+    // The same, with a way of its own for a single address, as nearly all ports have.
+    fn take_fixed(&mut self, fixed: &[Fixed]) -> Result<(), OutOfMemory>
+        ensures { OnOk result
+            ((x : Address)
+            → fixed_choice.is_in self.new x
+            ≡ (fixed_choice.is_in self.old x
+            || list_any (λ (f : TheFixed). addr_eq f.address x) fixed.now)) }
+    {
+        match fixed {
+            [one] => self.take(&one.address),
+            _ => self.take_each(fixed),
+        }
+    }
+
+    /// Adds the addresses of a port, where it is on the network.
+    pub(crate) fn take_port(&mut self, network: Id, port: &PortRow) -> Result<(), OutOfMemory>
+        ensures { OnOk result
+            ((x : Address)
+            → fixed_choice.is_in self.new x
+            ≡ (fixed_choice.is_in self.old x || holds_address network x port.now)) }
+    {
         if network == port.network {
-            self.take_all(left, port.fixed.as_slice())?;
+            self.take_fixed(port.fixed.as_slice())?;
         }
         Ok(())
     }

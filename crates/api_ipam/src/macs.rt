@@ -20,23 +20,15 @@ const END: u64 = 0xfa16_3f00_0000;
 /// How many MAC addresses have a mark at once.
 const WINDOW: usize = 1_024;
 
-fn has_mac(port: &PortRow, network: Id, mac: u64) -> bool
-    requires { mac < 2 ^ 48 }
-    ensures { result ≡ held_once.has_mac network mac port.now }
-{
-    network == port.network && port.mac == Mac(mac)
-}
-
-/// The number after this one, if it is a generated one that the port has; otherwise this one.
+/// The number after this one, if it is the MAC address of the port, which is on the network;
+/// otherwise this one.
 pub(crate) fn after_held(port: &PortRow, network: Id, mac: u64) -> u64
-    requires { mac ≤ first_mac + 2 ^ 24 }
-    ensures moved { result
-        ≡ (if nat_lt mac (first_mac + 2 ^ 24) && held_once.has_mac network mac port.now
-        then mac + 1 else mac) }
-    ensures to { result ≤ first_mac + 2 ^ 24 }
+    ensures { result
+        ≡ (if held_once.has_mac network mac port.now then mac + 1 else mac) }
 {
-    if mac < END && has_mac(port, network, mac) {
-        return mac + 1;
+    let own = port.mac.0;
+    if network == port.network && own == mac {
+        return own + 1;
     }
     mac
 }
@@ -56,7 +48,6 @@ pub(crate) fn greatest_of(port: &PortRow, network: Id, greatest: u64) -> u64
 // The number after the generated MAC addresses that ports of the network have, one after the other
 // in turn, and the greatest MAC address that one has.
 fn behind_held(ports: &[Shared<PortRow>], network: Id) -> (u64, u64)
-    ensures to { result.0 ≤ first_mac + 2 ^ 24 }
     ensures sought { least_from (λ m. not (is_mac_held ports.now network m)) result.0
         (first_mac + 2 ^ 24 - result.0)
         ≡ least_from (λ m. not (is_mac_held ports.now network m)) first_mac
@@ -126,7 +117,6 @@ pub(crate) fn mac_after(
     next: u64,
     greatest: u64,
 ) -> Option<Mac>
-    requires to { next ≤ first_mac + 2 ^ 24 }
     requires sought { least_from (λ m. not (is_mac_held ports.now network m)) next
         (first_mac + 2 ^ 24 - next)
         ≡ least_from (λ m. not (is_mac_held ports.now network m)) first_mac

@@ -35,9 +35,9 @@ pub fn survey_ports(
     let mut greatest = 0;
     for shared in ports {
         let port = shared.get();
-        held.take_port(network, &[], port)?;
         next = after_held(port, network, next);
         greatest = greatest_of(port, network, greatest);
+        held.take_port(network, port)?;
     }
     Ok(Survey {
         mac: mac_after(ports, network, next, greatest),

@@ -18,7 +18,7 @@ ghost use Rattle.api_shown.specs.Keys.{IsOnlyId};
 use crate::asked_id::{find_asked, may_be, see_fit};
 use crate::keys::{HasKeys, Key, find_key};
 use crate::showing::is_told;
-use api_types::{Filter, Id, Members, Printed, Query};
+use api_types::{Filter, Id, MemberName, Members, Printed, Query};
 use net_addr::{OutOfMemory, Text};
 use std::alloc::Global;
 use std::collections::HashSet;
@@ -112,7 +112,21 @@ impl<'q> NameFilters<'q> {
         })
     }
 
-    // Whether one of them asks for the value.
+    // Whether their name is that of the member.
+    fn is_name_of(&self, name: &MemberName) -> bool
+        ensures { result ≡ bytes_eq self.now.name name.now }
+    {
+        self.name.as_str() == name.as_str()
+    }
+
+    // Whether one of them asks for the text.
+    fn has_text(&self, text: &Text) -> bool
+        ensures { result ≡ asked_specs.asks_for self.now (word text.now) }
+    {
+        self.texts.contains(text.as_str())
+    }
+
+    // Whether one of them asks for the value. What has a text is printed only here.
     fn asks_for(&self, alloc: Global, printed: &Printed) -> Result<bool, OutOfMemory>
         ensures { IfOk result (λ b. b ≡ asked_specs.asks_for self.now (tree_of printed.now)) }
     {
@@ -123,7 +137,12 @@ impl<'q> NameFilters<'q> {
                 let text = number.to_string(alloc)?;
                 Ok(self.texts.contains(text.as_str()))
             }
-            Printed::Word(text) => Ok(self.texts.contains(text.as_str())),
+            Printed::Constant(word) => Ok(self.texts.contains(*word)),
+            Printed::Word(text) => Ok(self.has_text(text)),
+            Printed::Id(id) => Ok(self.has_text(&id.print(alloc)?)),
+            Printed::Mac(mac) => Ok(self.has_text(&mac.print(alloc)?)),
+            Printed::Address(address) => Ok(self.has_text(&address.print(alloc)?)),
+            Printed::Prefix(prefix) => Ok(self.has_text(&prefix.print(alloc)?)),
             Printed::Null | Printed::Items(_) | Printed::Object(_) => Ok(false),
         }
     }
@@ -175,7 +194,7 @@ impl<'q> NameFilters<'q> {
             (λ b. b ≡ has_asked admin (map member_of members.now) self.now) }
     {
         for (name, printed) in members.as_slice() {
-            let is_named = is_told(admin, name) && *self.name == *name;
+            let is_named = is_told(admin, name) && self.is_name_of(name);
             if is_named && self.asks_for(alloc, printed)? {
                 return Ok(true);
             }

@@ -54,11 +54,10 @@ fn protocol_name(protocol: u8) -> Option<&'static str>
 fn protocol_printed(alloc: Global, protocol: u8) -> Result<Printed, OutOfMemory>
     ensures { IfOk result (λ p. tree_of p ≡ protocol_word protocol) }
 {
-    let text = match protocol_name(protocol) {
-        Some(name) => Text::of(alloc, name)?,
-        None => Text::from_string(protocol.to_string(alloc)?),
-    };
-    Ok(Printed::Word(text))
+    match protocol_name(protocol) {
+        Some(name) => Ok(Printed::Constant(name)),
+        None => Ok(Printed::Word(Text::from_string(protocol.to_string(alloc)?))),
+    }
 }
 
 fn protocol_of(alloc: Global, rule: &RuleRow) -> Result<Printed, OutOfMemory>
@@ -95,13 +94,13 @@ impl Shows for RuleRow {
         let ethertype = ethertype_word(self.ethertype);
         let mut all = no_members(alloc)?;
         push(alloc, &mut all, "description", &self.description)?;
-        push_word(alloc, &mut all, "direction", direction)?;
-        push_word(alloc, &mut all, "ethertype", ethertype)?;
+        push_word(&mut all, "direction", direction)?;
+        push_word(&mut all, "ethertype", ethertype)?;
         push(alloc, &mut all, "id", &self.id)?;
         push(alloc, &mut all, "port_range_max", &self.high)?;
         push(alloc, &mut all, "port_range_min", &self.low)?;
         push(alloc, &mut all, "project_id", &self.project)?;
-        push_value(alloc, &mut all, "protocol", protocol)?;
+        push_value(&mut all, "protocol", protocol)?;
         push(alloc, &mut all, "remote_group_id", &self.remote_group)?;
         push(alloc, &mut all, "remote_ip_prefix", &self.remote_prefix)?;
         push(alloc, &mut all, "security_group_id", &self.group)?;
@@ -162,7 +161,7 @@ impl Shows for GroupRow {
         push(alloc, &mut all, "name", &self.name)?;
         push(alloc, &mut all, "project_id", &self.project)?;
         let rules = Printed::Items(rules);
-        push_value(alloc, &mut all, "security_group_rules", rules)?;
+        push_value(&mut all, "security_group_rules", rules)?;
         push(alloc, &mut all, "tenant_id", &self.project)?;
         Ok(all)
     }

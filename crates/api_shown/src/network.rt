@@ -105,13 +105,13 @@ impl Shows for NetworkRow {
         push(alloc, &mut all, "name", &self.name)?;
         push(alloc, &mut all, "project_id", &self.project)?;
         let kind = type_word(&self.segment);
-        push_word(alloc, &mut all, "provider:network_type", kind)?;
-        push_value(alloc, &mut all, "provider:physical_network", physical)?;
+        push_word(&mut all, "provider:network_type", kind)?;
+        push_value(&mut all, "provider:physical_network", physical)?;
         let number = number(&self.segment);
-        push_value(alloc, &mut all, "provider:segmentation_id", number)?;
+        push_value(&mut all, "provider:segmentation_id", number)?;
         push(alloc, &mut all, "router:external", &external)?;
         push(alloc, &mut all, "shared", &shared)?;
-        push_word(alloc, &mut all, "status", "ACTIVE")?;
+        push_word(&mut all, "status", "ACTIVE")?;
         push(alloc, &mut all, "subnets", &subnets)?;
         push(alloc, &mut all, "tenant_id", &self.project)?;
         Ok(all)

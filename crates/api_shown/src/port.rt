@@ -70,8 +70,8 @@ impl Shows for PortRow {
         push(alloc, &mut all, "admin_state_up", &self.up)?;
         push(alloc, &mut all, "allowed_address_pairs", &self.pairs)?;
         push(alloc, &mut all, "binding:host_id", &self.host)?;
-        push_word(alloc, &mut all, "binding:vif_type", vif_word(self.vif))?;
-        push_word(alloc, &mut all, "binding:vnic_type", "normal")?;
+        push_word(&mut all, "binding:vif_type", vif_word(self.vif))?;
+        push_word(&mut all, "binding:vnic_type", "normal")?;
         push(alloc, &mut all, "description", &self.description)?;
         push(alloc, &mut all, "device_id", &self.device)?;
         push(alloc, &mut all, "device_owner", &self.owner)?;
@@ -83,7 +83,7 @@ impl Shows for PortRow {
         push(alloc, &mut all, "port_security_enabled", &self.secured)?;
         push(alloc, &mut all, "project_id", &self.project)?;
         push(alloc, &mut all, "security_groups", &self.groups)?;
-        push_word(alloc, &mut all, "status", status)?;
+        push_word(&mut all, "status", status)?;
         push(alloc, &mut all, "tenant_id", &self.project)?;
         Ok(all)
     }

@@ -3,7 +3,7 @@
 ghost use Rattle.std.specs.Prelude.{◌≡◌, ◌++◌, ◌∷◌, [], IfOk, OnOk, map};
 ghost use Rattle.api_types.specs.Printed.{branches_of, items, member_of, object, tree_of, trees_of, word};
 
-use api_types::{Fixed, Hop, Id, Members, Pair, Printed};
+use api_types::{Fixed, Hop, Id, MemberName, Members, Pair, Printed};
 use net_addr::{Addr, Addr4, Copies, Mac, OutOfMemory, Prefix, Seq, Span, Text};
 use std::alloc::Global;
 
@@ -50,8 +50,8 @@ impl Printable for Id {
 
     ghost tree = { id_word };
 
-    fn printed(&self, alloc: Global) -> Result<Printed, OutOfMemory> {
-        Ok(Printed::Word(self.print(alloc)?))
+    fn printed(&self, _alloc: Global) -> Result<Printed, OutOfMemory> {
+        Ok(Printed::Id(*self))
     }
 }
 
@@ -60,8 +60,8 @@ impl Printable for Addr {
 
     ghost tree = { address_word };
 
-    fn printed(&self, alloc: Global) -> Result<Printed, OutOfMemory> {
-        Ok(Printed::Word(self.print(alloc)?))
+    fn printed(&self, _alloc: Global) -> Result<Printed, OutOfMemory> {
+        Ok(Printed::Address(*self))
     }
 }
 
@@ -70,8 +70,8 @@ impl Printable for Addr4 {
 
     ghost tree = { four_word };
 
-    fn printed(&self, alloc: Global) -> Result<Printed, OutOfMemory> {
-        Ok(Printed::Word(self.print(alloc)?))
+    fn printed(&self, _alloc: Global) -> Result<Printed, OutOfMemory> {
+        Ok(Printed::Address(Addr::V4(*self)))
     }
 }
 
@@ -80,8 +80,8 @@ impl Printable for Mac {
 
     ghost tree = { mac_word };
 
-    fn printed(&self, alloc: Global) -> Result<Printed, OutOfMemory> {
-        Ok(Printed::Word(self.print(alloc)?))
+    fn printed(&self, _alloc: Global) -> Result<Printed, OutOfMemory> {
+        Ok(Printed::Mac(*self))
     }
 }
 
@@ -90,8 +90,8 @@ impl Printable for Prefix {
 
     ghost tree = { prefix_word };
 
-    fn printed(&self, alloc: Global) -> Result<Printed, OutOfMemory> {
-        Ok(Printed::Word(self.print(alloc)?))
+    fn printed(&self, _alloc: Global) -> Result<Printed, OutOfMemory> {
+        Ok(Printed::Prefix(*self))
     }
 }
 
@@ -148,9 +148,9 @@ pub(crate) fn object_of(members: Members) -> Printed
 // An object of two members.
 fn printed_two<A: Printable, B: Printable>(
     alloc: Global,
-    first: &str,
+    first: &'static str,
     a: &A,
-    second: &str,
+    second: &'static str,
     b: &B,
 ) -> Result<Printed, OutOfMemory>
     ensures { IfOk result
@@ -217,40 +217,38 @@ impl Printable for Span {
 
 /// Adds a member with a printed value.
 pub(crate) fn push_value(
-    alloc: Global,
     members: &mut Members,
-    name: &str,
+    name: &'static str,
     value: Printed,
 ) -> Result<(), OutOfMemory>
     ensures { OnOk result
         (map member_of members.new ≡ map member_of members.old ++ (name.now, tree_of value) ∷ []) }
 {
-    members.push((Text::of(alloc, name)?, value))
+    members.push((MemberName::of(name), value))
 }
 
 /// Adds a member.
 pub(crate) fn push<T: Printable>(
     alloc: Global,
     members: &mut Members,
-    name: &str,
+    name: &'static str,
     value: &T,
 ) -> Result<(), OutOfMemory>
     ensures { OnOk result
         (map member_of members.new
         ≡ map member_of members.old ++ (name.now, T.tree value.now) ∷ []) }
 {
-    push_value(alloc, members, name, value.printed(alloc)?)
+    push_value(members, name, value.printed(alloc)?)
 }
 
 /// Adds a member that is one of a few words.
 pub(crate) fn push_word(
-    alloc: Global,
     members: &mut Members,
-    name: &str,
-    value: &str,
+    name: &'static str,
+    value: &'static str,
 ) -> Result<(), OutOfMemory>
     ensures { OnOk result
         (map member_of members.new ≡ map member_of members.old ++ (name.now, word value.now) ∷ []) }
 {
-    push_value(alloc, members, name, Printed::Word(Text::of(alloc, value)?))
+    push_value(members, name, Printed::Constant(value))
 }

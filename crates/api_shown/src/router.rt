@@ -38,7 +38,7 @@ fn gateway_printed(alloc: Global, rows: &Rows, gateway: &Gateway) -> Result<Prin
     let addresses = gateway_addresses(alloc, rows, gateway)?;
     let mut all = Seq::new(alloc);
     push(alloc, &mut all, "enable_snat", &gateway.snat)?;
-    push_value(alloc, &mut all, "external_fixed_ips", addresses)?;
+    push_value(&mut all, "external_fixed_ips", addresses)?;
     push(alloc, &mut all, "network_id", &gateway.network)?;
     Ok(object_of(all))
 }
@@ -76,12 +76,12 @@ impl Shows for RouterRow {
         let mut all = no_members(alloc)?;
         push(alloc, &mut all, "admin_state_up", &self.up)?;
         push(alloc, &mut all, "description", &self.description)?;
-        push_value(alloc, &mut all, "external_gateway_info", gateway)?;
+        push_value(&mut all, "external_gateway_info", gateway)?;
         push(alloc, &mut all, "id", &self.id)?;
         push(alloc, &mut all, "name", &self.name)?;
         push(alloc, &mut all, "project_id", &self.project)?;
         push(alloc, &mut all, "routes", &self.routes)?;
-        push_word(alloc, &mut all, "status", "ACTIVE")?;
+        push_word(&mut all, "status", "ACTIVE")?;
         push(alloc, &mut all, "tenant_id", &self.project)?;
         Ok(all)
     }
@@ -120,7 +120,7 @@ impl Shows for FloatingRow {
         push(alloc, &mut all, "port_id", &port)?;
         push(alloc, &mut all, "project_id", &self.project)?;
         push(alloc, &mut all, "router_id", &router)?;
-        push_word(alloc, &mut all, "status", status)?;
+        push_word(&mut all, "status", status)?;
         push(alloc, &mut all, "tenant_id", &self.project)?;
         Ok(all)
     }
@@ -156,10 +156,10 @@ impl Shows for PolicyRow {
         _caller: &Caller,
     ) -> Result<Members, OutOfMemory> {
         let mut all = no_members(alloc)?;
-        push_word(alloc, &mut all, "action", action_word(self.action))?;
+        push_word(&mut all, "action", action_word(self.action))?;
         push(alloc, &mut all, "id", &self.id)?;
         push(alloc, &mut all, "object_id", &self.object)?;
-        push_word(alloc, &mut all, "object_type", "network")?;
+        push_word(&mut all, "object_type", "network")?;
         push(alloc, &mut all, "project_id", &self.project)?;
         push(alloc, &mut all, "target_tenant", &self.target)?;
         push(alloc, &mut all, "tenant_id", &self.project)?;

@@ -9,12 +9,12 @@ ghost use Rattle.api_policy.specs.Shown.{shown_as, shown_at, shown_members};
 ghost use Rattle.api_policy.specs.Shown as shown_specs;
 
 use crate::members::Shows;
-use api_types::{Caller, Id, Kind, Members, Rows, Shown, Table};
+use api_types::{Caller, Id, Kind, MemberName, Members, Rows, Shown, Table};
 use net_addr::{Names, OutOfMemory, Seq, Text};
 use std::alloc::Global;
 
 // Whether a member is shown to administrators alone.
-fn is_for_admins(name: &Text) -> bool
+fn is_for_admins(name: &MemberName) -> bool
     ensures { result ≡ shown_specs.is_for_admins name.now }
 {
     let name = name.as_str();
@@ -25,19 +25,25 @@ fn is_for_admins(name: &Text) -> bool
         || name == "provider:segmentation_id"
 }
 
-pub(crate) fn is_told(admin: bool, name: &Text) -> bool
+pub(crate) fn is_told(admin: bool, name: &MemberName) -> bool
     ensures { result ≡ shown_specs.is_told admin name.now }
 {
     admin || !is_for_admins(name)
 }
 
-fn is_among(names: &[Text], name: &Text) -> bool
-    ensures { result ≡ list_any (bytes_eq name.now) names.now }
+fn is_same(name: &MemberName, field: &Text) -> bool
+    ensures { result ≡ bytes_eq name.now field.now }
 {
-    names.iter().any(|other| *name == *other)
+    name.as_str() == field.as_str()
 }
 
-fn is_asked(fields: &Names, name: &Text) -> bool
+fn is_among(fields: &[Text], name: &MemberName) -> bool
+    ensures { result ≡ list_any (bytes_eq name.now) fields.now }
+{
+    fields.iter().any(|field| is_same(name, field))
+}
+
+fn is_asked(fields: &Names, name: &MemberName) -> bool
     ensures { result ≡ shown_specs.is_asked fields.now name.now }
 {
     fields.len() == 0 || is_among(fields.as_slice(), name)

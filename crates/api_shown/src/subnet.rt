@@ -7,7 +7,7 @@ ghost use Rattle.api_policy.specs.Subnets as subnets;
 use crate::members::Shows;
 use crate::printable::{Printable, no_members, push, push_value};
 use api_types::{Caller, Ipv6Mode, Members, Printed, Rows, SubnetRow};
-use net_addr::{OutOfMemory, Prefix, Text};
+use net_addr::{OutOfMemory, Prefix};
 use std::alloc::Global;
 
 fn mode_text(mode: Ipv6Mode) -> &'static str
@@ -32,8 +32,8 @@ impl Printable for Ipv6Mode {
 
     ghost tree = { mode_word };
 
-    fn printed(&self, alloc: Global) -> Result<Printed, OutOfMemory> {
-        Ok(Printed::Word(Text::of(alloc, mode_text(*self))?))
+    fn printed(&self, _alloc: Global) -> Result<Printed, OutOfMemory> {
+        Ok(Printed::Constant(mode_text(*self)))
     }
 }
 
@@ -67,7 +67,7 @@ impl Shows for SubnetRow {
         push(alloc, &mut all, "gateway_ip", &self.gateway)?;
         push(alloc, &mut all, "host_routes", &self.host_routes)?;
         push(alloc, &mut all, "id", &self.id)?;
-        push_value(alloc, &mut all, "ip_version", Printed::Number(version))?;
+        push_value(&mut all, "ip_version", Printed::Number(version))?;
         push(alloc, &mut all, "ipv6_address_mode", &self.address_mode)?;
         push(alloc, &mut all, "ipv6_ra_mode", &self.ra_mode)?;
         push(alloc, &mut all, "name", &self.name)?;

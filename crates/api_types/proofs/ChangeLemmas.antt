@@ -32,31 +32,6 @@ pub Fits-parts : (rows : RowLists) (items : List Item) (item : Item) → Fits ro
 Fits-parts rows [] item fits = (tt, fits.0)
 Fits-parts rows (x ∷ items) item fits = let rest = Fits-parts (after_item rows x) items item fits.1 in ((fits.0, rest.0), rest.1)
 
--- an item of projects, and one of another kind: each is put into a table of its own
-
-pub fits_beside : (rows : RowLists) (projects : List ProjectRow) (k : Kind) (item : Item) → ¬ (k ≡ Project) → FitsOfKind k (record rows { projects = projects }) item → FitsOfKind k rows item
-fits_beside rows projects Project item other fits = absurd (other refl)
-fits_beside rows projects Network item other fits = fits
-fits_beside rows projects Subnet item other fits = fits
-fits_beside rows projects Port item other fits = fits
-fits_beside rows projects Group item other fits = fits
-fits_beside rows projects Rule item other fits = fits
-fits_beside rows projects Router item other fits = fits
-fits_beside rows projects Floating item other fits = fits
-fits_beside rows projects Policy item other fits = fits
-
-pub after_beside : (rows : RowLists) (projects : List ProjectRow) (k : Kind) (item : Item) → ¬ (k ≡ Project)
-    → record (after_of_kind k rows item) { projects = projects } ≡ after_of_kind k (record rows { projects = projects }) item
-after_beside rows projects Project item other = absurd (other refl)
-after_beside rows projects Network item other = refl
-after_beside rows projects Subnet item other = refl
-after_beside rows projects Port item other = refl
-after_beside rows projects Group item other = refl
-after_beside rows projects Rule item other = refl
-after_beside rows projects Router item other = refl
-after_beside rows projects Floating item other = refl
-after_beside rows projects Policy item other = refl
-
 -- two changes, one after the other
 
 pub after-append : (rows : RowLists) (items more : List Item) → after rows (items ++ more) ≡ after (after rows items) more

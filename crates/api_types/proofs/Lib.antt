@@ -11,3 +11,4 @@ pub mod IdLemmas
 pub mod SortLemmas
 pub mod ItemLemmas
 pub mod KindLemmas
+pub mod BesideLemmas

@@ -1,6 +1,8 @@
 -- Printed values as plain data, and what callers are shown and answered.
 use Rattle.std.specs.Prelude.{ℕ, List, [], ◌∷◌, map, Bool}
+use Rattle.net_addr.specs.Spelling.{addr_text, mac_text, prefix_text}
 use Rattle.net_addr.specs.Words.{Text}
+use Rattle.api_types.specs.Ident.{ident_text}
 use Rattle.api_types.specs.declared.kind.Kind.{Kind}
 use Rattle.api_types.specs.declared.answer.Printed.{Printed, fold-Printed}
 use Rattle.api_types.specs.declared.answer.Printed.TheOpen.{Printed-F}
@@ -38,12 +40,17 @@ abbrev pub branches_of : List NamedTree → Branches
 branches_of [] = no_branches
 branches_of (m ∷ ms) = branch m.0 m.1 (branches_of ms)
 
--- one level of a printed value
+-- one level of a printed value: what has a text is printed as that
 abbrev pub tree_step : Printed-F Tree → Tree
 tree_step Printed-F.Null = null
 tree_step (Printed-F.Truth b) = truth b
 tree_step (Printed-F.Number n) = number n
+tree_step (Printed-F.Constant t) = word t.now
 tree_step (Printed-F.Word t) = word t
+tree_step (Printed-F.Id i) = word (ident_text i)
+tree_step (Printed-F.Mac m) = word (mac_text m)
+tree_step (Printed-F.Address a) = word (addr_text a)
+tree_step (Printed-F.Prefix p) = word (prefix_text p)
 tree_step (Printed-F.Items v) = items (trees_of v.items)
 tree_step (Printed-F.Object v) = object (branches_of v.items)
 

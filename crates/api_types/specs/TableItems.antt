@@ -1,10 +1,11 @@
 -- What the items of a change do to the table of one kind, and how the table after them is read
 -- from the table before them.
-use Rattle.std.specs.Prelude.{ℕ, ◌+◌, Bool, true, false, List, [], ◌∷◌, Option, Some, None, is_some, if◌then◌else◌, nat_le, ◌==◌, option_and_then, ⊤}
+use Rattle.std.specs.Prelude.{ℕ, ◌+◌, Bool, true, false, List, [], ◌∷◌, Option, Some, None, is_some, filter, if◌then◌else◌, nat_le, ◌==◌, option_and_then, ⊤}
 use Rattle.api_types.specs.Ident.{Ident}
 use Rattle.api_types.specs.Table.{ident_eq}
 use Rattle.api_types.specs.Lists.{is_some_so}
 use Rattle.api_types.specs.Edits.{list_after, FitsTable}
+use Rattle.api_types.specs.RowLists.{RowLists}
 use Rattle.api_types.specs.declared.change.Item.{Item}
 use Rattle.api_types.specs.declared.kind.Kind.{Kind}
 use Rattle.api_types.specs.declared.kind.Kind.TheVariants.{Project, Network, Subnet, Port, Group, Rule, Router, Floating, Policy}
@@ -21,6 +22,24 @@ same_kind Router Router = true
 same_kind Floating Floating = true
 same_kind Policy Policy = true
 same_kind _ _ = false
+
+-- the items of a kind
+abbrev pub of_kind : Kind → List Item → List Item
+of_kind kind items = filter (λ (item : Item). same_kind kind item.kind) items
+
+-- rows with those of a kind from other rows
+abbrev pub with_kind : Kind → RowLists → RowLists → RowLists
+with_kind kind rows other = record {
+  projects = if same_kind kind Project then other.projects else rows.projects;
+  networks = if same_kind kind Network then other.networks else rows.networks;
+  subnets = if same_kind kind Subnet then other.subnets else rows.subnets;
+  ports = if same_kind kind Port then other.ports else rows.ports;
+  groups = if same_kind kind Group then other.groups else rows.groups;
+  rules = if same_kind kind Rule then other.rules else rows.rules;
+  routers = if same_kind kind Router then other.routers else rows.routers;
+  floatings = if same_kind kind Floating then other.floatings else rows.floatings;
+  policies = if same_kind kind Policy then other.policies else rows.policies;
+}
 
 -- the place, before an item, of the row that stands at a place after it; none where the item put
 -- that row there

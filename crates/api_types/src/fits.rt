@@ -18,7 +18,8 @@ use crate::rows::Rows;
 use crate::table::{Keyed, Table};
 use net_addr::Same;
 
-fn is_kind(a: Kind, b: Kind) -> bool
+/// Whether two kinds are the same.
+pub(crate) fn is_kind(a: Kind, b: Kind) -> bool
     ensures { result ≡ table_items.same_kind a b }
 {
     a == b

@@ -53,7 +53,8 @@ impl Id {
         self.count
     }
 
-    pub(crate) fn uuid(self) -> Uuid
+    /// Its sixteen bytes.
+    pub fn uuid(self) -> Uuid
         ensures { result ≡ uuid_bytes self }
     {
         let high = self.ordinal as u64 * 0x1_0000_0000 + 0x8000;

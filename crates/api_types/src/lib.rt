@@ -38,7 +38,7 @@ mod subnet;
 mod table;
 mod wire;
 
-pub use answer::{Answer, Members, Printed, Shown, ShownList};
+pub use answer::{Answer, MemberName, Members, Printed, Shown, ShownList};
 pub use call::{Call, Caller, Filter, IdText, InterfaceBy, Query};
 pub use change::{Change, Item};
 pub use fits::FitsRows;

@@ -1,12 +1,13 @@
 //! The rows of all kinds: nine shared tables, and changes put in and undone.
 
-ghost use Rattle.std.specs.Prelude.{◌≡◌, [], ◌∷◌, ◌++◌, if◌then◌else◌, OnOk, OnErr, IfOk};
-ghost use Rattle.api_types.specs.declared.kind.Kind.TheVariants.{Project};
+ghost use Rattle.std.specs.Prelude.{◌≡◌, [], ◌∷◌, ◌++◌, false, if◌then◌else◌, OnOk, OnErr, IfOk, IfSome};
 ghost use Rattle.api_types.specs.Table.{is_new};
+ghost use Rattle.api_types.specs.TableItems.{of_kind, same_kind, with_kind};
 ghost use Rattle.api_types.specs.RowLists.{RowLists};
 
 use crate::change::{Change, Item};
 use crate::edit::{add_shared, edit_shared, unedit_shared};
+use crate::fits::is_kind;
 use crate::floating::FloatingRow;
 use crate::group::{GroupRow, RuleRow};
 use crate::kind::Kind;
@@ -21,6 +22,19 @@ use crate::table::{Keyed, Table};
 use net_addr::{Copies, OutOfMemory};
 use std::alloc::Global;
 use std::marker::Model;
+use std::mem::swap;
+
+const KINDS: [Kind; 9] = [
+    Kind::Project,
+    Kind::Network,
+    Kind::Subnet,
+    Kind::Port,
+    Kind::Group,
+    Kind::Rule,
+    Kind::Router,
+    Kind::Floating,
+    Kind::Policy,
+];
 
 /// The rows of all kinds. Contracts see them as a record of nine lists in order of creation.
 pub struct Rows {
@@ -76,6 +90,22 @@ fn no_table<R: Keyed>(alloc: Global) -> Result<Shared<Table<R>>, OutOfMemory>
     ensures { IfOk result (λ t. t ≡ []) }
 {
     Shared::new(alloc, Table::new(alloc))
+}
+
+// The one item of the kind, if there is just one.
+fn only_of(items: &[Item], kind: Kind) -> Option<&Item>
+    ensures { IfSome result (λ item. of_kind kind items.now ≡ item.now ∷ []) }
+{
+    let mut only = None;
+    for item in items {
+        if is_kind(kind, item.kind) {
+            if only.is_some() {
+                return None;
+            }
+            only = Some(item);
+        }
+    }
+    only
 }
 
 impl Copies for Rows {
@@ -350,27 +380,121 @@ impl Rows {
         Ok(())
     }
 
-    // Puts in an item of projects and one of another kind, as where a row gets the id that is drawn
-    // for it, or leaves all as it is. Only the table of projects is copied, and the other where
-    // other rows share it.
-    fn apply_drawn(&mut self, alloc: Global, drawn: &Item, item: &Item) -> Result<(), OutOfMemory>
-        requires drawn { drawn.now.kind ≡ Project }
-        requires other { ¬ (item.now.kind ≡ Project) }
-        requires fits { Fits self.old (drawn.now ∷ item.now ∷ []) }
-        ensures ok { OnOk result (self.new ≡ after self.old (drawn.now ∷ item.now ∷ [])) }
+    // Takes the rows of a kind out.
+    fn clear_kind(&mut self, alloc: Global, kind: Kind) -> Result<(), OutOfMemory>
+        ensures { OnOk result (self.new ≡ with_kind kind self.old no_rows) }
+    {
+        match kind {
+            Kind::Project => self.projects = no_table(alloc)?,
+            Kind::Network => self.networks = no_table(alloc)?,
+            Kind::Subnet => self.subnets = no_table(alloc)?,
+            Kind::Port => self.ports = no_table(alloc)?,
+            Kind::Group => self.groups = no_table(alloc)?,
+            Kind::Rule => self.rules = no_table(alloc)?,
+            Kind::Router => self.routers = no_table(alloc)?,
+            Kind::Floating => self.floatings = no_table(alloc)?,
+            Kind::Policy => self.policies = no_table(alloc)?,
+        }
+        Ok(())
+    }
+
+    // Takes the rows of a kind from other rows, which get its own.
+    fn swap_kind(&mut self, other: &mut Rows, kind: Kind)
+        ensures { self.new ≡ with_kind kind self.old other.old }
+    {
+        match kind {
+            Kind::Project => swap(&mut self.projects, &mut other.projects),
+            Kind::Network => swap(&mut self.networks, &mut other.networks),
+            Kind::Subnet => swap(&mut self.subnets, &mut other.subnets),
+            Kind::Port => swap(&mut self.ports, &mut other.ports),
+            Kind::Group => swap(&mut self.groups, &mut other.groups),
+            Kind::Rule => swap(&mut self.rules, &mut other.rules),
+            Kind::Router => swap(&mut self.routers, &mut other.routers),
+            Kind::Floating => swap(&mut self.floatings, &mut other.floatings),
+            Kind::Policy => swap(&mut self.policies, &mut other.policies),
+        }
+    }
+
+    fn count_of(&self, kind: Kind) -> usize {
+        match kind {
+            Kind::Project => self.projects().rows().len(),
+            Kind::Network => self.networks().rows().len(),
+            Kind::Subnet => self.subnets().rows().len(),
+            Kind::Port => self.ports().rows().len(),
+            Kind::Group => self.groups().rows().len(),
+            Kind::Rule => self.rules().rows().len(),
+            Kind::Router => self.routers().rows().len(),
+            Kind::Floating => self.floatings().rows().len(),
+            Kind::Policy => self.policies().rows().len(),
+        }
+    }
+
+    // Of the kinds of which there is just one item, that with the most rows. Where there is none it
+    // is any kind.
+    fn longest_alone(&self, items: &[Item]) -> Kind {
+        let mut longest = Kind::Project;
+        let mut most = 0;
+        for kind in &KINDS {
+            if only_of(items, *kind).is_some() {
+                let rows = self.count_of(*kind);
+                if rows >= most {
+                    longest = *kind;
+                    most = rows;
+                }
+            }
+        }
+        longest
+    }
+
+    // Puts an item in, unless it is of a kind.
+    fn apply_other(&mut self, alloc: Global, item: &Item, kind: Kind) -> Result<(), OutOfMemory>
+        requires { same_kind kind item.now.kind ≡ false → FitsItem self.old item.now }
+        ensures { OnOk result
+            (self.new
+            ≡ (if same_kind kind item.now.kind then
+            self.old else after_item self.old item.now)) }
+    {
+        if is_kind(kind, item.kind) {
+            return Ok(());
+        }
+        self.apply_item(alloc, item)
+    }
+
+    // The rows of all kinds but one after the items; of that kind there are none.
+    fn others_after(&self, alloc: Global, items: &[Item], kind: Kind) -> Result<Rows, OutOfMemory>
+        requires { Fits self.now items.now }
+        ensures { IfOk result
+            (λ others. with_kind kind others (after self.now items.now)
+            ≡ after self.now items.now) }
+    {
+        let mut others = self.copy(alloc)?;
+        others.clear_kind(alloc, kind)?;
+        for item in items {
+            others.apply_other(alloc, item, kind)?;
+        }
+        Ok(others)
+    }
+
+    // Puts items in, or leaves all as it is. The table of a kind of which there is just one item
+    // isn't copied, unless other rows share it.
+    fn apply_beside(&mut self, alloc: Global, items: &[Item], kind: Kind) -> Result<(), OutOfMemory>
+        requires { Fits self.old items.now }
+        ensures ok { OnOk result (self.new ≡ after self.old items.now) }
         ensures err { OnErr result (self.new ≡ self.old) }
     {
-        let mut projects = self.projects.copy(alloc)?;
-        edit_shared(alloc, &mut projects, drawn)?;
+        let Some(item) = only_of(items, kind) else {
+            return self.apply_apart(alloc, items);
+        };
+        let mut made = self.others_after(alloc, items, kind)?;
         self.apply_item(alloc, item)?;
-        self.projects = projects;
+        made.swap_kind(self, kind);
+        *self = made;
         Ok(())
     }
 
     /// Puts a change that fits the rows into them, or leaves them as they are. Its cost grows with
-    /// the rows of the kinds that it touches; but a row that is added or replaced, alone or after an
-    /// id was drawn for it, costs the same however many there are in a table that is shared with no
-    /// other rows.
+    /// the rows of the kinds that it touches, but not with those of one kind, if other rows don't
+    /// share the table: of the kinds of which it has a single item, the one with the most rows.
     pub fn apply_change(&mut self, alloc: Global, change: &Change) -> Result<(), OutOfMemory>
         requires { Fits self.old change.now }
         ensures ok { OnOk result (self.new ≡ after self.old change.now) }
@@ -379,10 +503,7 @@ impl Rows {
         let items = change.as_slice();
         match items {
             [item] => self.apply_item(alloc, item),
-            [drawn, item] if drawn.kind == Kind::Project && item.kind != Kind::Project => {
-                self.apply_drawn(alloc, drawn, item)
-            }
-            _ => self.apply_apart(alloc, items),
+            _ => self.apply_beside(alloc, items, self.longest_alone(items)),
         }
     }
 

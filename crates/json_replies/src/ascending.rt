@@ -3,11 +3,10 @@ ghost use Rattle.std.specs.Prelude.{◌≡◌, map, None, option_map};
 ghost use Rattle.api_types.specs.Printed.{tree_of, trees_of, branches_of, member_of};
 ghost use Rattle.json_replies.specs.Straight as straight;
 
-use api_types::Printed;
-use net_addr::Text;
+use api_types::{MemberName, Printed};
 
 // Whether a name comes after the last one.
-fn is_above(last: Option<&Text>, name: &Text) -> bool
+fn is_above(last: Option<&MemberName>, name: &MemberName) -> bool
     ensures { result ≡ straight.is_above (option_map (λ t. t.now) last.entry) name.now }
 {
     match last {
@@ -21,9 +20,11 @@ fn ascends(printed: &Printed) -> bool
     ensures { result ≡ straight.ascends (tree_of printed.now) }
 {
     match printed {
-        Printed::Null | Printed::Truth(_) | Printed::Number(_) | Printed::Word(_) => true,
         Printed::Items(items) => items_ascend(items.as_slice()),
         Printed::Object(members) => members_ascend(members.as_slice()),
+        Printed::Null | Printed::Truth(_) | Printed::Number(_) => true,
+        Printed::Constant(_) | Printed::Word(_) => true,
+        Printed::Id(_) | Printed::Mac(_) | Printed::Address(_) | Printed::Prefix(_) => true,
     }
 }
 
@@ -41,7 +42,7 @@ fn items_ascend(items: &[Printed]) -> bool
 
 /// Whether the names of these members ascend, and those of the objects in them.
 #[cycle(ascends)]
-pub(crate) fn members_ascend(members: &[(Text, Printed)]) -> bool
+pub(crate) fn members_ascend(members: &[(MemberName, Printed)]) -> bool
     ensures { result ≡ straight.branches_ascend None (branches_of (map member_of members.now)) }
 {
     let mut last = None;

@@ -2,7 +2,7 @@
 //!
 //! `write_reply` makes the body of every answer, refusal and answer of the lab: its bytes are those
 //! of the reply's definition, members in byte order of their names. It stands on `api_types`,
-//! `plane_types`, `neutron_http` and `serde_json`, whose own words its definitions cite.
+//! `plane_types`, `neutron_http`, `uuid` and `serde_json`, whose own words its definitions cite.
 #![tactic(auto)]
 
 mod ascending;

@@ -5,8 +5,8 @@ ghost use Rattle.serde_json.specs.View.{view, members_view};
 ghost use Rattle.api_types.specs.Printed.{tree_of, member_of};
 ghost use Rattle.json_trees.specs.Printed.{tree_data, members_data, list, or_null};
 
-use api_types::{Ordered, Printed};
-use net_addr::{OutOfMemory, Seq, Text};
+use api_types::{MemberName, Ordered, Printed};
+use net_addr::{OutOfMemory, Seq};
 use plane_types::Ascending;
 use serde_json::{Map, Value};
 use std::alloc::Global;
@@ -30,7 +30,12 @@ fn value_of(alloc: Global, printed: &Printed) -> Result<Value, OutOfMemory>
         Printed::Null => Ok(Value::Null),
         Printed::Truth(b) => Ok(Value::Bool(*b)),
         Printed::Number(n) => Ok(Value::from(*n)),
-        Printed::Word(text) => Ok(Value::try_from_str(alloc, text.as_str())?),
+        Printed::Constant(word) => word.value(alloc),
+        Printed::Word(text) => text.value(alloc),
+        Printed::Id(id) => id.value(alloc),
+        Printed::Mac(mac) => mac.value(alloc),
+        Printed::Address(address) => address.value(alloc),
+        Printed::Prefix(prefix) => prefix.value(alloc),
         Printed::Items(items) => Ok(Value::Array(values_of(alloc, items.as_slice())?)),
         Printed::Object(members) => Ok(Value::Object(members_of(alloc, members.as_slice())?)),
     }
@@ -51,7 +56,7 @@ fn values_of(alloc: Global, items: &[Printed]) -> Result<Vec<Value>, OutOfMemory
 #[cycle(json)]
 pub(crate) fn members_of(
     alloc: Global,
-    members: &[(Text, Printed)],
+    members: &[(MemberName, Printed)],
 ) -> Result<Map<String, Value>, OutOfMemory>
     ensures { IfOk result
         (λ m. members_view m.entries ≡ members_data (map member_of members.now) no_members) }

@@ -3,7 +3,8 @@
 ghost use Rattle.std.specs.Prelude.{◌≡◌, OnOk};
 ghost use Rattle.keeper_sql.specs.Whole.{CommitsNothing, Runs};
 
-use crate::column::{flag_at, id_at, text_at};
+use crate::column::{flag_at, id_at};
+use crate::names::{Names, names_at};
 use crate::statement::execute;
 use crate::stored::Stored;
 use crate::trouble::Trouble;
@@ -51,9 +52,11 @@ impl Stored for GroupRow {
     fn read(_alloc: Global, row: &Row) -> Result<GroupRow, Trouble> {
         let id = id_at(row, 0)?;
         let is_default = flag_at(row, 4)?;
-        let project = text_at(row, 1)?;
-        let name = text_at(row, 2)?;
-        let description = text_at(row, 3)?;
+        let Names {
+            project,
+            name,
+            description,
+        } = names_at(row, 2, 3)?;
         Ok(GroupRow {
             id,
             project,

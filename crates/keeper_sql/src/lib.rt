@@ -17,6 +17,7 @@ mod group;
 mod keeper;
 mod listed;
 mod migration;
+mod names;
 mod network;
 mod old_listed;
 mod old_stored;

@@ -3,7 +3,8 @@
 ghost use Rattle.std.specs.Prelude.{◌≡◌, OnOk};
 ghost use Rattle.keeper_sql.specs.Whole.{CommitsNothing, Runs};
 
-use crate::column::{flag_at, id_at, text_at, text_if};
+use crate::column::{bytes_at, flag_at, id_at, text_if};
+use crate::names::{Names, names_at};
 use crate::statement::execute;
 use crate::stored::Stored;
 use crate::trouble::Trouble;
@@ -71,17 +72,36 @@ fn tag_of(number: u32) -> Result<u16, Trouble> {
     }
 }
 
-fn segment_of(kind: &str, physical: Option<Text>, number: Option<u32>) -> Result<Segment, Trouble> {
-    match (kind, physical, number) {
-        ("local", None, None) => Ok(Segment::Local),
-        ("flat", Some(physical), None) => Ok(Segment::Flat { physical }),
-        ("vlan", Some(physical), Some(number)) => Ok(Segment::Vlan {
-            physical,
-            tag: tag_of(number)?,
-        }),
-        ("vxlan", None, Some(number)) => Ok(Segment::Vxlan { number }),
-        _ => Err(Trouble::Fault),
+// The segment, if its type is spelled by this word.
+fn spelled_by(word: &[u8], kind: &[u8], segment: Segment) -> Result<Segment, Trouble> {
+    if kind == word {
+        Ok(segment)
+    } else {
+        Err(Trouble::Fault)
     }
+}
+
+// What other columns a segment has tells its type.
+fn segment_of(
+    kind: &[u8],
+    physical: Option<Text>,
+    number: Option<u32>,
+) -> Result<Segment, Trouble> {
+    match (physical, number) {
+        (None, None) => spelled_by(b"local".as_slice(), kind, Segment::Local),
+        (Some(physical), None) => spelled_by(b"flat".as_slice(), kind, Segment::Flat { physical }),
+        (Some(physical), Some(number)) => {
+            let tag = tag_of(number)?;
+            spelled_by(b"vlan".as_slice(), kind, Segment::Vlan { physical, tag })
+        }
+        (None, Some(number)) => spelled_by(b"vxlan".as_slice(), kind, Segment::Vxlan { number }),
+    }
+}
+
+fn segment_at(row: &Row, number: Option<u32>) -> Result<Segment, Trouble> {
+    let kind = bytes_at(row, 5)?;
+    let physical = text_if(row, 6)?;
+    segment_of(kind, physical, number)
 }
 
 impl Stored for NetworkRow {
@@ -94,12 +114,13 @@ impl Stored for NetworkRow {
         let id = id_at(row, 0)?;
         let up = flag_at(row, 4)?;
         let number: Option<u32> = row.get(7)?;
-        let project = text_at(row, 1)?;
-        let name = text_at(row, 2)?;
-        let description = text_at(row, 3)?;
-        let kind = text_at(row, 5)?;
-        let physical = text_if(row, 6)?;
-        let segment = segment_of(kind.as_str(), physical, number)?;
+        let names = names_at(row, 2, 3)?;
+        let segment = segment_at(row, number)?;
+        let Names {
+            project,
+            name,
+            description,
+        } = names;
         Ok(NetworkRow {
             id,
             project,

@@ -1,16 +1,14 @@
 //! Rows of the kinds that have other addresses in a store of format 1.
 
-use crate::column::{
-    byte_if, bytes_at, bytes_if, flag_at, flag_if, four_if, id_at, id_if, mac_at, short_if,
-    spelled, text_at, text_if,
-};
+use crate::column::{bytes_at, bytes_if, flag_at, four_if, id_at, spelled, text_at, text_if};
 use crate::listed::list_at;
+use crate::names::{Names, names_at};
 use crate::old_listed::four_prefix_of;
-use crate::port::vif_at;
-use crate::router::gateway_of;
-use crate::rule::{direction_at, ethertype_at};
+use crate::port::{Device, device_at};
+use crate::router::gateway_at;
 use crate::stored::Stored;
 use crate::trouble::Trouble;
+use crate::{port, rule};
 use api_types::{PortRow, RouterRow, RuleRow};
 use old_rows::{OldPort, OldRouter, OldRule, OldSubnet, Prefix4};
 use sqlite::Row;
@@ -39,12 +37,15 @@ impl Stored for OldSubnet {
         let prefix = four_prefix_at(row, 5)?;
         let gateway = four_if(row, 6)?;
         let dhcp = flag_at(row, 8)?;
-        let project = text_at(row, 1)?;
-        let name = text_at(row, 3)?;
-        let description = text_at(row, 4)?;
+        let names = names_at(row, 3, 4)?;
         let pools = list_at(alloc, row, 7)?;
         let dns = list_at(alloc, row, 9)?;
         let host_routes = list_at(alloc, row, 10)?;
+        let Names {
+            project,
+            name,
+            description,
+        } = names;
         Ok(OldSubnet {
             id,
             project,
@@ -67,39 +68,34 @@ impl Stored for OldPort {
     }
 
     fn read(alloc: Global, row: &Row) -> Result<OldPort, Trouble> {
-        let id = id_at(row, 0)?;
-        let network = id_at(row, 2)?;
-        let up = flag_at(row, 5)?;
-        let mac = mac_at(row, 6)?;
-        let secured = flag_at(row, 9)?;
-        let vif = vif_at(row, 14)?;
-        let by_admin = flag_at(row, 15)?;
-        let project = text_at(row, 1)?;
-        let name = text_at(row, 3)?;
-        let description = text_at(row, 4)?;
+        let facts = port::facts_at(row)?;
+        let names = names_at(row, 3, 4)?;
         let fixed = list_at(alloc, row, 7)?;
         let pairs = list_at(alloc, row, 8)?;
         let groups = list_at(alloc, row, 10)?;
-        let device = text_at(row, 11)?;
-        let owner = text_at(row, 12)?;
-        let host = text_at(row, 13)?;
-        Ok(OldPort {
-            id,
+        let Device { id, owner, host } = device_at(row)?;
+        let Names {
             project,
-            network,
             name,
             description,
-            up,
-            mac,
+        } = names;
+        Ok(OldPort {
+            id: facts.id,
+            project,
+            network: facts.network,
+            name,
+            description,
+            up: facts.up,
+            mac: facts.mac,
             fixed,
             pairs,
-            secured,
+            secured: facts.secured,
             groups,
-            device,
+            device: id,
             owner,
             host,
-            vif,
-            by_admin,
+            vif: facts.vif,
+            by_admin: facts.by_admin,
         })
     }
 }
@@ -110,29 +106,22 @@ impl Stored for OldRule {
     }
 
     fn read(_alloc: Global, row: &Row) -> Result<OldRule, Trouble> {
-        let id = id_at(row, 0)?;
-        let group = id_at(row, 2)?;
-        let direction = direction_at(row, 4)?;
-        let ethertype = ethertype_at(row, 5)?;
-        let protocol = byte_if(row, 6)?;
-        let low = short_if(row, 7)?;
-        let high = short_if(row, 8)?;
+        let facts = rule::facts_at(row)?;
         let remote_prefix = four_prefix_if(row, 9)?;
-        let remote_group = id_if(row, 10)?;
         let project = text_at(row, 1)?;
         let description = text_at(row, 3)?;
         Ok(OldRule {
-            id,
+            id: facts.id,
             project,
-            group,
+            group: facts.group,
             description,
-            direction,
-            ethertype,
-            protocol,
-            low,
-            high,
+            direction: facts.direction,
+            ethertype: facts.ethertype,
+            protocol: facts.protocol,
+            low: facts.low,
+            high: facts.high,
             remote_prefix,
-            remote_group,
+            remote_group: facts.remote_group,
         })
     }
 }
@@ -145,12 +134,15 @@ impl Stored for OldRouter {
     fn read(alloc: Global, row: &Row) -> Result<OldRouter, Trouble> {
         let id = id_at(row, 0)?;
         let up = flag_at(row, 4)?;
-        let gateway = gateway_of(id_if(row, 6)?, id_if(row, 7)?, flag_if(row, 8)?)?;
-        let project = text_at(row, 1)?;
-        let name = text_at(row, 2)?;
-        let description = text_at(row, 3)?;
+        let gateway = gateway_at(row)?;
+        let names = names_at(row, 2, 3)?;
         let host = text_if(row, 5)?;
         let routes = list_at(alloc, row, 9)?;
+        let Names {
+            project,
+            name,
+            description,
+        } = names;
         Ok(OldRouter {
             id,
             project,

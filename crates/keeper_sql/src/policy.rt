@@ -28,10 +28,13 @@ fn action_word(action: Action) -> &'static str {
 }
 
 fn action_at(row: &Row, at: usize) -> Result<Action, Trouble> {
-    match bytes_at(row, at)? {
-        b"access_as_shared" => Ok(Action::Shared),
-        b"access_as_external" => Ok(Action::External),
-        _ => Err(Trouble::Fault),
+    let word = bytes_at(row, at)?;
+    if word == b"access_as_shared".as_slice() {
+        Ok(Action::Shared)
+    } else if word == b"access_as_external".as_slice() {
+        Ok(Action::External)
+    } else {
+        Err(Trouble::Fault)
     }
 }
 

@@ -5,11 +5,12 @@ ghost use Rattle.keeper_sql.specs.Whole.{CommitsNothing, Runs};
 
 use crate::column::{bytes_at, flag_at, id_at, mac_at, text_at};
 use crate::listed::{list_at, list_text};
+use crate::names::{Names, names_at};
 use crate::statement::execute;
 use crate::stored::Stored;
 use crate::trouble::Trouble;
-use api_types::{PortRow, Vif};
-use net_addr::{OutOfMemory, Text};
+use api_types::{Id, PortRow, Vif};
+use net_addr::{Mac, OutOfMemory, Text};
 use sqlite::types::{ToSql, ValueRef};
 use sqlite::{Alter, Row, Transaction};
 use std::alloc::Global;
@@ -38,13 +39,17 @@ fn vif_word(vif: Vif) -> &'static str {
     }
 }
 
-/// How a port is bound.
-pub(crate) fn vif_at(row: &Row, at: usize) -> Result<Vif, Trouble> {
-    match bytes_at(row, at)? {
-        b"unbound" => Ok(Vif::Unbound),
-        b"binding_failed" => Ok(Vif::Failed),
-        b"ovs" => Ok(Vif::Ovs),
-        _ => Err(Trouble::Fault),
+// How a port is bound.
+fn vif_at(row: &Row, at: usize) -> Result<Vif, Trouble> {
+    let word = bytes_at(row, at)?;
+    if word == b"unbound".as_slice() {
+        Ok(Vif::Unbound)
+    } else if word == b"binding_failed".as_slice() {
+        Ok(Vif::Failed)
+    } else if word == b"ovs".as_slice() {
+        Ok(Vif::Ovs)
+    } else {
+        Err(Trouble::Fault)
     }
 }
 
@@ -106,6 +111,48 @@ pub(crate) fn write<S: Alter>(
     execute(to, UPSERT, &values(row, &texts))
 }
 
+/// The columns of a port that own no memory.
+#[derive(Clone, Copy)]
+pub(crate) struct PortFacts {
+    pub id: Id,
+    pub network: Id,
+    pub up: bool,
+    pub mac: Mac,
+    pub secured: bool,
+    pub vif: Vif,
+    pub by_admin: bool,
+}
+
+/// What a port's columns spell that own no memory.
+pub(crate) fn facts_at(row: &Row) -> Result<PortFacts, Trouble> {
+    Ok(PortFacts {
+        id: id_at(row, 0)?,
+        network: id_at(row, 2)?,
+        up: flag_at(row, 5)?,
+        mac: mac_at(row, 6)?,
+        secured: flag_at(row, 9)?,
+        vif: vif_at(row, 14)?,
+        by_admin: flag_at(row, 15)?,
+    })
+}
+
+/// The device of a port.
+#[derive(Drop)]
+pub(crate) struct Device {
+    pub id: Text,
+    pub owner: Text,
+    pub host: Text,
+}
+
+/// The device that a port's columns name.
+pub(crate) fn device_at(row: &Row) -> Result<Device, Trouble> {
+    Ok(Device {
+        id: text_at(row, 11)?,
+        owner: text_at(row, 12)?,
+        host: text_at(row, 13)?,
+    })
+}
+
 impl Stored for PortRow {
     fn select() -> &'static str {
         "SELECT id, project_id, network_id, name, description, admin_state_up, mac_address,
@@ -114,39 +161,34 @@ impl Stored for PortRow {
     }
 
     fn read(alloc: Global, row: &Row) -> Result<PortRow, Trouble> {
-        let id = id_at(row, 0)?;
-        let network = id_at(row, 2)?;
-        let up = flag_at(row, 5)?;
-        let mac = mac_at(row, 6)?;
-        let secured = flag_at(row, 9)?;
-        let vif = vif_at(row, 14)?;
-        let by_admin = flag_at(row, 15)?;
-        let project = text_at(row, 1)?;
-        let name = text_at(row, 3)?;
-        let description = text_at(row, 4)?;
+        let facts = facts_at(row)?;
+        let names = names_at(row, 3, 4)?;
         let fixed = list_at(alloc, row, 7)?;
         let pairs = list_at(alloc, row, 8)?;
         let groups = list_at(alloc, row, 10)?;
-        let device = text_at(row, 11)?;
-        let owner = text_at(row, 12)?;
-        let host = text_at(row, 13)?;
-        Ok(PortRow {
-            id,
+        let Device { id, owner, host } = device_at(row)?;
+        let Names {
             project,
-            network,
             name,
             description,
-            up,
-            mac,
+        } = names;
+        Ok(PortRow {
+            id: facts.id,
+            project,
+            network: facts.network,
+            name,
+            description,
+            up: facts.up,
+            mac: facts.mac,
             fixed,
             pairs,
-            secured,
+            secured: facts.secured,
             groups,
-            device,
+            device: id,
             owner,
             host,
-            vif,
-            by_admin,
+            vif: facts.vif,
+            by_admin: facts.by_admin,
         })
     }
 }

@@ -3,8 +3,9 @@
 ghost use Rattle.std.specs.Prelude.{◌≡◌, OnOk};
 ghost use Rattle.keeper_sql.specs.Whole.{CommitsNothing, Runs};
 
-use crate::column::{flag_at, flag_if, id_at, id_if, text_at, text_if};
+use crate::column::{flag_at, flag_if, id_at, id_if, text_if};
 use crate::listed::{list_at, list_text};
+use crate::names::{Names, names_at};
 use crate::statement::execute;
 use crate::stored::Stored;
 use crate::trouble::Trouble;
@@ -95,8 +96,8 @@ pub(crate) fn write<S: Alter>(
     execute(to, UPSERT, &values(row, &texts))
 }
 
-/// The gateway that the columns spell: all three are there, or none.
-pub(crate) fn gateway_of(
+// A gateway has all three columns, and none has none.
+fn gateway_of(
     network: Option<Id>,
     port: Option<Id>,
     snat: Option<bool>,
@@ -112,6 +113,11 @@ pub(crate) fn gateway_of(
     }
 }
 
+/// The gateway that the columns spell.
+pub(crate) fn gateway_at(row: &Row) -> Result<Option<Gateway>, Trouble> {
+    gateway_of(id_if(row, 6)?, id_if(row, 7)?, flag_if(row, 8)?)
+}
+
 impl Stored for RouterRow {
     fn select() -> &'static str {
         "SELECT id, project_id, name, description, admin_state_up, host, gateway_network_id,
@@ -121,12 +127,15 @@ impl Stored for RouterRow {
     fn read(alloc: Global, row: &Row) -> Result<RouterRow, Trouble> {
         let id = id_at(row, 0)?;
         let up = flag_at(row, 4)?;
-        let gateway = gateway_of(id_if(row, 6)?, id_if(row, 7)?, flag_if(row, 8)?)?;
-        let project = text_at(row, 1)?;
-        let name = text_at(row, 2)?;
-        let description = text_at(row, 3)?;
+        let gateway = gateway_at(row)?;
+        let names = names_at(row, 2, 3)?;
         let host = text_if(row, 5)?;
         let routes = list_at(alloc, row, 9)?;
+        let Names {
+            project,
+            name,
+            description,
+        } = names;
         Ok(RouterRow {
             id,
             project,

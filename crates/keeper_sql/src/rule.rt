@@ -33,12 +33,15 @@ fn direction_word(direction: Direction) -> &'static str {
     }
 }
 
-/// A direction.
-pub(crate) fn direction_at(row: &Row, at: usize) -> Result<Direction, Trouble> {
-    match bytes_at(row, at)? {
-        b"ingress" => Ok(Direction::Ingress),
-        b"egress" => Ok(Direction::Egress),
-        _ => Err(Trouble::Fault),
+// A direction.
+fn direction_at(row: &Row, at: usize) -> Result<Direction, Trouble> {
+    let word = bytes_at(row, at)?;
+    if word == b"ingress".as_slice() {
+        Ok(Direction::Ingress)
+    } else if word == b"egress".as_slice() {
+        Ok(Direction::Egress)
+    } else {
+        Err(Trouble::Fault)
     }
 }
 
@@ -49,12 +52,15 @@ fn ethertype_word(ethertype: Ethertype) -> &'static str {
     }
 }
 
-/// A version of IP.
-pub(crate) fn ethertype_at(row: &Row, at: usize) -> Result<Ethertype, Trouble> {
-    match bytes_at(row, at)? {
-        b"IPv4" => Ok(Ethertype::Ipv4),
-        b"IPv6" => Ok(Ethertype::Ipv6),
-        _ => Err(Trouble::Fault),
+// A version of IP.
+fn ethertype_at(row: &Row, at: usize) -> Result<Ethertype, Trouble> {
+    let word = bytes_at(row, at)?;
+    if word == b"IPv4".as_slice() {
+        Ok(Ethertype::Ipv4)
+    } else if word == b"IPv6".as_slice() {
+        Ok(Ethertype::Ipv6)
+    } else {
+        Err(Trouble::Fault)
     }
 }
 
@@ -122,6 +128,33 @@ pub(crate) fn write<S: Alter>(
     execute(to, UPSERT, &values(row, &texts))
 }
 
+/// The columns of a rule that are the same in each format and own no memory.
+#[derive(Clone, Copy)]
+pub(crate) struct RuleFacts {
+    pub id: Id,
+    pub group: Id,
+    pub direction: Direction,
+    pub ethertype: Ethertype,
+    pub protocol: Option<u8>,
+    pub low: Option<u16>,
+    pub high: Option<u16>,
+    pub remote_group: Option<Id>,
+}
+
+/// What these columns spell.
+pub(crate) fn facts_at(row: &Row) -> Result<RuleFacts, Trouble> {
+    Ok(RuleFacts {
+        id: id_at(row, 0)?,
+        group: id_at(row, 2)?,
+        direction: direction_at(row, 4)?,
+        ethertype: ethertype_at(row, 5)?,
+        protocol: byte_if(row, 6)?,
+        low: short_if(row, 7)?,
+        high: short_if(row, 8)?,
+        remote_group: id_if(row, 10)?,
+    })
+}
+
 impl Stored for RuleRow {
     fn select() -> &'static str {
         "SELECT id, project_id, security_group_id, description, direction, ethertype, protocol,
@@ -130,29 +163,22 @@ impl Stored for RuleRow {
     }
 
     fn read(_alloc: Global, row: &Row) -> Result<RuleRow, Trouble> {
-        let id = id_at(row, 0)?;
-        let group = id_at(row, 2)?;
-        let direction = direction_at(row, 4)?;
-        let ethertype = ethertype_at(row, 5)?;
-        let protocol = byte_if(row, 6)?;
-        let low = short_if(row, 7)?;
-        let high = short_if(row, 8)?;
+        let facts = facts_at(row)?;
         let remote_prefix = prefix_if(row, 9)?;
-        let remote_group = id_if(row, 10)?;
         let project = text_at(row, 1)?;
         let description = text_at(row, 3)?;
         Ok(RuleRow {
-            id,
+            id: facts.id,
             project,
-            group,
+            group: facts.group,
             description,
-            direction,
-            ethertype,
-            protocol,
-            low,
-            high,
+            direction: facts.direction,
+            ethertype: facts.ethertype,
+            protocol: facts.protocol,
+            low: facts.low,
+            high: facts.high,
             remote_prefix,
-            remote_group,
+            remote_group: facts.remote_group,
         })
     }
 }

@@ -3,8 +3,9 @@
 ghost use Rattle.std.specs.Prelude.{◌≡◌, OnOk};
 ghost use Rattle.keeper_sql.specs.Whole.{CommitsNothing, Runs};
 
-use crate::column::{address_if, bytes_if, flag_at, id_at, prefix_at, text_at};
+use crate::column::{address_if, bytes_if, flag_at, id_at, prefix_at, spelled};
 use crate::listed::{list_at, list_text};
+use crate::names::{Names, names_at};
 use crate::statement::execute;
 use crate::stored::Stored;
 use crate::trouble::Trouble;
@@ -37,13 +38,22 @@ fn mode_word(mode: Option<Ipv6Mode>) -> Option<&'static str> {
     }
 }
 
+fn mode_of(word: &[u8]) -> Option<Ipv6Mode> {
+    if word == b"slaac".as_slice() {
+        Some(Ipv6Mode::Slaac)
+    } else if word == b"dhcpv6-stateful".as_slice() {
+        Some(Ipv6Mode::Stateful)
+    } else if word == b"dhcpv6-stateless".as_slice() {
+        Some(Ipv6Mode::Stateless)
+    } else {
+        None
+    }
+}
+
 fn mode_if(row: &Row, at: usize) -> Result<Option<Ipv6Mode>, Trouble> {
     match bytes_if(row, at)? {
         None => Ok(None),
-        Some(b"slaac") => Ok(Some(Ipv6Mode::Slaac)),
-        Some(b"dhcpv6-stateful") => Ok(Some(Ipv6Mode::Stateful)),
-        Some(b"dhcpv6-stateless") => Ok(Some(Ipv6Mode::Stateless)),
-        Some(_) => Err(Trouble::Fault),
+        Some(word) => Ok(Some(spelled(mode_of(word))?)),
     }
 }
 
@@ -133,12 +143,15 @@ impl Stored for SubnetRow {
         let dhcp = flag_at(row, 8)?;
         let address_mode = mode_if(row, 9)?;
         let ra_mode = mode_if(row, 10)?;
-        let project = text_at(row, 1)?;
-        let name = text_at(row, 3)?;
-        let description = text_at(row, 4)?;
+        let names = names_at(row, 3, 4)?;
         let pools = list_at(alloc, row, 7)?;
         let dns = list_at(alloc, row, 11)?;
         let host_routes = list_at(alloc, row, 12)?;
+        let Names {
+            project,
+            name,
+            description,
+        } = names;
         Ok(SubnetRow {
             id,
             project,

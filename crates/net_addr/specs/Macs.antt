@@ -1,5 +1,5 @@
 -- MAC addresses, which are numbers of 48 bits (IEEE 802, EUI-48).
-use Rattle.std.specs.Prelude.{ℕ, ◌/◌, ◌%◌, ◌^◌, ◌==◌, ◌&&◌, nat_lt, Bool}
+use Rattle.std.specs.Prelude.{◌/◌, ◌%◌, ◌^◌, ◌==◌, ◌&&◌, nat_lt, Bool}
 use Rattle.net_addr.specs.Words.{MacAddress}
 
 -- whether it can be the address of one interface: it isn't zero, and its first byte is even

@@ -9,7 +9,7 @@ use std::alloc::{AllocError, Global};
 use std::hash::{Hash, Hasher};
 use std::marker::Model;
 
-// Texts of at most this many bytes take no memory of their own: ids, addresses, names of members.
+// Texts of at most this many bytes take no memory of their own: ids, addresses, most names.
 const INLINE: usize = 40;
 
 // Where the bytes of a text are kept.

@@ -1,7 +1,7 @@
 //! What no request comes to: members out of their order, a list of projects, a null that a grammar
 //! doesn't have.
 use api_shown::listed;
-use api_types::{Answer, Caller, Kind, Members, Printed, Query, Row, Rows, Shown};
+use api_types::{Answer, Caller, Kind, MemberName, Members, Printed, Query, Row, Rows, Shown};
 use json_replies::write_reply;
 use json_values::{GrammarName, allows};
 use net_addr::{OutOfMemory, Seq, Text};
@@ -15,22 +15,20 @@ use test_rows::{add, project};
 fn add_word(
     alloc: Global,
     members: &mut Members,
-    name: &str,
+    name: &'static str,
     word: &str,
 ) -> Result<(), OutOfMemory> {
-    let name = Text::of(alloc, name)?;
     let word = Printed::Word(Text::of(alloc, word)?);
-    members.push((name, word))
+    members.push((MemberName::of(name), word))
 }
 
 // A network whose members come in another order than they are printed in.
 fn unordered(alloc: Global) -> Result<Shown, OutOfMemory> {
     let mut members = Seq::new(alloc);
-    let subnets = Text::of(alloc, "subnets")?;
+    let subnets = MemberName::of("subnets");
     members.push((subnets, Printed::Items(Vec::new(alloc))))?;
     add_word(alloc, &mut members, "name", "n1")?;
-    let shared = Text::of(alloc, "shared")?;
-    members.push((shared, Printed::Truth(false)))?;
+    members.push((MemberName::of("shared"), Printed::Truth(false)))?;
     add_word(alloc, &mut members, "description", "")?;
     Ok(Shown {
         kind: Kind::Network,

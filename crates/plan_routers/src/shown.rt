@@ -6,7 +6,7 @@ ghost use Rattle.api_types.specs.Printed.{member_of, shown_row, tree_of, word};
 ghost use Rattle.plan_routers.specs.InterfaceCalls.{interface_members};
 ghost use Rattle.plan_routers.specs.InterfaceCalls as interface_calls;
 
-use api_types::{Id, Kind, Members, PortRow, Printed, RouterRow, Shown};
+use api_types::{Id, Kind, MemberName, Members, PortRow, Printed, RouterRow, Shown};
 use call_parts::Draft;
 use net_addr::{Copies, OutOfMemory, Seq, Text};
 use std::alloc::Global;
@@ -19,40 +19,45 @@ pub struct PlannedInterface {
     pub shown: Shown,
 }
 
-fn push(alloc: Global, members: &mut Members, name: &str, value: Printed) -> Result<(), OutOfMemory>
+fn push(members: &mut Members, name: &'static str, value: Printed) -> Result<(), OutOfMemory>
     ensures { OnOk result
         (map member_of members.new ≡ map member_of members.old ++ (name.now, tree_of value) ∷ []) }
 {
-    members.push((Text::of(alloc, name)?, value))
+    members.push((MemberName::of(name), value))
 }
 
-fn push_id(alloc: Global, members: &mut Members, name: &str, id: Id) -> Result<(), OutOfMemory>
+fn push_id(members: &mut Members, name: &'static str, id: Id) -> Result<(), OutOfMemory>
     ensures { OnOk result
         (map member_of members.new ≡ map member_of members.old ++ (name.now, id_word id) ∷ []) }
 {
-    push(alloc, members, name, Printed::Word(id.print(alloc)?))
+    push(members, name, Printed::Id(id))
 }
 
 fn push_text(
     alloc: Global,
     members: &mut Members,
-    name: &str,
+    name: &'static str,
     text: &Text,
 ) -> Result<(), OutOfMemory>
     ensures { OnOk result
         (map member_of members.new ≡ map member_of members.old ++ (name.now, word text.now) ∷ []) }
 {
-    push(alloc, members, name, Printed::Word(text.copy(alloc)?))
+    push(members, name, Printed::Word(text.copy(alloc)?))
 }
 
-fn push_one(alloc: Global, members: &mut Members, name: &str, id: Id) -> Result<(), OutOfMemory>
+fn push_one(
+    alloc: Global,
+    members: &mut Members,
+    name: &'static str,
+    id: Id,
+) -> Result<(), OutOfMemory>
     ensures { OnOk result
         (map member_of members.new
         ≡ map member_of members.old ++ (name.now, list_of id_word (id ∷ [])) ∷ []) }
 {
     let mut items = Vec::new(alloc);
-    items.push(Printed::Word(id.print(alloc)?))?;
-    push(alloc, members, name, Printed::Items(items))
+    items.push(Printed::Id(id))?;
+    push(members, name, Printed::Items(items))
 }
 
 fn members_of(
@@ -64,11 +69,11 @@ fn members_of(
     ensures { IfOk result (λ m. map member_of m ≡ interface_members router.now port.now subnet) }
 {
     let mut members = Seq::new(alloc);
-    push_id(alloc, &mut members, "id", router.id)?;
-    push_id(alloc, &mut members, "network_id", port.network)?;
-    push_id(alloc, &mut members, "port_id", port.id)?;
+    push_id(&mut members, "id", router.id)?;
+    push_id(&mut members, "network_id", port.network)?;
+    push_id(&mut members, "port_id", port.id)?;
     push_text(alloc, &mut members, "project_id", &port.project)?;
-    push_id(alloc, &mut members, "subnet_id", subnet)?;
+    push_id(&mut members, "subnet_id", subnet)?;
     push_one(alloc, &mut members, "subnet_ids", subnet)?;
     push_text(alloc, &mut members, "tenant_id", &port.project)?;
     Ok(members)

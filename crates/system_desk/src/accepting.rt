@@ -1,5 +1,6 @@
 //! How a connection is taken.
 
+use keeper_core::DeskRefusal;
 use std::net::{TcpListener, TcpStream};
 use std::time::Duration;
 use std::{io, thread};
@@ -40,12 +41,15 @@ fn accept_once(listener: &TcpListener) -> io::Result<Accepted> {
 /// peer has gone already, or passes, as when there are no descriptors for a moment (Linux,
 /// accept(2), "Error handling"). So it is tried again, every ten milliseconds, until 1,000 tries
 /// have failed.
-pub(crate) fn accept(rt: &HostRuntime, listener: &TcpListener) -> io::Result<Accepted> {
+pub(crate) fn accept(rt: &HostRuntime, listener: &TcpListener) -> Result<Accepted, DeskRefusal> {
     for _ in 1..TRIES {
         if let Ok(accepted) = accept_once(listener) {
             return Ok(accepted);
         }
         thread::sleep(rt, Duration::from_millis(PAUSE));
     }
-    accept_once(listener)
+    match accept_once(listener) {
+        Ok(accepted) => Ok(accepted),
+        Err(_) => Err(DeskRefusal::Failed),
+    }
 }

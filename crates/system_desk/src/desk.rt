@@ -1,15 +1,14 @@
 //! The desk: files, databases and sockets.
-ghost use Rattle.std.specs.Prelude.{◌≡◌};
+ghost use Rattle.std.specs.Prelude.{◌≡◌, ◌≤◌};
+ghost use Rattle.keeper_core.specs.Counts.{RoseBy};
+ghost use Rattle.keeper_core.specs.declared.refusal.OutsideRefusal.TheVariants.{Failed as HasFailed};
 
 use crate::accepting::{Accepted, accept};
-use crate::ends::{PeerSource, SystemSink, SystemSource};
+use crate::ends::{SystemSink, SystemSource};
 use crate::parting::part;
 use crate::store::SystemStore;
-use api_types::Rows;
-use keeper_core::{Desk, DeskRefusal, ReaderSource, SureKeeper, WriterSink};
-use keeper_sql::SqlKeeper;
+use keeper_core::{Desk, DeskRefusal};
 use net_addr::{Bytes, Text};
-use sqlite::{Connection, Error, ErrorCode, File, FileStore};
 use std::alloc::Global;
 use std::net::{TcpListener, TcpStream};
 use std::{fs, io};
@@ -39,18 +38,49 @@ impl SystemDesk {
     }
 }
 
-// Copies the log of a file into it. Where that fails the log stays beside it, and the next that
-// opens it reads it.
-fn shut_file(keeper: SqlKeeper<FileStore<File>>) {
-    let _ = keeper.into_conn().close();
-}
-
-fn shut(store: SystemStore) {
-    match store {
-        SystemStore::Memory(_) => {}
-        SystemStore::File(keeper) => shut_file(keeper),
+// Counts a failure, but not running out of memory.
+fn refuse(faults: &mut u64, refusal: DeskRefusal) -> DeskRefusal
+    ensures later { faults.old ≤ faults.new }
+    ensures cause { result ≡ HasFailed → RoseBy 1 faults.old faults.new }
+{
+    match refusal {
+        DeskRefusal::OutOfMemory => DeskRefusal::OutOfMemory,
+        DeskRefusal::Failed => {
+            *faults = faults.saturating_add(1);
+            DeskRefusal::Failed
+        }
     }
 }
+
+// Why a file isn't read.
+fn refusal_of(error: &io::Error) -> DeskRefusal {
+    if error.kind() == io::ErrorKind::OutOfMemory {
+        DeskRefusal::OutOfMemory
+    } else {
+        DeskRefusal::Failed
+    }
+}
+
+fn read_file(rt: &HostRuntime, name: &Text) -> Result<Bytes, DeskRefusal> {
+    match fs::read(rt, name.as_str()) {
+        Ok(bytes) => Ok(Bytes::from_vec(bytes)),
+        Err(error) => Err(refusal_of(&error)),
+    }
+}
+
+fn bind(rt: &HostRuntime, address: &Text) -> Result<TcpListener, DeskRefusal> {
+    match TcpListener::bind(rt, address.as_str()) {
+        Ok(listener) => Ok(listener),
+        Err(_) => Err(DeskRefusal::Failed),
+    }
+}
+
+// Where that fails, the peer is gone.
+fn leave(rt: &HostRuntime, stream: TcpStream, is_drained: bool) {
+    let _ = part(rt, &stream, is_drained);
+}
+
+fn let_go(_input: SystemSource, _output: SystemSink) {}
 
 impl Desk for SystemDesk {
     type In = SystemSource;
@@ -64,47 +94,31 @@ impl Desk for SystemDesk {
     ghost told = { λ desk. untold_desk desk.faults desk.store_faults };
 
     fn settings(&mut self, _alloc: Global, name: &Text) -> Result<Bytes, DeskRefusal> {
-        match fs::read(&self.rt, name.as_str()) {
-            Ok(bytes) => Ok(Bytes::from_vec(bytes)),
-            Err(error) if error.kind() == io::ErrorKind::OutOfMemory => {
-                Err(DeskRefusal::OutOfMemory)
-            }
-            Err(_) => {
-                self.faults = self.faults.saturating_add(1);
-                Err(DeskRefusal::Failed)
-            }
+        match read_file(&self.rt, name) {
+            Ok(bytes) => Ok(bytes),
+            Err(refusal) => Err(refuse(&mut self.faults, refusal)),
         }
     }
 
     fn store(&mut self, alloc: Global, name: Option<&Text>) -> Result<SystemStore, DeskRefusal> {
-        let Some(name) = name else {
-            return Ok(SystemStore::Memory(SureKeeper::make(Rows::empty(alloc)?)));
-        };
-        match Connection::open(&self.rt, name.as_str()) {
-            Ok(conn) => Ok(SystemStore::File(SqlKeeper::make(conn))),
-            Err(Error::SqliteFailure(ErrorCode::OutOfMemory)) => Err(DeskRefusal::OutOfMemory),
-            Err(_) => {
-                self.faults = self.faults.saturating_add(1);
-                Err(DeskRefusal::Failed)
-            }
+        match SystemStore::open(&self.rt, alloc, name) {
+            Ok(store) => Ok(store),
+            Err(refusal) => Err(refuse(&mut self.faults, refusal)),
         }
     }
 
     fn close(&mut self, store: SystemStore) {
         self.store_faults = self.store_faults.saturating_add(store.faults());
-        shut(store);
+        store.shut();
     }
 
     fn listen(&mut self, _alloc: Global, address: &Text) -> Result<(), DeskRefusal> {
-        match TcpListener::bind(&self.rt, address.as_str()) {
+        match bind(&self.rt, address) {
             Ok(listener) => {
                 self.listener = Some(listener);
                 Ok(())
             }
-            Err(_) => {
-                self.faults = self.faults.saturating_add(1);
-                Err(DeskRefusal::Failed)
-            }
+            Err(refusal) => Err(refuse(&mut self.faults, refusal)),
         }
     }
 
@@ -121,26 +135,16 @@ impl Desk for SystemDesk {
                 },
             ) => {
                 self.peer = Some(stream);
-                let source = PeerSource {
-                    source: ReaderSource::make(input),
-                    is_drained: false,
-                };
-                Ok(Some((
-                    SystemSource::Peer(source),
-                    SystemSink::Peer(WriterSink::make(output)),
-                )))
+                Ok(Some((SystemSource::peer(input), SystemSink::peer(output))))
             }
-            Err(_) => {
-                self.faults = self.faults.saturating_add(1);
-                Err(DeskRefusal::Failed)
-            }
+            Err(refusal) => Err(refuse(&mut self.faults, refusal)),
         }
     }
 
-    fn done(&mut self, input: SystemSource, _output: SystemSink) {
+    fn done(&mut self, input: SystemSource, output: SystemSink) {
         if let Some(stream) = self.peer.take() {
-            // (where that fails, the peer is gone)
-            let _ = part(&self.rt, &stream, input.is_drained());
+            leave(&self.rt, stream, input.is_drained());
         }
+        let_go(input, output);
     }
 }

@@ -9,9 +9,9 @@ use std::net::TcpStream;
 /// What a peer sends.
 #[derive(Drop)]
 pub struct PeerSource {
-    pub(crate) source: ReaderSource<TcpStream>,
+    source: ReaderSource<TcpStream>,
     // Whether the last read took all that had come.
-    pub(crate) is_drained: bool,
+    is_drained: bool,
 }
 
 /// Standard input, or what a peer sends.
@@ -22,6 +22,16 @@ pub enum SystemSource {
 }
 
 impl SystemSource {
+    /// What this peer sends, of which nothing is read yet.
+    pub(crate) fn peer(stream: TcpStream) -> SystemSource
+        ensures { (source_told result).faults ≡ 0 }
+    {
+        SystemSource::Peer(PeerSource {
+            source: ReaderSource::make(stream),
+            is_drained: false,
+        })
+    }
+
     /// Whether all that had come from a peer was read when it was last asked for.
     pub(crate) fn is_drained(&self) -> bool {
         match self {
@@ -36,6 +46,15 @@ impl SystemSource {
 pub enum SystemSink {
     Output(WriterSink<Stdout>),
     Peer(WriterSink<TcpStream>),
+}
+
+impl SystemSink {
+    /// What this peer is sent, which is nothing yet.
+    pub(crate) fn peer(stream: TcpStream) -> SystemSink
+        ensures { (sink_told result).faults ≡ 0 }
+    {
+        SystemSink::Peer(WriterSink::make(stream))
+    }
 }
 
 impl Source for SystemSource {

@@ -19,10 +19,9 @@ loop-shared-preserved c =
     let next = c.loop-shared.next in
     let greatest = c.loop-shared.greatest in
     let within : k < length ports = omega arith in
-    let moved = c.after_held-next.ensures.moved ∙ ap (λ (q : PortRow). if nat_lt next end && has_mac network next q then next + 1 else next) c.get-port.ensures in
+    let moved = c.after_held-next.ensures ∙ ap (λ (q : PortRow). if has_mac network next q then next + 1 else next) c.get-port.ensures in
     let most = c.greatest_of-greatest.ensures ∙ ap (λ (q : PortRow). if ident_eq network q.network && nat_lt greatest q.mac then q.mac else greatest) c.get-port.ensures in
     record {
-      to = c.after_held-next.ensures.to;
       same = ap (sought ports network end) moved ∙ (past_next ports network end next k p (slice_get_read ports (length ports) k p refl within c.shared-item.is) ∙ c.loop-shared.invariant.same);
       none = λ m less.
           let after = none_after network p greatest m (subst (λ n. n < m) most less) in

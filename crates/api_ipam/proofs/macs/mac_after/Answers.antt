@@ -17,17 +17,14 @@ returns-then-many-lt-WINDOW c =
     let free = c.count_held-many.ensures.free c.if-many-lt-WINDOW.true in
     c.generated-then-many-lt-WINDOW.ensures
     ∙ (here_or_end ports c.args.network end (c.search.mac + c.count_held-many.result) free
-    ∙ (past_run ports c.args.network end c.search.mac c.count_held-many.result c.search-test.true c.count_held-many.ensures.held ∙ c.search.invariant.same))
+    ∙ (past_run ports c.args.network end c.search.mac c.count_held-many.result c.search-test.true c.count_held-many.ensures.held ∙ c.search.invariant))
 
 pub search-preserved : goal.search-preserved
 search-preserved c =
     let ports = c.args.ports.now in
     let end = first_mac + 2 ^ 24 in
-    record {
-      to = omega (arith, c.count_held-many.ensures.within);
-      same = past_run ports c.args.network end c.search.mac c.count_held-many.result c.search-test.true c.count_held-many.ensures.held ∙ c.search.invariant.same;
-    }
+    past_run ports c.args.network end c.search.mac c.count_held-many.result c.search-test.true c.count_held-many.ensures.held ∙ c.search.invariant
 
 pub returns : goal.returns
 returns c =
-    sym (least-none (λ m. not (is_mac_held c.args.ports.now c.args.network m)) c.search.mac (first_mac + 2 ^ 24 - c.search.mac) (omega arith)) ∙ c.search.invariant.same
+    sym (least-none (λ m. not (is_mac_held c.args.ports.now c.args.network m)) c.search.mac (first_mac + 2 ^ 24 - c.search.mac) (omega arith)) ∙ c.search.invariant

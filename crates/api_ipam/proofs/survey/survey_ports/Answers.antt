@@ -12,10 +12,9 @@ use Rattle.api_ipam.specs.MacChoice.{first_mac}
 use Rattle.api_ipam.proofs.LeastLemmas.{none_after, none_more, past_next, sought}
 use Rattle.api_ipam.proofs.survey.survey_ports.Goals as goal
 
-taken : (old here left : Bool) → ((old || (here && true)) || left) ≡ (old || (here || left))
-taken true here left = refl
-taken false true left = refl
-taken false false left = refl
+or_last : (old here left : Bool) → ((old || here) || left) ≡ (old || (here || left))
+or_last true here left = refl
+or_last false here left = refl
 
 -- a port adds its addresses; if it has the next MAC address it moves it on, and its own may be the greatest
 pub loop-shared-preserved : goal.loop-shared-preserved
@@ -28,18 +27,17 @@ loop-shared-preserved c =
     let next = c.loop-shared.next in
     let greatest = c.loop-shared.greatest in
     let within : k < length ports = omega arith in
-    let moved = c.after_held-next.ensures.moved ∙ ap (λ (q : PortRow). if nat_lt next end && has_mac network next q then next + 1 else next) c.get-port.ensures in
+    let moved = c.after_held-next.ensures ∙ ap (λ (q : PortRow). if has_mac network next q then next + 1 else next) c.get-port.ensures in
     let most = c.greatest_of-greatest.ensures ∙ ap (λ (q : PortRow). if ident_eq network q.network && nat_lt greatest q.mac then q.mac else greatest) c.get-port.ensures in
     record {
       all = λ x.
           let so_far = is_in c.loop-shared.held x in
           let left = is_address_held (drop (k + 1) ports) network x in
           let here = at_drop_more (list_any (holds_address network x)) ports k p within ∙ ap (λ (q : PortRow). list_any (holds_address network x) (q ∷ drop (k + 1) ports)) (sym c.shared-item.is) in
-          ap (λ b. b || left) (c.in_ok-take_port.ensures x ∙ ap (λ (q : PortRow). so_far || (holds_address network x q && true)) c.get-port.ensures)
-          ∙ taken so_far (holds_address network x p) left
+          ap (λ b. b || left) (c.in_ok-take_port.ensures x ∙ ap (λ (q : PortRow). so_far || holds_address network x q) c.get-port.ensures)
+          ∙ or_last so_far (holds_address network x p) left
           ∙ ap (λ b. so_far || b) (sym here)
           ∙ c.loop-shared.invariant.all x;
-      to = c.after_held-next.ensures.to;
       same = ap (sought ports network end) moved ∙ (past_next ports network end next k p (slice_get_read ports (length ports) k p refl within c.shared-item.is) ∙ c.loop-shared.invariant.same);
       none = λ m less.
           let after = none_after network p greatest m (subst (λ n. n < m) most less) in

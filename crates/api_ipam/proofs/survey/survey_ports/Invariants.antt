@@ -1,4 +1,4 @@
-use Rattle.std.proofs.Common.{◌≡◌, ◌+◌, ◌<◌, ◌^◌, ◌≤◌, ℕ, drop}
+use Rattle.std.proofs.Common.{◌≡◌, ◌+◌, ◌<◌, ◌^◌, ℕ, drop}
 use Rattle.std.specs.Prelude.{◌||◌}
 use Rattle.net_addr.specs.declared.address.Addr.{Addr}
 use Rattle.api_types.specs.HeldAddresses.{is_address_held, is_mac_held}
@@ -12,7 +12,6 @@ use Rattle.api_ipam.proofs.survey.survey_ports.Given as goal
 abbrev pub invariant-loop-shared : goal.invariant-loop-shared
 invariant-loop-shared l = record {
   all : (x : Addr) → (is_in l.held x || is_address_held (drop l.shared-index l.ports) l.network x) ≡ is_address_held l.ports l.network x;
-  to : l.next ≤ first_mac + 2 ^ 24;
   same : sought l.ports l.network (first_mac + 2 ^ 24) l.next ≡ sought l.ports l.network (first_mac + 2 ^ 24) first_mac;
   none : (m : ℕ) → l.greatest < m → is_mac_held (drop l.shared-index l.ports) l.network m ≡ is_mac_held l.ports l.network m;
 }
